@@ -18,7 +18,8 @@ Sums-put below above n b some sums low high has lacks = record { up = up; down =
     up i is =
         elim (cases_eq (i / 64) (n / 64)) [
           | inl same ↦ elim (cases_Bool some) [
-            | inl is_some ↦ ap (λ w. get_or (set above (n / 64) some) w false) same ∙ (get_or-set_same above (n / 64) some false high ∙ is_some)
+            | inl is_some ↦ ap (λ w. get_or (set above (n / 64) some) w false) same
+                ∙ (get_or-set_same above (n / 64) some false high ∙ is_some)
             | inr is_none ↦ absurd (false≢true (sym (OnFalse_at is_none lacks i same) ∙ is))
           ]
           | inr other ↦
@@ -30,7 +31,8 @@ Sums-put below above n b some sums low high has lacks = record { up = up; down =
     down word is =
         elim (cases_eq word (n / 64)) [
           | inl same ↦
-              let holds : some ≡ true = sym (get_or-set_same above (n / 64) some false high) ∙ (ap (λ w. get_or (set above (n / 64) some) w false) (sym same) ∙ is) in
+              let holds : some ≡ true = sym (get_or-set_same above (n / 64) some false high)
+              ∙ (ap (λ w. get_or (set above (n / 64) some) w false) (sym same) ∙ is) in
               subst (λ w. HasInWord (set below n b) w) (sym same) (OnTrue_at holds has)
           | inr other ↦
               let old = sums.down word (sym (get_or-set_other above (n / 64) word some false other) ∙ is) in

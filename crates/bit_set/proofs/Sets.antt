@@ -33,7 +33,8 @@ get_or-bits_of words n =
     ]
 
 -- whether a number is in, by the bit of its word
-pub in_by_bit : (words : List ℕ) (n : ℕ) (b : Bool) → bit_at (get_or words (n / 64) 0) (n % 64) ≡ cond b 1 0 → get_or (bits_of words) n false ≡ b
+pub in_by_bit : (words : List ℕ) (n : ℕ) (b : Bool) → bit_at (get_or words (n / 64) 0) (n % 64) ≡ cond b 1 0
+    → get_or (bits_of words) n false ≡ b
 in_by_bit words n b at = get_or-bits_of words n ∙ (has_bit_in words n _ refl ∙ (ap (λ m. eqb m 1) at ∙ test b))
   where
     test : (b : Bool) → eqb (cond b 1 0) 1 ≡ b
@@ -42,7 +43,8 @@ in_by_bit words n b at = get_or-bits_of words n ∙ (has_bit_in words n _ refl �
 
 pub bits_of-replicate : (n : ℕ) → bits_of (replicate n 0) ≡ replicate (64 * n) false
 bits_of-replicate n =
-    ext_get_or false _ _ (length-bits_of (replicate n 0) ∙ (ap (λ k. 64 * k) (length-replicate n 0) ∙ sym (length-replicate (64 * n) false))) (λ i _.
+    ext_get_or false _ _ (length-bits_of (replicate n 0) ∙ (ap (λ k. 64 * k) (length-replicate n 0)
+    ∙ sym (length-replicate (64 * n) false))) (λ i _.
     get_or-bits_of (replicate n 0) i ∙ (not_in_zero (replicate n 0) i (get_or-alike n (i / 64) 0) ∙ sym (get_or-alike (64 * n) i false)))
 
 -- a word that differs from the one before in one bit puts one number in or out
@@ -104,7 +106,8 @@ next_by_lowest words n place low high set none = (
   λ k from before. in_by_place words k (n / 64) (k % 64) false (omega arith) refl (none (k % 64) (omega arith) (omega arith)),
 )
 
-pub none_by_lowest : (words : List ℕ) (n : ℕ) → ((k : ℕ) → n % 64 ≤ k → bit_at (get_or words (n / 64) 0) k ≡ 0) → IsNextInWord (bits_of words) n None
+pub none_by_lowest : (words : List ℕ) (n : ℕ) → ((k : ℕ) → n % 64 ≤ k → bit_at (get_or words (n / 64) 0) k ≡ 0)
+    → IsNextInWord (bits_of words) n None
 none_by_lowest words n none k from same = in_by_place words k (n / 64) (k % 64) false same refl (none (k % 64) (omega arith))
 
 -- a word that isn't 0 has a number, and 0 has none

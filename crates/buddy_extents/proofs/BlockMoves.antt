@@ -51,7 +51,8 @@ pub length-free_in : (nodes : List Bool) (frames : ℕ) → length (free_in node
 unfolding free_in
 length-free_in nodes frames = length-map-range_with_len (is_free nodes) 0 frames
 
-pub get_or-free_in : (nodes : List Bool) (frames frame : ℕ) → frame < frames → get_or (free_in nodes frames) frame false ≡ is_free nodes frame
+pub get_or-free_in : (nodes : List Bool) (frames frame : ℕ) → frame < frames
+    → get_or (free_in nodes frames) frame false ≡ is_free nodes frame
 unfolding free_in
 get_or-free_in nodes frames frame h =
     get_or-map-range_with_len (is_free nodes) 0 frames frame frame false h (zero-add frame)
@@ -74,7 +75,8 @@ free_at-hand : (nodes : List Bool) (order frame other : ℕ) → other / 2 ^ ord
 unfolding free_at
 free_at-hand nodes order frame other same = or_left _ _ (eq-eqb _ _ same)
 
-free_at-block : (nodes : List Bool) (order frame other n : ℕ) → n ≤ 9 → is_block nodes n other ≡ true → free_at nodes order frame other ≡ true
+free_at-block : (nodes : List Bool) (order frame other n : ℕ) → n ≤ 9 → is_block nodes n other ≡ true
+    → free_at nodes order frame other ≡ true
 unfolding free_at
 free_at-block nodes order frame other n h is = or_right _ _ (is_free-block nodes other n h is)
 
@@ -95,7 +97,8 @@ free_at-cases nodes order frame other free =
 
 -- a node is written: the blocks that have it are as written, the others as before
 is_block-set : (nodes : List Bool) (x : ℕ) (v : Bool) (n frame : ℕ) → x < length nodes
-    → ((node n frame ≡ x) × (is_block (set nodes x v) n frame ≡ v)) ⊎ ((node n frame ≢ x) × (is_block (set nodes x v) n frame ≡ is_block nodes n frame))
+    → ((node n frame ≡ x) × (is_block (set nodes x v) n frame ≡ v)) ⊎ ((node n frame ≢ x)
+    × (is_block (set nodes x v) n frame ≡ is_block nodes n frame))
 is_block-set nodes x v n frame h =
     elim (cases_eq (node n frame) x) [
       | inl same ↦ inl (same, ap (λ y. get_or (set nodes x v) y false) same ∙ get_or-set_same nodes x v false h)
@@ -103,13 +106,15 @@ is_block-set nodes x v n frame h =
     ]
 
 -- a block that is in after one went out was in before, and one that was in stays as one comes in
-was_in : (nodes : List Bool) (x n frame : ℕ) → x < length nodes → is_block (set nodes x false) n frame ≡ true → is_block nodes n frame ≡ true
+was_in : (nodes : List Bool) (x n frame : ℕ) → x < length nodes → is_block (set nodes x false) n frame ≡ true
+    → is_block nodes n frame ≡ true
 was_in nodes x n frame h is = elim (is_block-set nodes x false n frame h) [
   | inl here ↦ absurd (false≢true (sym here.1 ∙ is))
   | inr there ↦ sym there.1 ∙ is
 ]
 
-stays_in : (nodes : List Bool) (x n frame : ℕ) → x < length nodes → is_block nodes n frame ≡ true → is_block (set nodes x true) n frame ≡ true
+stays_in : (nodes : List Bool) (x n frame : ℕ) → x < length nodes → is_block nodes n frame ≡ true
+    → is_block (set nodes x true) n frame ≡ true
 stays_in nodes x n frame h is = elim (is_block-set nodes x true n frame h) [
   | inl here ↦ here.1
   | inr there ↦ there.1 ∙ is
@@ -129,8 +134,10 @@ AreBlocks-remove nodes frames x h blocks =
     let inside : x < length nodes = omega (arith, blocks.size) in
     record {
       size = length-set nodes x false ∙ blocks.size;
-      one_each = λ frame m n known a b at_m at_n. blocks.one_each frame m n known a b (was_in nodes x m frame inside at_m) (was_in nodes x n frame inside at_n);
-      no_buddies = λ frame other n known there a same at by. blocks.no_buddies frame other n known there a same (was_in nodes x n frame inside at) (was_in nodes x n other inside by);
+      one_each = λ frame m n known a b at_m at_n. blocks.one_each frame m n known a b (was_in nodes x m frame inside at_m)
+          (was_in nodes x n frame inside at_n);
+      no_buddies = λ frame other n known there a same at by. blocks.no_buddies frame other n known there a same
+          (was_in nodes x n frame inside at) (was_in nodes x n other inside by);
       within = λ frame n known a at. blocks.within frame n known a (was_in nodes x n frame inside at);
     }
 
@@ -138,7 +145,8 @@ AreBlocks-remove nodes frames x h blocks =
 pub AreBlocks-insert : (nodes : List Bool) (frames n frame : ℕ) (free : List Bool) → InHand nodes frames n frame free
     → ((other : ℕ) → n < 9 → IsBuddy n frame other → is_block nodes n other ≡ false)
     → AreBlocks (set nodes (node n frame) true) frames
-AreBlocks-insert nodes frames n frame free hand apart = record { size = size; one_each = one_each; no_buddies = no_buddies; within = within }
+AreBlocks-insert nodes frames n frame free hand apart =
+    record { size = size; one_each = one_each; no_buddies = no_buddies; within = within }
   where
     blocks : AreBlocks nodes frames
     blocks = hand.blocks
@@ -150,7 +158,8 @@ AreBlocks-insert nodes frames n frame free hand apart = record { size = size; on
     size = length-set nodes (node n frame) true ∙ hand.blocks.size
 
     -- each block that is in then is the one in hand, or was in
-    which : (any m : ℕ) → any < 32768 → m ≤ 9 → is_block (set nodes (node n frame) true) m any ≡ true → ((m ≡ n) × (any / 2 ^ m ≡ frame / 2 ^ n)) ⊎ (is_block nodes m any ≡ true)
+    which : (any m : ℕ) → any < 32768 → m ≤ 9 → is_block (set nodes (node n frame) true) m any ≡ true
+        → ((m ≡ n) × (any / 2 ^ m ≡ frame / 2 ^ n)) ⊎ (is_block nodes m any ≡ true)
     which any m known h is = elim (is_block-set nodes (node n frame) true m any inside) [
       | inl here ↦ inl (same_node m n any frame h hand.order_up_to_9 known hand.known here.0)
       | inr there ↦ inr (sym there.1 ∙ is)
@@ -160,7 +169,8 @@ AreBlocks-insert nodes frames n frame free hand apart = record { size = size; on
     none_was : (any m : ℕ) → any < 32768 → m ≤ 9 → any / 2 ^ n ≡ frame / 2 ^ n → is_block nodes m any ≡ true → ⊥
     none_was any m known h same is = false≢true (sym (hand.none any m known h same) ∙ is)
 
-    one_each : (any l m : ℕ) → any < 32768 → l ≤ 9 → m ≤ 9 → is_block (set nodes (node n frame) true) l any ≡ true → is_block (set nodes (node n frame) true) m any ≡ true → l ≡ m
+    one_each : (any l m : ℕ) → any < 32768 → l ≤ 9 → m ≤ 9 → is_block (set nodes (node n frame) true) l any ≡ true
+        → is_block (set nodes (node n frame) true) m any ≡ true → l ≡ m
     one_each any l m known a b at_l at_m =
         elim (which any l known a at_l) [
           | inl new ↦ elim (which any m known b at_m) [
@@ -173,22 +183,30 @@ AreBlocks-insert nodes frames n frame free hand apart = record { size = size; on
           ]
         ]
 
-    beside : (any other : ℕ) → other < 32768 → n < 9 → any / 2 ^ n ≡ frame / 2 ^ n → any / 2 ^ (n + 1) ≡ other / 2 ^ (n + 1) → is_block nodes n other ≡ true → any / 2 ^ n ≡ other / 2 ^ n
+    beside : (any other : ℕ) → other < 32768 → n < 9 → any / 2 ^ n ≡ frame / 2 ^ n → any / 2 ^ (n + 1) ≡ other / 2 ^ (n + 1)
+        → is_block nodes n other ≡ true → any / 2 ^ n ≡ other / 2 ^ n
     beside any other known h new same old =
         elim (cases_eq (other / 2 ^ n) (frame / 2 ^ n)) [
           | inl one ↦ new ∙ sym one
           | inr two ↦ absurd (false≢true (sym (apart other h (known, sym same ∙ wider n any frame new, two)) ∙ old))
         ]
 
-    no_buddies : (any other m : ℕ) → any < 32768 → other < 32768 → m < 9 → any / 2 ^ (m + 1) ≡ other / 2 ^ (m + 1) → is_block (set nodes (node n frame) true) m any ≡ true → is_block (set nodes (node n frame) true) m other ≡ true → any / 2 ^ m ≡ other / 2 ^ m
+    no_buddies : (any other m : ℕ) → any < 32768 → other < 32768 → m < 9 → any / 2 ^ (m + 1) ≡ other / 2 ^ (m + 1)
+        → is_block (set nodes (node n frame) true) m any ≡ true → is_block (set nodes (node n frame) true) m other ≡ true
+        → any / 2 ^ m ≡ other / 2 ^ m
     no_buddies any other m known there h same at by =
         elim (which any m known (omega arith) at) [
           | inl new ↦ elim (which other m there (omega arith) by) [
             | inl also ↦ new.1 ∙ sym also.1
-            | inr old ↦ subst (λ k. any / 2 ^ k ≡ other / 2 ^ k) (sym new.0) (beside any other there (omega (arith, new.0)) (in_block any m n frame new) (subst (λ k. any / 2 ^ (k + 1) ≡ other / 2 ^ (k + 1)) new.0 same) (subst (λ k. is_block nodes k other ≡ true) new.0 old))
+            | inr old ↦ subst (λ k. any / 2 ^ k ≡ other / 2 ^ k) (sym new.0)
+                (beside any other there (omega (arith, new.0)) (in_block any m n frame new)
+                (subst (λ k. any / 2 ^ (k + 1) ≡ other / 2 ^ (k + 1)) new.0 same) (subst (λ k. is_block nodes k other ≡ true) new.0 old))
           ]
           | inr old ↦ elim (which other m there (omega arith) by) [
-            | inl new ↦ subst (λ k. any / 2 ^ k ≡ other / 2 ^ k) (sym new.0) (sym (beside other any known (omega (arith, new.0)) (in_block other m n frame new) (sym (subst (λ k. any / 2 ^ (k + 1) ≡ other / 2 ^ (k + 1)) new.0 same)) (subst (λ k. is_block nodes k any ≡ true) new.0 old)))
+            | inl new ↦ subst (λ k. any / 2 ^ k ≡ other / 2 ^ k) (sym new.0)
+                (sym (beside other any known (omega (arith, new.0)) (in_block other m n frame new)
+                (sym (subst (λ k. any / 2 ^ (k + 1) ≡ other / 2 ^ (k + 1)) new.0 same))
+                (subst (λ k. is_block nodes k any ≡ true) new.0 old)))
             | inr also ↦ hand.blocks.no_buddies any other m known there h same old also
           ]
         ]
@@ -243,11 +261,13 @@ lift nodes frames n frame most blocks small known is = record {
     back any here free =
         let block = block_of_free nodes any free in
         elim (is_block-set nodes (node n frame) false block.0 any inside) [
-          | inl out ↦ free_at-hand changed n frame any (in_block any block.0 n frame (same_node block.0 n any frame block.1 small here known out.0))
+          | inl out ↦ free_at-hand changed n frame any (in_block any block.0 n frame
+              (same_node block.0 n any frame block.1 small here known out.0))
           | inr other ↦ free_at-block changed n frame any block.0 block.1 (other.1 ∙ block.2)
         ]
 
-    same : (any : ℕ) → any < length (free_with changed frames n frame) → get_or (free_with changed frames n frame) any false ≡ get_or (free_in nodes frames) any false
+    same : (any : ℕ) → any < length (free_with changed frames n frame)
+        → get_or (free_with changed frames n frame) any false ≡ get_or (free_in nodes frames) any false
     same any h =
         let low : any < frames = omega (arith, length-free_with changed frames n frame) in
         get_or-free_with changed frames n frame any low
@@ -262,7 +282,8 @@ join nodes frames n frame other free most hand small buddy is = record {
   blocks = AreBlocks-remove nodes frames (node n other) (node_below n other (omega arith) buddy.0) hand.blocks;
   none = none;
   within = within;
-  free_is = ext_get_or false _ _ (length-free_with changed frames (n + 1) frame ∙ sym (length-free_with nodes frames n frame)) same ∙ hand.free_is;
+  free_is = ext_get_or false _ _ (length-free_with changed frames (n + 1) frame ∙ sym (length-free_with nodes frames n frame)) same
+      ∙ hand.free_is;
 }
   where
     changed : List Bool
@@ -313,7 +334,8 @@ join nodes frames n frame other free most hand small buddy is = record {
       ]
     ]
 
-    same : (any : ℕ) → any < length (free_with changed frames (n + 1) frame) → get_or (free_with changed frames (n + 1) frame) any false ≡ get_or (free_with nodes frames n frame) any false
+    same : (any : ℕ) → any < length (free_with changed frames (n + 1) frame)
+        → get_or (free_with changed frames (n + 1) frame) any false ≡ get_or (free_with nodes frames n frame) any false
     same any h =
         let low : any < frames = omega (arith, length-free_with changed frames (n + 1) frame) in
         get_or-free_with changed frames (n + 1) frame any low
@@ -328,7 +350,8 @@ cut nodes frames n frame other free most hand buddy = record {
   blocks = AreBlocks-insert nodes frames n other (free_with nodes frames n other) half apart;
   none = none;
   within = λ any e. hand.within any (wider n any frame e);
-  free_is = ext_get_or false _ _ (length-free_with changed frames n frame ∙ sym (length-free_with nodes frames (n + 1) frame)) same ∙ hand.free_is;
+  free_is = ext_get_or false _ _ (length-free_with changed frames n frame ∙ sym (length-free_with nodes frames (n + 1) frame)) same
+      ∙ hand.free_is;
 }
   where
     changed : List Bool
@@ -375,12 +398,14 @@ cut nodes frames n frame other free most hand buddy = record {
     back any here is_free = elim (free_at-cases nodes (n + 1) frame any is_free) [
       | inl wide ↦ elim (halves n frame other any buddy wide) [
         | inl first ↦ free_at-hand changed n frame any first
-        | inr second ↦ free_at-block changed n frame any n small (ap (λ x. get_or changed x false) (node_of_same n any other second) ∙ is_in nodes n other inside)
+        | inr second ↦ free_at-block changed n frame any n small (ap (λ x. get_or changed x false) (node_of_same n any other second)
+            ∙ is_in nodes n other inside)
       ]
       | inr block ↦ free_at-block changed n frame any block.0 block.1 (stays_in nodes (node n other) block.0 any inside block.2)
     ]
 
-    same : (any : ℕ) → any < length (free_with changed frames n frame) → get_or (free_with changed frames n frame) any false ≡ get_or (free_with nodes frames (n + 1) frame) any false
+    same : (any : ℕ) → any < length (free_with changed frames n frame)
+        → get_or (free_with changed frames n frame) any false ≡ get_or (free_with nodes frames (n + 1) frame) any false
     same any h =
         let low : any < frames = omega (arith, length-free_with changed frames n frame) in
         get_or-free_with changed frames n frame any low
@@ -402,17 +427,20 @@ put nodes frames n frame free most hand =
     there any here is_free =
         let block = block_of_free changed any is_free in
         elim (is_block-set nodes (node n frame) true block.0 any inside) [
-          | inl new ↦ free_at-hand nodes n frame any (in_block any block.0 n frame (same_node block.0 n any frame block.1 hand.order_up_to_9 here hand.known new.0))
+          | inl new ↦ free_at-hand nodes n frame any (in_block any block.0 n frame
+              (same_node block.0 n any frame block.1 hand.order_up_to_9 here hand.known new.0))
           | inr old ↦ free_at-block nodes n frame any block.0 block.1 (sym old.1 ∙ block.2)
         ]
 
     back : (any : ℕ) → any < 32768 → free_at nodes n frame any ≡ true → is_free changed any ≡ true
     back any here is_free = elim (free_at-cases nodes n frame any is_free) [
-      | inl in_it ↦ is_free-block changed any n hand.order_up_to_9 (ap (λ x. get_or changed x false) (node_of_same n any frame in_it) ∙ is_in nodes n frame inside)
+      | inl in_it ↦ is_free-block changed any n hand.order_up_to_9 (ap (λ x. get_or changed x false) (node_of_same n any frame in_it)
+          ∙ is_in nodes n frame inside)
       | inr block ↦ is_free-block changed any block.0 block.1 (stays_in nodes (node n frame) block.0 any inside block.2)
     ]
 
-    same : (any : ℕ) → any < length (free_in changed frames) → get_or (free_in changed frames) any false ≡ get_or (free_with nodes frames n frame) any false
+    same : (any : ℕ) → any < length (free_in changed frames) → get_or (free_in changed frames) any false ≡ get_or
+        (free_with nodes frames n frame) any false
     same any h =
         let low : any < frames = omega (arith, length-free_in changed frames) in
         get_or-free_in changed frames any low
@@ -447,9 +475,11 @@ taken nodes frames n first free most hand start =
     fits : first + 2 ^ n ≤ length free
     fits = omega (arith, last, long, pow_pos n)
 
-    outside : (any : ℕ) → any < frames → (any < first) ⊎ (first + 2 ^ n ≤ any) → is_free nodes any ≡ get_or (with_range free first (2 ^ n) false) any false
+    outside : (any : ℕ) → any < frames → (any < first) ⊎ (first + 2 ^ n ≤ any)
+        → is_free nodes any ≡ get_or (with_range free first (2 ^ n) false) any false
     outside any low out =
-        let other : any / 2 ^ n ≡ first / 2 ^ n → ⊥ = λ e. let range = in_range_from n first any start e in elim out [ inl before ↦ omega (arith, range.0) | inr behind ↦ omega (arith, range.1) ] in
+        let other : any / 2 ^ n ≡ first / 2 ^ n → ⊥ = λ e. let range = in_range_from n first any start e in
+        elim out [ inl before ↦ omega (arith, range.0) | inr behind ↦ omega (arith, range.1) ] in
         sym (free_at-others nodes n first any other)
         ∙ (sym (get_or-free_with nodes frames n first any low)
         ∙ (ap (λ xs. get_or xs any false) hand.free_is ∙ sym (with_range_outside free first (2 ^ n) false fits any out)))
@@ -460,14 +490,17 @@ taken nodes frames n first free most hand start =
         is_free-none nodes any (λ m h. hand.none any m (omega (arith, most, hand.within any e)) h e)
         ∙ sym (with_range_inside free first (2 ^ n) false fits any low high)
 
-    same : (any : ℕ) → any < length (free_in nodes frames) → get_or (free_in nodes frames) any false ≡ get_or (with_range free first (2 ^ n) false) any false
+    same : (any : ℕ) → any < length (free_in nodes frames) → get_or (free_in nodes frames) any false ≡ get_or
+        (with_range free first (2 ^ n) false) any false
     same any h =
         let low : any < frames = omega (arith, length-free_in nodes frames) in
         get_or-free_in nodes frames any low
-        ∙ range_cases first (2 ^ n) (λ k. k < frames → is_free nodes k ≡ get_or (with_range free first (2 ^ n) false) k false) (λ k out in_all. outside k in_all out) (λ k from before _. inside k from before) any low
+        ∙ range_cases first (2 ^ n) (λ k. k < frames → is_free nodes k ≡ get_or (with_range free first (2 ^ n) false) k false)
+        (λ k out in_all. outside k in_all out) (λ k from before _. inside k from before) any low
 
 -- a range of frames that aren't free comes into the hand
-pub given : (nodes : List Bool) (frames n first : ℕ) → frames ≤ 32768 → AreBlocks nodes frames → n ≤ 9 → first / 2 ^ n * 2 ^ n ≡ first → first + 2 ^ n ≤ frames
+pub given : (nodes : List Bool) (frames n first : ℕ) → frames ≤ 32768 → AreBlocks nodes frames → n ≤ 9 → first / 2 ^ n * 2 ^ n ≡ first
+    → first + 2 ^ n ≤ frames
     → ((frame : ℕ) → first ≤ frame → frame < first + 2 ^ n → get_or (free_in nodes frames) frame false ≡ false)
     → InHand nodes frames n first (with_range (free_in nodes frames) first (2 ^ n) true)
 given nodes frames n first most blocks small start fits not_free = record {
@@ -476,7 +509,8 @@ given nodes frames n first most blocks small start fits not_free = record {
   blocks = blocks;
   none = none;
   within = within;
-  free_is = ext_get_or false _ _ (length-free_with nodes frames n first ∙ sym (length-with_range free first (2 ^ n) true fits_in ∙ length-free_in nodes frames)) same;
+  free_is = ext_get_or false _ _ (length-free_with nodes frames n first
+      ∙ sym (length-with_range free first (2 ^ n) true fits_in ∙ length-free_in nodes frames)) same;
 }
   where
     free : List Bool
@@ -491,24 +525,30 @@ given nodes frames n first most blocks small start fits not_free = record {
     none : (any m : ℕ) → any < 32768 → m ≤ 9 → any / 2 ^ n ≡ first / 2 ^ n → is_block nodes m any ≡ false
     none any m here h e =
         let range = in_range_from n first any start e in
-        false_from_ne_true _ (λ is. false≢true (sym (sym (get_or-free_in nodes frames any (within any e)) ∙ not_free any range.0 range.1) ∙ is_free-block nodes any m h is))
+        false_from_ne_true _ (λ is. false≢true (sym (sym (get_or-free_in nodes frames any (within any e)) ∙ not_free any range.0 range.1)
+        ∙ is_free-block nodes any m h is))
 
-    outside : (any : ℕ) → any < frames → (any < first) ⊎ (first + 2 ^ n ≤ any) → free_at nodes n first any ≡ get_or (with_range free first (2 ^ n) true) any false
+    outside : (any : ℕ) → any < frames → (any < first) ⊎ (first + 2 ^ n ≤ any)
+        → free_at nodes n first any ≡ get_or (with_range free first (2 ^ n) true) any false
     outside any low out =
-        let other : any / 2 ^ n ≡ first / 2 ^ n → ⊥ = λ e. let range = in_range_from n first any start e in elim out [ inl before ↦ omega (arith, range.0) | inr behind ↦ omega (arith, range.1) ] in
+        let other : any / 2 ^ n ≡ first / 2 ^ n → ⊥ = λ e. let range = in_range_from n first any start e in
+        elim out [ inl before ↦ omega (arith, range.0) | inr behind ↦ omega (arith, range.1) ] in
         free_at-others nodes n first any other
         ∙ (sym (get_or-free_in nodes frames any low) ∙ sym (with_range_outside free first (2 ^ n) true fits_in any out))
 
-    inside : (any : ℕ) → first ≤ any → any < first + 2 ^ n → free_at nodes n first any ≡ get_or (with_range free first (2 ^ n) true) any false
+    inside : (any : ℕ) → first ≤ any → any < first + 2 ^ n → free_at nodes n first any ≡ get_or
+        (with_range free first (2 ^ n) true) any false
     inside any low high =
         free_at-hand nodes n first any (of_range_from n first any start low high)
         ∙ sym (with_range_inside free first (2 ^ n) true fits_in any low high)
 
-    same : (any : ℕ) → any < length (free_with nodes frames n first) → get_or (free_with nodes frames n first) any false ≡ get_or (with_range free first (2 ^ n) true) any false
+    same : (any : ℕ) → any < length (free_with nodes frames n first) → get_or (free_with nodes frames n first) any false ≡ get_or
+        (with_range free first (2 ^ n) true) any false
     same any h =
         let low : any < frames = omega (arith, length-free_with nodes frames n first) in
         get_or-free_with nodes frames n first any low
-        ∙ range_cases first (2 ^ n) (λ k. k < frames → free_at nodes n first k ≡ get_or (with_range free first (2 ^ n) true) k false) (λ k out in_all. outside k in_all out) (λ k from before _. inside k from before) any low
+        ∙ range_cases first (2 ^ n) (λ k. k < frames → free_at nodes n first k ≡ get_or (with_range free first (2 ^ n) true) k false)
+        (λ k out in_all. outside k in_all out) (λ k from before _. inside k from before) any low
 
 -- ---- what goes in last
 
@@ -523,7 +563,8 @@ pub put_beside : (nodes : List Bool) (frames n frame other : ℕ) (free : List B
     → IsBuddy n frame other → is_block nodes n other ≡ false
     → AreBlocks (set nodes (node n frame) true) frames × (free_in (set nodes (node n frame) true) frames ≡ free)
 put_beside nodes frames n frame other free most hand buddy out = (
-  AreBlocks-insert nodes frames n frame free hand (λ any h beside. ap (λ x. get_or nodes x false) (node_of_same n any other (one_buddy n frame other any buddy beside)) ∙ out),
+  AreBlocks-insert nodes frames n frame free hand (λ any h beside. ap (λ x. get_or nodes x false)
+      (node_of_same n any other (one_buddy n frame other any buddy beside)) ∙ out),
   put nodes frames n frame free most hand,
 )
 
@@ -561,7 +602,8 @@ next_largest nodes block most blocks free = record {
   };
   none = λ any n known h e. false_from_ne_true _ (λ is. omega (arith, blocks.within any n known h is, e));
   within = λ any e. omega (arith, e);
-  free_is = ext_get_or false _ _ (length-free_with nodes (512 * (block + 1)) 9 (512 * block) ∙ sym (length-replicate (512 * (block + 1)) true)) same;
+  free_is = ext_get_or false _ _ (length-free_with nodes (512 * (block + 1)) 9 (512 * block)
+      ∙ sym (length-replicate (512 * (block + 1)) true)) same;
 }
   where
     before : (any : ℕ) → any < 512 * block → is_free nodes any ≡ true
@@ -575,7 +617,8 @@ next_largest nodes block most blocks free = record {
       | inr from ↦ free_at-hand nodes 9 (512 * block) any (omega arith)
     ]
 
-    same : (any : ℕ) → any < length (free_with nodes (512 * (block + 1)) 9 (512 * block)) → get_or (free_with nodes (512 * (block + 1)) 9 (512 * block)) any false ≡ get_or (replicate (512 * (block + 1)) true) any false
+    same : (any : ℕ) → any < length (free_with nodes (512 * (block + 1)) 9 (512 * block))
+        → get_or (free_with nodes (512 * (block + 1)) 9 (512 * block)) any false ≡ get_or (replicate (512 * (block + 1)) true) any false
     same any h =
         let low : any < 512 * (block + 1) = omega (arith, length-free_with nodes (512 * (block + 1)) 9 (512 * block)) in
         get_or-free_with nodes (512 * (block + 1)) 9 (512 * block) any low

@@ -23,10 +23,13 @@ some_not_free nodes frames blocks zero frame small known none =
 some_not_free nodes frames blocks (suc n) frame small known none =
     elim (cases_Bool (is_block nodes n frame)) [
       | inl is ↦
-          let beside = some_not_free nodes frames blocks n other (omega arith) buddy.0 (without other round_other (λ by. buddy.2 (sym (blocks.no_buddies frame other n known buddy.0 (omega arith) (sym buddy.1) is by)))) in
+          let beside = some_not_free nodes frames blocks n other (omega arith) buddy.0
+          (without other round_other
+          (λ by. buddy.2 (sym (blocks.no_buddies frame other n known buddy.0 (omega arith) (sym buddy.1) is by)))) in
           (beside.0, beside.1, up beside.0 other beside.2 ∙ up_buddy, beside.3)
       | inr fails ↦
-          let here = some_not_free nodes frames blocks n frame (omega arith) known (without frame refl (λ is. false≢true (sym fails ∙ is))) in
+          let here = some_not_free nodes frames blocks n frame (omega arith) known
+          (without frame refl (λ is. false≢true (sym fails ∙ is))) in
           (here.0, here.1, up here.0 frame here.2, here.3)
     ]
   where
@@ -48,7 +51,8 @@ some_not_free nodes frames blocks (suc n) frame small known none =
     round_other : other / 2 ^ suc n ≡ frame / 2 ^ suc n
     round_other = up_buddy
 
-    without : (half : ℕ) → half / 2 ^ suc n ≡ frame / 2 ^ suc n → (is_block nodes n half ≡ true → ⊥) → (m : ℕ) → n ≤ m → m ≤ 9 → is_block nodes m half ≡ false
+    without : (half : ℕ) → half / 2 ^ suc n ≡ frame / 2 ^ suc n → (is_block nodes n half ≡ true → ⊥) → (m : ℕ) → n ≤ m → m ≤ 9
+        → is_block nodes m half ≡ false
     without half same fails m low high = elim (cases_eq n m) [
       | inl here ↦ false_from_ne_true _ (λ is. fails (ap (λ k. is_block nodes k half) here ∙ is))
       | inr other ↦
@@ -63,7 +67,8 @@ free_of_run nodes frames first count run any low high =
     let free = run_free_frames (free_in nodes frames) first count run any low high in
     elim (cases_lt any frames) [
       | inl inside ↦ sym (get_or-free_in nodes frames any inside) ∙ free
-      | inr past ↦ absurd (false≢true (sym (get_or_past (free_in nodes frames) any false (omega (arith, length-free_in nodes frames))) ∙ free))
+      | inr past ↦ absurd (false≢true (sym (get_or_past (free_in nodes frames) any false (omega (arith, length-free_in nodes frames)))
+          ∙ free))
     ]
 
 -- the part of an order of a block that is in is a free run
@@ -73,7 +78,8 @@ run_of_block nodes frames blocks n m first order small known is =
     run_free_from (free_in nodes frames) (block_start n first) (2 ^ n) (λ i h.
     let frame = block_start n first + i in
     let e : frame / 2 ^ n ≡ first / 2 ^ n = extent_of_frame (first / 2 ^ n) (2 ^ n) frame (omega arith) (omega arith) in
-    let at : is_block nodes m frame ≡ true = ap (λ x. get_or nodes x false) (node_of_same m frame first (wider_up n m frame first order e)) ∙ is in
+    let at : is_block nodes m frame ≡ true = ap (λ x. get_or nodes x false) (node_of_same m frame first (wider_up n m frame first order e))
+    ∙ is in
     let here = known_together n first frame (omega arith) known e in
     get_or-free_in nodes frames frame (blocks.within frame m here small at) ∙ is_free-block nodes frame m small at)
 
@@ -85,9 +91,12 @@ larger_not_free nodes frames blocks n first small known is =
     let other = bit_xor first (2 ^ n) in
     let buddy : IsBuddy n first other = IsBuddy-xor n first (omega arith) known in
     let none = λ (m : ℕ) (low : n ≤ m) (high : m ≤ 9). elim (cases_eq n m) as (λ _. is_block nodes m other ≡ false) [
-      | inl here ↦ false_from_ne_true _ (λ by. buddy.2 (sym (blocks.no_buddies first other n known buddy.0 small (sym buddy.1) is (ap (λ k. is_block nodes k other) here ∙ by))))
+      | inl here ↦ false_from_ne_true _
+          (λ by. buddy.2 (sym (blocks.no_buddies first other n known buddy.0 small (sym buddy.1) is
+          (ap (λ k. is_block nodes k other) here ∙ by))))
       | inr apart ↦ false_from_ne_true _ (λ by.
-          let round : is_block nodes m first ≡ true = ap (λ x. get_or nodes x false) (node_of_same m first other (wider_up (n + 1) m first other (omega arith) (sym buddy.1))) ∙ by in
+          let round : is_block nodes m first ≡ true = ap (λ x. get_or nodes x false)
+          (node_of_same m first other (wider_up (n + 1) m first other (omega arith) (sym buddy.1))) ∙ by in
           apart (blocks.one_each first n m known (omega arith) high is round))
     ] in
     let some = some_not_free nodes frames blocks n other (omega arith) buddy.0 none in
@@ -105,7 +114,8 @@ maximal_is_block nodes frames most blocks n first small known start = both_ways 
     back : is_block nodes n first ≡ true → is_maximal free n first ≡ true
     back is =
         and_from _ _ (eq-eqb _ _ start)
-        (and_from _ _ (subst (λ f. run_free free f (2 ^ n) ≡ true) start (run_of_block nodes frames blocks n n first (omega arith) small known is))
+        (and_from _ _ (subst (λ f. run_free free f (2 ^ n) ≡ true) start
+        (run_of_block nodes frames blocks n n first (omega arith) small known is))
         (not_from_false _ (elim (cases_lt n 9) [
           | inl less ↦ and_right (ltb n 9) _ (larger_not_free nodes frames blocks n first less known is)
           | inr nine ↦ and_left _ _ (le-ltb n 9 nine)
@@ -125,7 +135,8 @@ maximal_is_block nodes frames most blocks n first small known start = both_ways 
         ] in
         let some = some_not_free nodes frames blocks n first small known none in
         let range = range_of_extent (first / 2 ^ n) (2 ^ n) some.0 (pow_pos n) some.2 in
-        false≢true (sym some.3 ∙ free_of_run nodes frames first (2 ^ n) run some.0 (omega (arith, range.0, start)) (omega (arith, range.1, start))))
+        false≢true (sym some.3 ∙ free_of_run nodes frames first (2 ^ n) run some.0 (omega (arith, range.0, start))
+        (omega (arith, range.1, start))))
 
 -- ---- the first node
 
@@ -137,8 +148,14 @@ none_before nodes frames most blocks n place small none f below =
     let start : block_start n f ≡ f = eqb-true _ _ (and_parts _ _ is).0 in
     let low : f / 2 ^ n < place = div_below f (2 ^ n) place (pow_pos n) below in
     let run : run_free (free_in nodes frames) f (2 ^ n) ≡ true = (and_parts _ _ (and_parts (eqb (block_start n f) f) _ is).1).0 in
-    let known : f < 32768 = omega (arith, run_free_within (free_in nodes frames) f (2 ^ n) run (pow_pos n), length-free_in nodes frames, pow_pos n) in
-    false≢true (sym (none (node n f) (omega arith) (omega arith)) ∙ (sym (maximal_is_block nodes frames most blocks n f small known start) ∙ is)))
+    let known : f < 32768 = omega (
+      arith,
+      run_free_within (free_in nodes frames) f (2 ^ n) run (pow_pos n),
+      length-free_in nodes frames,
+      pow_pos n,
+    ) in
+    false≢true (sym (none (node n f) (omega arith) (omega arith)) ∙ (sym (maximal_is_block nodes frames most blocks n f small known start)
+    ∙ is)))
 
 -- an order without a node has no maximal block
 lowest_none : (nodes : List Bool) (frames : ℕ) → frames ≤ 32768 → AreBlocks nodes frames → (n : ℕ) → n ≤ 9
@@ -147,10 +164,12 @@ lowest_none nodes frames most blocks n small none =
     let sum : (15 - n) + n ≡ 15 = omega arith in
     let whole : 2 ^ (15 - n) * 2 ^ n ≡ 32768 = sym (pow-add 2 (15 - n) n) ∙ ap (λ k. 2 ^ k) sum in
     lowest_block-none (free_in nodes frames) n (2 ^ (15 - n))
-    (none_before nodes frames most blocks n (2 ^ (15 - n)) small (λ k low high. none k low (omega (arith, next_first_node n (omega arith)))))
+    (none_before nodes frames most blocks n (2 ^ (15 - n)) small (λ k low high. none k low
+    (omega (arith, next_first_node n (omega arith)))))
     (omega (arith, whole, length-free_in nodes frames))
 
-least_none : (free : List Bool) (low count : ℕ) → ((n : ℕ) → low ≤ n → n < low + count → lowest_block free n ≡ None) → least_block free low count ≡ None
+least_none : (free : List Bool) (low count : ℕ) → ((n : ℕ) → low ≤ n → n < low + count → lowest_block free n ≡ None)
+    → least_block free low count ≡ None
 least_none free low zero none = refl
 least_none free low (suc count) none =
     ap (λ o. option_or o (least_block free (low + 1) count)) (none low (omega arith) (omega arith))
@@ -203,9 +222,11 @@ first_is_least nodes frames most blocks low n x small found order from to =
         let after : first_node low ≤ first_node n = later_first_node low n order (omega arith) in
         lowest_block-first free n place first
         (none_before nodes frames most blocks n place small (λ k in_order up. found.2 k (omega arith) (omega arith))) refl
-        (maximal_is_block nodes frames most blocks n first small known (ap (λ q. q * 2 ^ n) of_first) ∙ (ap (λ y. get_or nodes y false) at ∙ found.1))
+        (maximal_is_block nodes frames most blocks n first small known (ap (λ q. q * 2 ^ n) of_first)
+        ∙ (ap (λ y. get_or nodes y false) at ∙ found.1))
 
-pub none_is_least : (nodes : List Bool) (frames : ℕ) → frames ≤ 32768 → AreBlocks nodes frames → (low : ℕ) → low ≤ 9 → IsFirstFrom nodes (first_node low) None
+pub none_is_least : (nodes : List Bool) (frames : ℕ) → frames ≤ 32768 → AreBlocks nodes frames → (low : ℕ) → low ≤ 9
+    → IsFirstFrom nodes (first_node low) None
     → least_block (free_in nodes frames) low (10 - low) ≡ None
 none_is_least nodes frames most blocks low small none =
     least_none (free_in nodes frames) low (10 - low) (λ n above below.

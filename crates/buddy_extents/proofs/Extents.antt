@@ -54,7 +54,8 @@ choice_is_some nodes frames k (Some x) most blocks small found =
 -- what is chosen is in
 counted_without : (nodes : List Bool) (frames k n x : ℕ) → frames ≤ 32768 → AreBlocks nodes frames → k ≤ 3 → n ≤ 9
     → IsFirstFrom nodes (first_node (3 * k)) (Some x) → first_node n ≤ x → x < first_node (n + 1)
-    → count_by (λ free. free) (with_range (free_in nodes frames) ((x - first_node n) * 2 ^ n) (8 ^ k) false) + 8 ^ k ≡ count_by (λ free. free) (free_in nodes frames)
+    → count_by (λ free. free) (with_range (free_in nodes frames) ((x - first_node n) * 2 ^ n) (8 ^ k) false) + 8 ^ k ≡ count_by
+    (λ free. free) (free_in nodes frames)
 counted_without nodes frames k n x most blocks small order found from to =
     let free = free_in nodes frames in
     let first = (x - first_node n) * 2 ^ n in
@@ -73,11 +74,17 @@ pub record IsTaken (nodes new : List Bool) (frames count k first : ℕ) : Type 0
 
 pub take_by_nodes : (nodes new : List Bool) (frames count k n x : ℕ) → IsFree nodes frames count → k ≤ 3 → n ≤ 9
     → IsFirstFrom nodes (first_node (3 * k)) (Some x) → first_node n ≤ x → x < first_node (n + 1)
-    → ((all : ℕ) (free : List Bool) → all ≤ 32768 → InHand (set nodes x false) all n ((x - first_node n) * 2 ^ n) free → InHand new all (3 * k) ((x - first_node n) * 2 ^ n) free)
+    → ((all : ℕ) (free : List Bool) → all ≤ 32768 → InHand (set nodes x false) all n ((x - first_node n) * 2 ^ n) free
+    → InHand new all (3 * k) ((x - first_node n) * 2 ^ n) free)
     → IsTaken nodes new frames count k ((x - first_node n) * 2 ^ n)
 take_by_nodes nodes new frames count k n x is_free small order found from to cut =
     record {
-      is_free = record { blocks = hand.blocks; most = is_free.most; counted = omega (arith, counted, is_free.counted, ap (count_by (λ free. free)) after) };
+      is_free = record {
+        blocks = hand.blocks;
+        most = is_free.most;
+        counted = omega
+            (arith, counted, is_free.counted, ap (count_by (λ free. free)) after);
+      };
       chosen = chosen;
       free = after;
     }
@@ -99,16 +106,19 @@ take_by_nodes nodes new frames count k n x is_free small order found from to cut
 
     lifted : InHand (set nodes x false) frames n first free
     lifted = subst (λ y. InHand (set nodes y false) frames n first free) at
-        (lift nodes frames n first is_free.most is_free.blocks order (first_frame_known n x order from to) (ap (λ y. get_or nodes y false) at ∙ found.1))
+        (lift nodes frames n first is_free.most is_free.blocks order (first_frame_known n x order from to)
+        (ap (λ y. get_or nodes y false) at ∙ found.1))
 
     hand : InHand new frames (3 * k) first free
     hand = cut frames free is_free.most lifted
 
     aligned : first / 2 ^ (3 * k) * 2 ^ (3 * k) ≡ first
-    aligned = aligned_block (3 * k) first (aligned_smaller (3 * k) n first (order_from (3 * k) n x (omega arith) order found.0 to) (ap (λ q. q * 2 ^ n) of_first))
+    aligned = aligned_block (3 * k) first (aligned_smaller (3 * k) n first (order_from (3 * k) n x (omega arith) order found.0 to)
+        (ap (λ q. q * 2 ^ n) of_first))
 
     after : free_in new frames ≡ with_range free first (8 ^ k) false
-    after = taken new frames (3 * k) first free is_free.most hand aligned ∙ ap (λ count. with_range free first count false) (sym (eight_pow k))
+    after = taken new frames (3 * k) first free is_free.most hand aligned
+        ∙ ap (λ count. with_range free first count false) (sym (eight_pow k))
 
     counted : count_by (λ free. free) (with_range free first (8 ^ k) false) + 8 ^ k ≡ count_by (λ free. free) free
     counted = counted_without nodes frames k n x is_free.most is_free.blocks small order found from to
@@ -123,7 +133,8 @@ pub record IsGiven (nodes new : List Bool) (frames count k first : ℕ) : Type 0
   pub is_free : IsFree new frames (count + 8 ^ k)
   pub free : free_in new frames ≡ with_range (free_in nodes frames) first (8 ^ k) true
 
-pub give_by_nodes : (nodes new : List Bool) (frames count k first : ℕ) → IsFree nodes frames count → IsExtent k first → first + 8 ^ k ≤ frames
+pub give_by_nodes : (nodes new : List Bool) (frames count k first : ℕ) → IsFree nodes frames count → IsExtent k first
+    → first + 8 ^ k ≤ frames
     → ((frame : ℕ) → first ≤ frame → frame < first + 8 ^ k → get_or (free_in nodes frames) frame false ≡ false)
     → ((all : ℕ) (free : List Bool) → all ≤ 32768 → InHand nodes all (3 * k) first free → AreBlocks new all × (free_in new all ≡ free))
     → IsGiven nodes new frames count k first
@@ -143,7 +154,8 @@ give_by_nodes nodes new frames count k first is_free extent fits none put_in =
     aligned = aligned_block (3 * k) first (subst (λ n. first % n ≡ 0) pages extent.1)
 
     hand : InHand nodes frames (3 * k) first (with_range free first (2 ^ (3 * k)) true)
-    hand = given nodes frames (3 * k) first is_free.most is_free.blocks (omega (arith, extent.0)) aligned (omega (arith, pages)) (λ frame low high. none frame low (omega (arith, pages)))
+    hand = given nodes frames (3 * k) first is_free.most is_free.blocks (omega (arith, extent.0)) aligned (omega (arith, pages))
+        (λ frame low high. none frame low (omega (arith, pages)))
 
     put : AreBlocks new frames × (free_in new frames ≡ with_range free first (2 ^ (3 * k)) true)
     put = put_in frames (with_range free first (2 ^ (3 * k)) true) is_free.most hand
@@ -152,4 +164,5 @@ give_by_nodes nodes new frames count k first is_free extent fits none put_in =
     after = put.1 ∙ ap (λ count. with_range free first count true) (sym pages)
 
     counted : count_by (λ free. free) (free_in new frames) ≡ count + 8 ^ k
-    counted = ap (count_by (λ free. free)) after ∙ (free_count-give free first (8 ^ k) (omega (arith, length-free_in nodes frames)) none ∙ ap (λ n. n + 8 ^ k) is_free.counted)
+    counted = ap (count_by (λ free. free)) after ∙ (free_count-give free first (8 ^ k) (omega (arith, length-free_in nodes frames)) none
+        ∙ ap (λ n. n + 8 ^ k) is_free.counted)

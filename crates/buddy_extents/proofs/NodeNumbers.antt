@@ -29,7 +29,8 @@ half_as_many order h =
 pub next_first_node : (order : ℕ) → order ≤ 15 → first_node (order + 1) ≡ first_node order + 2 ^ (15 - order)
 next_first_node order h =
     let same : 16 - (order + 1) ≡ 15 - order = omega arith in
-    let more : first_node (order + 1) + 2 ^ (15 - order) ≡ 65536 = ap (λ n. first_node (order + 1) + 2 ^ n) (sym same) ∙ first_node_is (order + 1) (omega arith) in
+    let more : first_node (order + 1) + 2 ^ (15 - order) ≡ 65536 = ap (λ n. first_node (order + 1) + 2 ^ n) (sym same)
+    ∙ first_node_is (order + 1) (omega arith) in
     omega (arith, more, first_node_is order (omega arith), half_as_many order h)
 
 pub later_first_node : (m n : ℕ) → m ≤ n → n ≤ 16 → first_node m ≤ first_node n
@@ -53,12 +54,15 @@ node_below order frame h known =
     omega (arith, node_before_next order frame h known, last)
 
 -- two blocks that have one node are one
-pub same_node : (m n frame other : ℕ) → m ≤ 9 → n ≤ 9 → frame < 32768 → other < 32768 → node m frame ≡ node n other → (m ≡ n) × (frame / 2 ^ m ≡ other / 2 ^ n)
+pub same_node : (m n frame other : ℕ) → m ≤ 9 → n ≤ 9 → frame < 32768 → other < 32768 → node m frame ≡ node n other
+    → (m ≡ n) × (frame / 2 ^ m ≡ other / 2 ^ n)
 same_node m n frame other small less known there e =
     elim (cases_order m n) [
       | inl same ↦ (same, omega (arith, ap first_node same))
-      | inr (inl before) ↦ absurd (omega (arith, e, node_before_next m frame small known, later_first_node (m + 1) n (omega arith) (omega arith)))
-      | inr (inr behind) ↦ absurd (omega (arith, e, node_before_next n other less there, later_first_node (n + 1) m (omega arith) (omega arith)))
+      | inr (inl before) ↦ absurd
+          (omega (arith, e, node_before_next m frame small known, later_first_node (m + 1) n (omega arith) (omega arith)))
+      | inr (inr behind) ↦ absurd
+          (omega (arith, e, node_before_next n other less there, later_first_node (n + 1) m (omega arith) (omega arith)))
     ]
 
 pub node_of_same : (order frame other : ℕ) → frame / 2 ^ order ≡ other / 2 ^ order → node order frame ≡ node order other
@@ -98,13 +102,19 @@ halves order frame other any buddy same =
 -- to turn the bit of an order is to go to the buddy
 pub IsBuddy-xor : (order frame : ℕ) → order < 15 → frame < 32768 → IsBuddy order frame (bit_xor frame (2 ^ order))
 IsBuddy-xor order frame h known =
-    let next : 2 ^ order / 2 ^ (order + 1) ≡ 0 = omega (arith, shr_below (2 ^ order) 0 (order + 1) (rw zero-add (pow_below order (order + 1) (omega arith)))) in
+    let next : 2 ^ order / 2 ^ (order + 1) ≡ 0 = omega (
+      arith,
+      shr_below (2 ^ order) 0 (order + 1)
+          (rw zero-add (pow_below order (order + 1) (omega arith))),
+    ) in
     let one : 2 ^ order / 2 ^ order ≡ 1 = ap (λ n. n / 2 ^ order) (sym (one-mul (2 ^ order))) ∙ shl-shr 1 order in
-    let turned : bit_xor frame (2 ^ order) / 2 ^ order ≡ bit_xor (frame / 2 ^ order) 1 = xor_shr frame (2 ^ order) order ∙ ap (λ b. bit_xor (frame / 2 ^ order) b) one in
+    let turned : bit_xor frame (2 ^ order) / 2 ^ order ≡ bit_xor (frame / 2 ^ order) 1 = xor_shr frame (2 ^ order) order
+    ∙ ap (λ b. bit_xor (frame / 2 ^ order) b) one in
     let low = bit_at_xor (frame / 2 ^ order) 1 0 in (
       xor_lt 15 frame (2 ^ order) known (pow_below order 15 h),
       xor_shr frame (2 ^ order) (order + 1) ∙ (ap (λ b. bit_xor (frame / 2 ^ (order + 1)) b) next ∙ xor_zero_r (frame / 2 ^ (order + 1))),
-      λ same. let still : bit_at (bit_xor (frame / 2 ^ order) 1) 0 ≡ bit_at (frame / 2 ^ order) 0 = ap (λ q. bit_at q 0) (sym turned ∙ same) in omega (arith, low, still),
+      λ same. let still : bit_at (bit_xor (frame / 2 ^ order) 1) 0 ≡ bit_at (frame / 2 ^ order) 0 =
+          ap (λ q. bit_at q 0) (sym turned ∙ same) in omega (arith, low, still),
     )
 
 -- the order of a node, by how many of the bits of what is left of the nodes are 0 in front
@@ -116,17 +126,23 @@ order_by_zeros x h =
     let top = leading_top 32 left (omega arith) (omega arith) in
     let j = top.0 in
     let high : j < 16 = elim (cases_lt j 16) [ inl less ↦ less | inr past ↦ absurd (omega (arith, top.2, more_in_power 16 j past)) ] in
-    let low : 6 ≤ j = elim (cases_lt j 6) [ inl less ↦ absurd (omega (arith, top.3, more_in_power (suc j) 6 (omega arith))) | inr from ↦ from ] in
+    let low : 6 ≤ j = elim (cases_lt j 6) [
+      | inl less ↦ absurd (omega (arith, top.3, more_in_power (suc j) 6 (omega arith)))
+      | inr from ↦
+          from
+    ] in
     let order = zeros - 16 in
     let is : order ≡ 15 - j = omega (arith, top.1) in
     let here : 16 - order ≡ suc j = omega arith in
     let next : 16 - (order + 1) ≡ j = omega arith in
     let from : first_node order + 2 ^ suc j ≡ 65536 = ap (λ k. first_node order + 2 ^ k) (sym here) ∙ first_node_is order (omega arith) in
-    let to : first_node (order + 1) + 2 ^ j ≡ 65536 = ap (λ k. first_node (order + 1) + 2 ^ k) (sym next) ∙ first_node_is (order + 1) (omega arith) in
+    let to : first_node (order + 1) + 2 ^ j ≡ 65536 = ap (λ k. first_node (order + 1) + 2 ^ k) (sym next)
+    ∙ first_node_is (order + 1) (omega arith) in
     (omega (arith, top.1), omega arith, omega (arith, from, top.3), omega (arith, to, top.2))
 
 -- the first frame of a node's block
-pub first_frame_known : (order x : ℕ) → order ≤ 9 → first_node order ≤ x → x < first_node (order + 1) → (x - first_node order) * 2 ^ order < 32768
+pub first_frame_known : (order x : ℕ) → order ≤ 9 → first_node order ≤ x → x < first_node (order + 1)
+    → (x - first_node order) * 2 ^ order < 32768
 first_frame_known order x small from to =
     let sum : (15 - order) + order ≡ 15 = omega arith in
     subst (λ k. (x - first_node order) * 2 ^ order < 2 ^ k) sum

@@ -60,10 +60,12 @@ free_count-replicate (suc n) true =
 free_count-replicate (suc n) false = free_count-replicate n false
 
 pub free_count-with_range : (free : List Bool) (first count : ℕ) (value : Bool)
-    → free_count (with_range free first count value) ≡ (free_count (take first free) + cond value count 0) + free_count (drop (first + count) free)
+    → free_count (with_range free first count value) ≡ (free_count (take first free) + cond value count 0) + free_count
+    (drop (first + count) free)
 free_count-with_range free first count value =
     sum_by-append _ (take first free ++ replicate count value) (drop (first + count) free)
-    ∙ ap (λ n. n + free_count (drop (first + count) free)) (sum_by-append _ (take first free) (replicate count value) ∙ ap (λ n. free_count (take first free) + n) (free_count-replicate count value))
+    ∙ ap (λ n. n + free_count (drop (first + count) free)) (sum_by-append _ (take first free) (replicate count value)
+    ∙ ap (λ n. free_count (take first free) + n) (free_count-replicate count value))
 
 pub free_count-take : (free : List Bool) (first count : ℕ) → first ≤ length free → run_free free first count ≡ true
     → free_count (with_range free first count false) + count ≡ free_count free

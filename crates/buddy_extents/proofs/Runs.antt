@@ -10,7 +10,8 @@ use Rattle.pager_model.proofs.FreeRuns.{run_free_within}
 pub least_here : (free : List Bool) (n f : ℕ) → n < 10 → lowest_block free n ≡ Some f → least_block free n (10 - n) ≡ Some f
 least_here free n f h e = let count : 10 - n ≡ suc (9 - n) = omega arith in rw (count, e)
 
-pub least_later : (free : List Bool) (n : ℕ) → n < 10 → lowest_block free n ≡ None → least_block free n (10 - n) ≡ least_block free (n + 1) (10 - (n + 1))
+pub least_later : (free : List Bool) (n : ℕ) → n < 10 → lowest_block free n ≡ None
+    → least_block free n (10 - n) ≡ least_block free (n + 1) (10 - (n + 1))
 least_later free n h e =
     let count : 10 - n ≡ suc (10 - (n + 1)) = omega arith in rw (count, e)
 
@@ -23,10 +24,12 @@ pub lowest_block-first : (free : List Bool) (order block first : ℕ) → NoneBe
     → is_maximal free order first ≡ true → lowest_block free order ≡ Some first
 lowest_block-first free order block first none at is =
     let within = run_free_within free first (2 ^ order) (and_parts _ _ (and_parts _ _ is).1).0 (pow_pos order) in
-    find_first (is_maximal free order) 0 (length free) first (λ k _ below. none k (omega arith)) (omega arith) (omega (arith, within, pow_pos order)) is
+    find_first (is_maximal free order) 0 (length free) first (λ k _ below. none k (omega arith)) (omega arith)
+    (omega (arith, within, pow_pos order)) is
 
 -- and where none begins before a multiple past the last frame, there is none
-pub lowest_block-none : (free : List Bool) (order block : ℕ) → NoneBefore free order block → length free ≤ block * 2 ^ order → lowest_block free order ≡ None
+pub lowest_block-none : (free : List Bool) (order block : ℕ) → NoneBefore free order block → length free ≤ block * 2 ^ order
+    → lowest_block free order ≡ None
 lowest_block-none free order block none past = at (lowest_block free order) refl
   where
     at : (o : Option ℕ) → lowest_block free order ≡ o → lowest_block free order ≡ None

@@ -21,7 +21,8 @@ rest_some (suc (suc (suc zero))) page h = omega arith
 rest_some (suc (suc (suc (suc height)))) page h = absurd (omega arith)
 
 -- these are in it
-pub number_within : (height page other : ℕ) → height ≤ 3 → page ≤ other → other < page + rest_at height page → number_at height other ≡ number_at height page
+pub number_within : (height page other : ℕ) → height ≤ 3 → page ≤ other → other < page + rest_at height page
+    → number_at height other ≡ number_at height page
 number_within zero page other h on before = omega arith
 number_within (suc zero) page other h on before = omega arith
 number_within (suc (suc zero)) page other h on before = omega arith
@@ -50,7 +51,8 @@ pub roots_in_order : {V : Type 0} (t : Arena V) (from end : ℕ) → end ≤ 512
 roots_in_order t from end known page on before = root_place t page (omega arith) ∙ ap Some (omega arith)
 
 -- the place of the extent round the first page
-pub first_place : {V : Type 0} (t : Arena V) (height place from end : ℕ) → AreInOrder t height place from end → from < end → place_of t height from ≡ Some place
+pub first_place : {V : Type 0} (t : Arena V) (height place from end : ℕ) → AreInOrder t height place from end → from < end
+    → place_of t height from ≡ Some place
 first_place t height place from end order some = order from (omega arith) some ∙ ap Some (omega arith)
 
 -- the parts of that extent
@@ -62,14 +64,25 @@ parts_in_order t height place page stop node first low within at leads is other 
     let up = number_up (suc height) page other (omega arith) on in
     ap (λ h. place_of t h other) (add-one height)
     ∙ (place_down t height other place node (place_alike t height other page (omega arith) same ∙ at) leads
-    ∙ ap Some (omega (arith, same, up, number_step height other low, number_step height page low, is, ap (λ h. part_at h page) (add-one height), ap (λ h. number_at h page) (add-one height), ap (λ h. number_at h other) (add-one height))))
+    ∙ ap Some (omega (
+      arith,
+      same,
+      up,
+      number_step height other low,
+      number_step height page low,
+      is,
+      ap (λ h. part_at h page) (add-one height),
+      ap (λ h. number_at h page) (add-one height),
+      ap (λ h. number_at h other) (add-one height),
+    )))
 
 -- the extents behind it
 pub rest_in_order : {V : Type 0} (t : Arena V) (height place page stop end : ℕ) → height ≤ 3 → page ≤ stop
     → (stop < end → stop ≡ page + rest_at height page) → AreInOrder t height place page end → AreInOrder t height (place + 1) stop end
 rest_in_order t height place page stop end low forward full order other on before =
     let whole = full (omega arith) in
-    order other (omega arith) before ∙ ap Some (omega (arith, number_behind height page other low (omega arith), ap (number_at height) whole))
+    order other (omega arith) before ∙ ap Some
+    (omega (arith, number_behind height page other low (omega arith), ap (number_at height) whole))
 
 -- ---- rows
 
@@ -79,7 +92,8 @@ pub row_at : {V : Type 0} (t : Arena V) (height place page other : ℕ) → heig
 unfolding row
 row_at t height place page other low at same =
     let back : 3 - (3 - height) ≡ height = omega arith in
-    ap (λ h. (spot_of t h other).value) back ∙ ap (λ s. s.value) (spot_some t height other place (place_alike t height other page low same ∙ at))
+    ap (λ h. (spot_of t h other).value) back ∙ ap (λ s. s.value) (spot_some t height other place
+    (place_alike t height other page low same ∙ at))
 
 -- no smaller extent has a row in one that isn't split
 no_part_row : {V : Type 0} (t : Arena V) → IsTree t → (height place page size other : ℕ) → height ≤ 3 → place_of t height page ≡ Some place
@@ -91,7 +105,8 @@ no_part_row t tree height place page size other low at bare same less = elim (ca
       let split = (splits_are_rows t tree).above (3 - height) size other less (omega arith) (ap is_some some.1) in
       let back : 3 - (3 - height) ≡ height = omega arith in
       let spot = spot_some t height other place (place_alike t height other page low same ∙ at) in
-      absurd (false≢true (sym (ap (λ h. is_some (spot_of t h other).node) back ∙ (ap (λ s. is_some s.node) spot ∙ ap is_some bare)) ∙ split))
+      absurd (false≢true (sym (ap (λ h. is_some (spot_of t h other).node) back ∙ (ap (λ s. is_some s.node) spot ∙ ap is_some bare))
+      ∙ split))
 ]
 
 -- and none up to its own size has one, where it has none itself
@@ -131,7 +146,8 @@ next_up t height from page stop end found next on before so_far none = record {
     | inl less ↦ next.largest size more (omega arith)
     | inr not ↦ ap (λ k. row t k found.page) {x = size} {y = 3 - height} (omega arith) ∙ none found.page next.from_on next.before_end
   ];
-  lowest = no_rows_on t (3 - height) from page found.page so_far (no_rows_up t height page found.page next.lowest (λ other low less. none other low (omega (arith, next.before_end))));
+  lowest = no_rows_on t (3 - height) from page found.page so_far (no_rows_up t height page found.page next.lowest
+      (λ other low less. none other low (omega (arith, next.before_end))));
 }
 
 -- ---- looks
@@ -168,5 +184,6 @@ pub above_pages : {V : Type 0} (t : Arena V) → IsTree t → (height page place
     → (spot_at t place).node ≡ Some node → height < 3
 above_pages t tree height page place node small at leads = elim (cases_lt height 3) [
   | inl less ↦ less
-  | inr last ↦ absurd (let none = tree.nodes.pages_whole page place (ap (λ h. place_of t h page) {x = 3} {y = height} (omega arith) ∙ at) in cc)
+  | inr last ↦ absurd (let none = tree.nodes.pages_whole page place (ap (λ h. place_of t h page) {x = 3} {y = height} (omega arith)
+      ∙ at) in cc)
 ]

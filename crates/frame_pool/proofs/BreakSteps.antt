@@ -123,14 +123,16 @@ module _ (l new : Layout) (id : ℕ) (r : Reservation) (fills : Fills l new id r
       → option_and_then (record_at new) next ≡ goes_on_at z (is_used l.used) r
   unfolding as_wide
   goes_on-lowest next lowest =
-      elim (lowest_as_wide z m (is_used l.used) r) as (λ o. lowest_as_wide z m (is_used l.used) r ≡ o → next ≡ first_of (option_map (part_at m r) o) → option_and_then (record_at new) next ≡ option_map (part_at m r) o) [
+      elim (lowest_as_wide z m (is_used l.used) r) as (λ o. lowest_as_wide z m (is_used l.used) r ≡ o
+      → next ≡ first_of (option_map (part_at m r) o) → option_and_then (record_at new) next ≡ option_map (part_at m r) o) [
         | None ↦ λ no_one at. ap (option_and_then (record_at new)) at
         | Some i ↦ λ found at. ap (option_and_then (record_at new)) at ∙ part_stands i (below_count i found)
       ] refl lowest
       ∙ sym (cond-true _ _ _ (lt-ltb 0 m fills.large) ∙ cond-false _ _ _ fills.none)
 
   -- which isn't full, and has more than one frame
-  pub CanBreak-lowest : (next : Option ℕ) → next ≡ first_of (option_map (part_at m r) (lowest_as_wide z m (is_used l.used) r)) → IfSome next (CanBreak new)
+  pub CanBreak-lowest : (next : Option ℕ) → next ≡ first_of (option_map (part_at m r) (lowest_as_wide z m (is_used l.used) r))
+      → IfSome next (CanBreak new)
   unfolding as_wide
   CanBreak-lowest next lowest =
       let used = is_used l.used in
@@ -139,14 +141,19 @@ module _ (l new : Layout) (id : ℕ) (r : Reservation) (fills : Fills l new id r
       let part_breaks : (i : ℕ) → lowest_as_wide z m used r ≡ Some i → CanBreak new (part_at m r i).frame =
       λ i found.
       let stands = part_stands i (below_count i found) in
-      elim (yield_in z used r) as (λ o. is_some o ≡ true → same_size (yield_in z used (part_at m r i)) o ≡ true → CanBreak new (part_at m r i).frame) [
+      elim (yield_in z used r) as (λ o. is_some o ≡ true → same_size (yield_in z used (part_at m r i)) o ≡ true
+      → CanBreak new (part_at m r i).frame) [
         | None ↦ λ no_yield same. absurd (false≢true no_yield)
         | Some k ↦ λ some_yield same.
-            let wide : yield_in new.sizes (is_used new.used) (part_at m r i) ≡ Some k = ap (λ u. yield_in new.sizes (is_used u) (part_at m r i)) same_used ∙ ap (λ y. yield_in y used (part_at m r i)) same_sizes ∙ same_size_from (yield_in z used (part_at m r i)) k same in
-            subst (λ o. IsSomeAnd o (λ q. (0 < q.size) × IsSome (yield_in new.sizes (is_used new.used) q))) (sym stands) (fills.large, ap is_some wide)
+            let wide : yield_in new.sizes (is_used new.used) (part_at m r i) ≡ Some k =
+            ap (λ u. yield_in new.sizes (is_used u) (part_at m r i)) same_used ∙ ap (λ y. yield_in y used (part_at m r i)) same_sizes
+            ∙ same_size_from (yield_in z used (part_at m r i)) k same in
+            subst (λ o. IsSomeAnd o (λ q. (0 < q.size) × IsSome (yield_in new.sizes (is_used new.used) q))) (sym stands)
+            (fills.large, ap is_some wide)
       ] fills.yields (find_passes as_wide 0 (part_count m r) i found) in
       subst (λ o. IfSome o (CanBreak new)) (sym lowest)
-      (elim (lowest_as_wide z m used r) as (λ o. lowest_as_wide z m used r ≡ o → IfSome (first_of (option_map (part_at m r) o)) (CanBreak new)) [
+      (elim (lowest_as_wide z m used r) as (λ o. lowest_as_wide z m used r ≡ o
+      → IfSome (first_of (option_map (part_at m r) o)) (CanBreak new)) [
         | None ↦ λ no_one. tt
         | Some i ↦ part_breaks i
       ] refl)
@@ -168,7 +175,8 @@ pub record Breakable (l : Layout) (id : ℕ) : Type 0 where
 
 pub Breakable-from : (l : Layout) (id : ℕ) → CanBreak l id → Breakable l id
 Breakable-from l id can =
-    elim (record_at l id) as (λ o. record_at l id ≡ o → IsSomeAnd o (λ r. (0 < r.size) × IsSome (yield_in l.sizes (is_used l.used) r)) → Breakable l id) [
+    elim (record_at l id) as (λ o. record_at l id ≡ o → IsSomeAnd o (λ r. (0 < r.size) × IsSome (yield_in l.sizes (is_used l.used) r))
+    → Breakable l id) [
       | None ↦ λ none no. absurd no
       | Some r ↦ λ is both. record { whole = r; is = is; splits = both.0; yields = both.1 }
     ] refl can
@@ -187,14 +195,17 @@ module _ (l : Layout) (id : ℕ) (r : Reservation) (next : Option ℕ) (is : rec
       let next_of = goes_on_at l.sizes (is_used l.used) in
       let on : ℕ → Reservation → Layout = λ levels p. split_on next_of levels p new in
       let levels : r.size ≡ suc (r.size - 1) = omega arith in
-      let each : (o : Option Reservation) → next_of r ≡ o → option_map_or (λ q. on q.size q) o new ≡ option_map_or (λ q. on (r.size - 1) q) o new =
+      let each : (o : Option Reservation) → next_of r ≡ o → option_map_or (λ q. on q.size q) o new ≡ option_map_or
+      (λ q. on (r.size - 1) q) o new =
       λ o. elim o as (λ o. next_of r ≡ o → option_map_or (λ q. on q.size q) o new ≡ option_map_or (λ q. on (r.size - 1) q) o new) [
         | None ↦ λ stops. refl
         | Some p ↦ λ named.
             let less = part_falls p named in
-            split_on-enough next_of (Falls-goes_on l.sizes (is_used l.used)) p.size (r.size - 1) p new less.0 (omega arith) (omega (arith, less.1))
+            split_on-enough next_of (Falls-goes_on l.sizes (is_used l.used)) p.size (r.size - 1) p new less.0 (omega arith)
+            (omega (arith, less.1))
       ] in
-      elim next as (λ o. option_and_then (record_at new) o ≡ next_of r → broken_from o new ≡ option_map_or (λ q. on q.size q) (next_of r) new) [
+      elim next as (λ o. option_and_then (record_at new) o ≡ next_of r
+      → broken_from o new ≡ option_map_or (λ q. on q.size q) (next_of r) new) [
         | None ↦ λ stops. ap (λ o. option_map_or (λ q. on q.size q) o new) stops
         | Some at ↦ λ named. ap (λ o. option_map_or (λ q. on q.size q) o new) named
       ] goes
@@ -213,7 +224,8 @@ module _ (l : Layout) (id : ℕ) (r : Reservation) (next : Option ℕ) (is : rec
         | Some p ↦ λ named. (part_falls p named).1
       ] refl in
       let same : size_from next new ≡ size_of (goes_on_at l.sizes (is_used l.used) r) =
-      elim next as (λ o. option_and_then (record_at new) o ≡ goes_on_at l.sizes (is_used l.used) r → size_from o new ≡ size_of (goes_on_at l.sizes (is_used l.used) r)) [
+      elim next as (λ o. option_and_then (record_at new) o ≡ goes_on_at l.sizes (is_used l.used) r
+      → size_from o new ≡ size_of (goes_on_at l.sizes (is_used l.used) r)) [
         | None ↦ λ stops. ap size_of stops
         | Some at ↦ λ named. ap size_of named
       ] goes in
@@ -233,4 +245,7 @@ StepsOn-split l new id next can split goes =
     subst (λ o. IfSome o (λ r. option_and_then (record_at new) next ≡ goes_on_at l.sizes (is_used l.used) r)) at.is goes in
     let goes_split = subst (λ m. option_and_then (record_at m) next ≡ goes_on_at l.sizes (is_used l.used) at.whole) is_split goes_on in
     subst (λ m. StepsOn l m id next) (sym is_split)
-    (record { broken = broken_step l id at.whole next at.is at.splits goes_split; falls = size_falls l id at.whole next at.is at.splits goes_split })
+    (record {
+      broken = broken_step l id at.whole next at.is at.splits goes_split;
+      falls = size_falls l id at.whole next at.is at.splits goes_split;
+    })

@@ -112,7 +112,8 @@ module _ (l : Layout) (id : ℕ) (r : Reservation) (laid : IsLaid l) (is : recor
         split =
             split ∙ sym (split_records-open (is_used l.used) r id l.records placed.named)
             ∙ ap (λ u. split_records (is_used u) r (set l.records id None)) (sym used);
-        listed = subst (λ u. AreListed l.sizes (without_frame id kept.lists) u (set l.records id None)) (sym used) (AreListed-without_frame l.sizes kept.lists l.used l.records id r are laid.placed is);
+        listed = subst (λ u. AreListed l.sizes (without_frame id kept.lists) u (set l.records id None)) (sym used)
+            (AreListed-without_frame l.sizes kept.lists l.used l.records id r are laid.placed is);
       }
 
   -- no frame of it is free
@@ -126,11 +127,14 @@ module _ (l : Layout) (id : ℕ) (r : Reservation) (laid : IsLaid l) (is : recor
   pub IsInOrder-again : (f : ℕ) (b : Bool) (o : Option Reservation) (new : Layout) (kept after : KeptLists) (map mapped : Populations)
       → IsInOrder l kept map → has_frame f (Some r) ≡ true → IsLaid new → new.sizes ≡ l.sizes → length new.free ≡ after.frames
       → new.used ≡ set l.used f b → new.records ≡ set l.records id o → after.frames ≡ kept.frames
-      → ((records : List (Option Reservation)) → get_or records id None ≡ None → id < length records → AreListed l.sizes (without_frame id kept.lists) new.used records → AreListed l.sizes after.lists new.used (set records id (record_at new id)))
+      → ((records : List (Option Reservation)) → get_or records id None ≡ None → id < length records
+      → AreListed l.sizes (without_frame id kept.lists) new.used records
+      → AreListed l.sizes after.lists new.used (set records id (record_at new id)))
       → IsMapped mapped new.records → IsInOrder new after mapped
   IsInOrder-again f b o new kept after map mapped order mine laid_after sizes long used records room enlists is_mapped =
       let known = get_or_within l.records id r is in
-      let rest = subst (λ u. AreListed l.sizes (without_frame id kept.lists) u (set l.records id None)) (sym used) (rest_listed kept.lists f b mine order.listed) in
+      let rest = subst (λ u. AreListed l.sizes (without_frame id kept.lists) u (set l.records id None)) (sym used)
+      (rest_listed kept.lists f b mine order.listed) in
       let stands : record_at new id ≡ o = ap (λ rs. get_or rs id None) records ∙ get_or-set_same l.records id o None known in
       let again : set (set l.records id None) id (record_at new id) ≡ new.records =
       set-set l.records id None (record_at new id) ∙ ap (set l.records id) stands ∙ sym records in
@@ -138,7 +142,9 @@ module _ (l : Layout) (id : ℕ) (r : Reservation) (laid : IsLaid l) (is : recor
         known = long;
         few = omega (arith, room, order.few);
         laid = laid_after;
-        listed = subst (λ z. AreListed z after.lists new.used new.records) (sym sizes) (subst (AreListed l.sizes after.lists new.used) again (enlists (set l.records id None) none_there (omega (arith, known, length-set l.records id None)) rest));
+        listed = subst (λ z. AreListed z after.lists new.used new.records) (sym sizes)
+            (subst (AreListed l.sizes after.lists new.used) again (enlists (set l.records id None) none_there
+            (omega (arith, known, length-set l.records id None)) rest));
         mapped = is_mapped;
       }
 
@@ -153,12 +159,14 @@ module _ (l : Layout) (id : ℕ) (r : Reservation) (laid : IsLaid l) (is : recor
     listed =
         subst (λ z. AreListed z (without_frame id kept.lists) new.used new.records) (sym sizes)
         (subst (λ u. AreListed l.sizes (without_frame id kept.lists) u new.records) (sym used)
-        (subst (AreListed l.sizes (without_frame id kept.lists) (set l.used f false)) (sym records) (rest_listed kept.lists f false mine order.listed)));
+        (subst (AreListed l.sizes (without_frame id kept.lists) (set l.used f false)) (sym records)
+        (rest_listed kept.lists f false mine order.listed)));
     mapped = is_mapped;
   }
 
   -- it is the only one with a frame of it
-  pub same_reservation : (f j : ℕ) (q : Reservation) → has_frame f (Some r) ≡ true → record_at l j ≡ Some q → has_frame f (Some q) ≡ true → r ≡ q
+  pub same_reservation : (f j : ℕ) (q : Reservation) → has_frame f (Some r) ≡ true → record_at l j ≡ Some q → has_frame f (Some q) ≡ true
+      → r ≡ q
   same_reservation f j q mine stands also =
       let here = laid.apart f id j (ap (has_frame f) is ∙ mine) (ap (has_frame f) stands ∙ also) in
       same_Some r q (sym is ∙ ap (record_at l) here ∙ stands)

@@ -29,7 +29,8 @@ pub MayEnter-added : (l : Layout) (r : Reservation) (page : ℕ) → IsLaid l �
     → IsLaid (with_reservation r page l) → MayEnter l.records r
 MayEnter-added l r page laid placed few within apart after =
     let known : r.frame < length l.records = omega (arith, placed.within, eight_pos r.size) in
-    let none = none_begins l.records r.frame laid.placed (apart r.frame r.frame (has_frame_from r.frame r (omega arith) (omega (arith, eight_pos r.size)))) in
+    let none = none_begins l.records r.frame laid.placed (apart r.frame r.frame
+    (has_frame_from r.frame r (omega arith) (omega (arith, eight_pos r.size)))) in
     record {
       placed = placed;
       known = few;
@@ -41,7 +42,13 @@ MayEnter-added l r page laid placed few within apart after =
             let there = get_or-set_other l.records r.frame id (Some r) None other ∙ is in
             other (after.one_cover id r.frame r.space p q r there (get_or-set_same l.records r.frame (Some r) None known) also has)
       ];
-      few = omega (arith, sum_by-set places_in l.records r.frame (Some r) None known, ap places_in none, places_few (with_reservation r page l) after, laid.records_long);
+      few = omega (
+        arith,
+        sum_by-set places_in l.records r.frame (Some r) None known,
+        ap places_in none,
+        places_few (with_reservation r page l) after,
+        laid.records_long,
+      );
     }
 
 -- a reservation of the layout that was taken out
@@ -54,12 +61,21 @@ module _ (l : Layout) (id : ℕ) (r : Reservation) (laid : IsLaid l) (is : recor
         placed = subst (λ n. IsPlaced n r.frame r) (sym long) (subst (λ k. IsPlaced (length l.records) k r) (sym placed.named) placed);
         known = pages.0;
         within = pages.1;
-        none = λ frame has. none_begins (set l.records id None) frame (rest_placed l id r laid is) (elim (cases_Bool (has_frame frame (get_or (set l.records id None) frame None))) [
-          | inl also ↦ absurd (not_in_rest l id r laid is frame frame has also)
-          | inr not ↦ not
-        ]);
-        apart = λ j p q at has also. let w = unset_before l.records id j None (Some q) (none-some q) at in w.0 (laid.one_cover j id r.space p q r w.1 is also has);
-        few = omega (arith, sum_by-set places_in l.records id None None (get_or_within l.records id r is), ap places_in is, places_few l laid, laid.records_long, long);
+        none = λ frame has. none_begins (set l.records id None) frame (rest_placed l id r laid is)
+            (elim (cases_Bool (has_frame frame (get_or (set l.records id None) frame None))) [
+              | inl also ↦ absurd (not_in_rest l id r laid is frame frame has also)
+              | inr not ↦ not
+            ]);
+        apart = λ j p q at has also. let w = unset_before l.records id j None (Some q) (none-some q) at in
+            w.0 (laid.one_cover j id r.space p q r w.1 is also has);
+        few = omega (
+          arith,
+          sum_by-set places_in l.records id None None (get_or_within l.records id r is),
+          ap places_in is,
+          places_few l laid,
+          laid.records_long,
+          long,
+        );
       }
 
   -- and is split

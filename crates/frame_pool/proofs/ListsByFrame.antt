@@ -46,7 +46,8 @@ module _ (z : SizeSet) (lists : Lists) (used : List Bool) (records : List (Optio
   pub AreListed-enlisted : (k : ℕ) → r.frame ≡ id → yield_in z (is_used used) r ≡ Some k → k < 3
       → AreListed z (with_list lists k (with_member (member_at r id) (list_at lists k))) used (set records id (Some r))
   AreListed-enlisted k named yields small =
-      subst (λ m. AreListed z (with_list lists k (with_member m (list_at lists k))) used (set records id (Some r))) (member_at-named r id named)
+      subst (λ m. AreListed z (with_list lists k (with_member m (list_at lists k))) used (set records id (Some r)))
+      (member_at-named r id named)
       (AreListed-with z lists used (set records id (Some r)) id k r without there yields small)
 
   pub AreListed-not_enlisted : ((k : ℕ) → yield_in z (is_used used) r ≡ Some k → 3 ≤ k) → AreListed z lists used (set records id (Some r))
@@ -74,7 +75,8 @@ ArePlaced-parts records used whole (suc n) splits placed are small =
     let before = split_up_to n (is_used used) whole records in
     let long = length-split (is_used used) whole records splits placed n in
     subst ArePlaced (sym (split_suc n (is_used used) whole records))
-    (ArePlaced-part before used whole (length records) n long splits (omega arith) placed (ArePlaced-parts records used whole n splits placed are (omega arith)))
+    (ArePlaced-part before used whole (length records) n long splits (omega arith) placed
+    (ArePlaced-parts records used whole n splits placed are (omega arith)))
 
 -- the next part
 module _ (z : SizeSet) (n : ℕ) (start lists : KeptLists) (after : Records) (whole : Reservation) (splits : 0 < whole.size) (small : n < 8)
@@ -89,17 +91,23 @@ module _ (z : SizeSet) (n : ℕ) (start lists : KeptLists) (after : Records) (wh
   before = split_up_to n used whole has.was.records
 
   pub part_found : get_or after.records first None ≡ kept_part used whole n
-  part_found = ap (λ l. get_or l first None) has.was.split ∙ split_at used whole has.was.records splits has.was.placed 8 n small (omega arith)
+  part_found = ap (λ l. get_or l first None) has.was.split ∙ split_at used whole has.was.records splits has.was.placed 8 n small
+      (omega arith)
 
   pub none_before : get_or before first None ≡ None
   none_before =
       let ends = part_of_eight n whole.size splits small in
       let in_whole = has_frame_from first whole (omega arith) (omega (arith, ends, eight_pos (whole.size - 1))) in
-      split_other used whole has.was.records splits has.was.placed n first (λ i lt same. omega (arith, parts_apart used whole has.was.records splits has.was.placed n i same))
+      split_other used whole has.was.records splits has.was.placed n first
+      (λ i lt same. omega (arith, parts_apart used whole has.was.records splits has.was.placed n i same))
       ∙ none_begins has.was.records first has.was.others_placed (has.was.vacant first first in_whole)
 
   pub known_before : first < length before
-  known_before = omega (arith, part_known used whole has.was.records splits has.was.placed n small, length-split used whole has.was.records splits has.was.placed n)
+  known_before = omega (
+    arith,
+    part_known used whole has.was.records splits has.was.placed n small,
+    length-split used whole has.was.records splits has.was.placed n,
+  )
 
   pub part_in_room : first < lists.frames
   part_in_room = omega (arith, part_known used whole has.was.records splits has.was.placed n small, has.room, has.was.room)
@@ -115,8 +123,10 @@ module _ (z : SizeSet) (n : ℕ) (start lists : KeptLists) (after : Records) (wh
   HasParts-more new listed room = record {
     was = has.was;
     room = room ∙ has.room;
-    listed = subst (AreListed z new.lists after.used) (ap (set before first) part_found ∙ sym (split_up_to-more n used whole has.was.records)) listed;
+    listed = subst (AreListed z new.lists after.used) (ap (set before first) part_found
+        ∙ sym (split_up_to-more n used whole has.was.records)) listed;
   }
 
   pub HasParts-skip : get_or after.records first None ≡ None → HasParts z (n + 1) start lists after whole
-  HasParts-skip none = HasParts-more lists (subst (AreListed z lists.lists after.used) (sym (ap (set before first) none ∙ set-none before first none_before)) has.listed) refl
+  HasParts-skip none = HasParts-more lists (subst (AreListed z lists.lists after.used)
+      (sym (ap (set before first) none ∙ set-none before first none_before)) has.listed) refl

@@ -24,10 +24,12 @@ module _ (m : Populations) (records : List (Option Reservation)) (space page : �
   pub covering-looked : (size id : ℕ) → OneCovers records → size ≤ 3 → id_of m size (page_at space page) ≡ Some id
       → get_or records id None ≡ covering space page records
   covering-looked size id one small is =
-      let q = found_record_and (get_or records id None) (λ r. (r.size ≡ size) × (covers space page r ≡ true)) ((mapped.exact space page size id known low small).0 is) in
+      let q = found_record_and (get_or records id None) (λ r. (r.size ≡ size) × (covers space page r ≡ true))
+      ((mapped.exact space page size id known low small).0 is) in
       q.1 ∙ at q.0 q.1 q.2.1 (covering space page records) refl
     where
-      at : (r : Reservation) → get_or records id None ≡ Some r → covers space page r ≡ true → (o : Option Reservation) → covering space page records ≡ o → Some r ≡ covering space page records
+      at : (r : Reservation) → get_or records id None ≡ Some r → covers space page r ≡ true → (o : Option Reservation)
+          → covering space page records ≡ o → Some r ≡ covering space page records
       at r stands has None none = absurd (false≢true (sym (covering-none space page records none id r stands) ∙ has))
       at r stands has (Some q) found =
           let w = covering-found space page records q found in
@@ -42,7 +44,8 @@ module _ (m : Populations) (records : List (Option Reservation)) (space page : �
       at (Some r) is =
           let w = covering-found space page records r is in
           let small = (placed w.0 r w.2).aligned.0 in
-          let id = (mapped.exact space page r.size w.0 known low small).1 (subst (λ o. IsSomeAnd o (λ q. (q.size ≡ r.size) × (covers space page q ≡ true))) (sym w.2) (refl, w.3)) in
+          let id = (mapped.exact space page r.size w.0 known low small).1
+          (subst (λ o. IsSomeAnd o (λ q. (q.size ≡ r.size) × (covers space page q ≡ true))) (sym w.2) (refl, w.3)) in
           absurd (none-some w.0 (sym (none r.size small) ∙ id))
 
 -- what any passes, one passes
@@ -57,13 +60,16 @@ any_one p (x ∷ xs) d is = elim (or_cases (p x) (list_any p xs) is) [
 module _ (m : Populations) (records : List (Option Reservation)) (space size first : ℕ) (mapped : IsMapped m records) (known : space < 16)
     (e : IsExtent size first) (low : first < 1048576) where
   -- a reservation with a page of the extent meets it
-  meets_by : (page : ℕ) (r : Reservation) → first ≤ page → page < first + 8 ^ size → covers space page r ≡ true → meets space size first (Some r) ≡ true
+  meets_by : (page : ℕ) (r : Reservation) → first ≤ page → page < first + 8 ^ size → covers space page r ≡ true
+      → meets space size first (Some r) ≡ true
   meets_by page r above below has =
       let at = CoversPageOf-covers space page r has in
-      and_from _ _ (eq-eqb r.space space at.space_is) (and_from _ _ (lt-ltb r.first (first + 8 ^ size) (omega (arith, at.low))) (lt-ltb first (r.first + 8 ^ r.size) (omega (arith, at.high))))
+      and_from _ _ (eq-eqb r.space space at.space_is) (and_from _ _ (lt-ltb r.first (first + 8 ^ size) (omega (arith, at.low)))
+      (lt-ltb first (r.first + 8 ^ r.size) (omega (arith, at.high))))
 
   -- and one that meets it has one
-  meets_at : (r : Reservation) → meets space size first (Some r) ≡ true → (page : ℕ) × (first ≤ page) × (page < first + 8 ^ size) × (covers space page r ≡ true)
+  meets_at : (r : Reservation) → meets space size first (Some r) ≡ true
+      → (page : ℕ) × (first ≤ page) × (page < first + 8 ^ size) × (covers space page r ≡ true)
   meets_at r is =
       let parts = and_parts (eqb r.space space) (ltb r.first (first + 8 ^ size) && ltb first (r.first + 8 ^ r.size)) is in
       let bounds = and_parts (ltb r.first (first + 8 ^ size)) (ltb first (r.first + 8 ^ r.size)) parts.1 in
@@ -77,14 +83,17 @@ module _ (m : Populations) (records : List (Option Reservation)) (space size fir
         covers-CoversPageOf space (max first r.first) r (record { space_is = eqb-true _ _ parts.0; low = omega arith; high = omega arith }),
       )
 
-  pub meets_any-looked : (page : ℕ) → page / 8 ^ size ≡ page_at space first / 8 ^ size → is_placed m page ≡ true → meets_any space records size first ≡ true
+  pub meets_any-looked : (page : ℕ) → page / 8 ^ size ≡ page_at space first / 8 ^ size → is_placed m page ≡ true
+      → meets_any space records size first ≡ true
   meets_any-looked page same placed =
       let at = page_in size space first page e low same in
       let by = placed_size m page placed in
       let id = some_from_is_some (id_of m by.0 page) by.2 in
       let here : id_of m by.0 (page_at space at.0) ≡ Some id.0 = ap (id_of m by.0) (sym at.1) ∙ id.1 in
-      let q = found_record_and (get_or records id.0 None) (λ r. (r.size ≡ by.0) × (covers space at.0 r ≡ true)) ((mapped.exact space at.0 by.0 id.0 known at.2 by.1).0 here) in
-      list_any_at (meets space size first) records id.0 None (get_or_within records id.0 q.0 q.1) (ap (meets space size first) q.1 ∙ meets_by at.0 q.0 at.3 at.4 q.2.1)
+      let q = found_record_and (get_or records id.0 None) (λ r. (r.size ≡ by.0) × (covers space at.0 r ≡ true))
+      ((mapped.exact space at.0 by.0 id.0 known at.2 by.1).0 here) in
+      list_any_at (meets space size first) records id.0 None (get_or_within records id.0 q.0 q.1)
+      (ap (meets space size first) q.1 ∙ meets_by at.0 q.0 at.3 at.4 q.2.1)
 
   pub meets_any-not_looked : ArePlaced records → ((page : ℕ) → page / 8 ^ size ≡ page_at space first / 8 ^ size → IsInNone m page)
       → meets_any space records size first ≡ false
@@ -98,5 +107,6 @@ module _ (m : Populations) (records : List (Option Reservation)) (space size fir
           let page = meets_at r (sym (ap (meets space size first) is) ∙ has) in
           let small = (placed id r is).aligned.0 in
           let end = end_in_space size first e low in
-          let there = (mapped.exact space page.0 r.size id known (omega (arith, end, page.2)) small).1 (subst (λ o. IsSomeAnd o (λ q. (q.size ≡ r.size) × (covers space page.0 q ≡ true))) (sym is) (refl, page.3)) in
+          let there = (mapped.exact space page.0 r.size id known (omega (arith, end, page.2)) small).1
+          (subst (λ o. IsSomeAnd o (λ q. (q.size ≡ r.size) × (covers space page.0 q ≡ true))) (sym is) (refl, page.3)) in
           none-some id (sym (none (page_at space page.0) (in_page size space first page.0 e page.1 page.2) r.size small) ∙ there)

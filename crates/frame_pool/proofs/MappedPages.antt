@@ -22,7 +22,8 @@ page_in size space first page e low same =
     (page - 1048576 * space, omega (arith, in_it.0), omega (arith, in_it.1), omega (arith, in_it.0), omega (arith, in_it.1))
 
 -- and a page from its first one on is in it
-pub in_page : (size space first p : ℕ) → IsExtent size first → first ≤ p → p < first + 8 ^ size → page_at space p / 8 ^ size ≡ page_at space first / 8 ^ size
+pub in_page : (size space first p : ℕ) → IsExtent size first → first ≤ p → p < first + 8 ^ size
+    → page_at space p / 8 ^ size ≡ page_at space first / 8 ^ size
 in_page size space first p e low high =
     let at = aligned_at size space first e in
     in_extent size (page_at space first) (page_at space p) at.0 at.1 (omega arith) (omega arith)
@@ -38,10 +39,12 @@ module _ (r : Reservation) (pages : IsExtent r.size r.first) (low : r.first < 10
   pub covered_in : (s p : ℕ) → covers s p r ≡ true → page_at s p / 8 ^ r.size ≡ page_at r.space r.first / 8 ^ r.size
   covered_in s p has =
       let at = CoversPageOf-covers s p r has in
-      in_extent r.size (page_at r.space r.first) (page_at s p) (aligned_at r.size r.space r.first pages).0 (aligned_at r.size r.space r.first pages).1 (omega (arith, at.space_is, at.low)) (omega (arith, at.space_is, at.high))
+      in_extent r.size (page_at r.space r.first) (page_at s p) (aligned_at r.size r.space r.first pages).0
+      (aligned_at r.size r.space r.first pages).1 (omega (arith, at.space_is, at.low)) (omega (arith, at.space_is, at.high))
 
   pub in_covered : (s p : ℕ) → p < 1048576 → page_at s p / 8 ^ r.size ≡ page_at r.space r.first / 8 ^ r.size → covers s p r ≡ true
   in_covered s p small same =
       let at = page_in r.size r.space r.first (page_at s p) pages low same in
       let is = same_page s r.space p at.0 small at.2 at.1 in
-      covers-CoversPageOf s p r (record { space_is = omega (arith, is.0); low = omega (arith, is.1, at.3); high = omega (arith, is.1, at.4) })
+      covers-CoversPageOf s p r
+      (record { space_is = omega (arith, is.0); low = omega (arith, is.1, at.3); high = omega (arith, is.1, at.4) })

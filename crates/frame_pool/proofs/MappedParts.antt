@@ -26,10 +26,12 @@ pub record HasMapped (n : ℕ) (start m : Populations) (after : Records) (whole 
   pub was : WasSplitFrom start after whole
   pub mapped : IsMapped m (split_up_to n (is_used after.used) whole was.records)
 
-pub HasMapped-none : (start : Populations) (after : Records) (whole : Reservation) → WasSplitFrom start after whole → HasMapped 0 start start after whole
+pub HasMapped-none : (start : Populations) (after : Records) (whole : Reservation) → WasSplitFrom start after whole
+    → HasMapped 0 start start after whole
 HasMapped-none start after whole was = record { was = was; mapped = was.mapped }
 
-pub HasMapped-all : (start m : Populations) (after : Records) (whole : Reservation) → HasMapped 8 start m after whole → IsMapped m after.records
+pub HasMapped-all : (start m : Populations) (after : Records) (whole : Reservation) → HasMapped 8 start m after whole
+    → IsMapped m after.records
 HasMapped-all start m after whole has = subst (IsMapped m) (sym has.was.split) has.mapped
 
 module _ (used : ℕ → Bool) (r : Reservation) (records : List (Option Reservation)) (splits : 0 < r.size) (may : MayEnter records r) where
@@ -49,7 +51,8 @@ module _ (used : ℕ → Bool) (r : Reservation) (records : List (Option Reserva
           | inr whole ↦ inl (n, omega arith, same_Some (part_of r n) q (sym whole ∙ kept))
         ]
     | inr other ↦
-        let step = ap (λ l. get_or l id None) (split_suc n used r records) ∙ get_or-set_other (split_up_to n used r records) (first n) id (kept_part used r n) None other in
+        let step = ap (λ l. get_or l id None) (split_suc n used r records)
+        ∙ get_or-set_other (split_up_to n used r records) (first n) id (kept_part used r n) None other in
         elim (who_stands n id q (omega arith) (sym step ∙ is)) [
           | inl part ↦ inl (part.0, omega (arith, part.1), part.2)
           | inr was ↦ inr was
@@ -60,7 +63,8 @@ module _ (used : ℕ → Bool) (r : Reservation) (records : List (Option Reserva
   none_yet : (n frame : ℕ) → n < 8 → has_frame frame (Some (part_of r n)) ≡ true → get_or (split_up_to n used r records) frame None ≡ None
   none_yet n frame one has =
       let bounds = has_frame_bounds frame (part_of r n) has in
-      split_other used r records splits may.placed n frame (λ i before same. omega (arith, same, bounds.0, part_inside i (8 ^ (r.size - 1)) n before, eight_pos (r.size - 1)))
+      split_other used r records splits may.placed n frame (λ i before same. omega
+      (arith, same, bounds.0, part_inside i (8 ^ (r.size - 1)) n before, eight_pos (r.size - 1)))
       ∙ may.none frame (has_frame_from frame r (omega (arith, bounds.0)) (omega (arith, bounds.1, part_of_eight n r.size splits one)))
 
   -- the parts so far have their places
@@ -68,13 +72,18 @@ module _ (used : ℕ → Bool) (r : Reservation) (records : List (Option Reserva
   few_places zero le = omega arith
   few_places (suc n) le =
       let before = split_up_to n used r records in
-      let known : first n < length before = omega (arith, part_known used r records splits may.placed n (omega arith), length-split used r records splits may.placed n) in
+      let known : first n < length before = omega (
+        arith,
+        part_known used r records splits may.placed n (omega arith),
+        length-split used r records splits may.placed n,
+      ) in
       let change = sum_by-set places_in before (first n) (kept_part used r n) None known in
       let most : places_in (kept_part used r n) ≤ 8 ^ (r.size - 1) = elim (kept_cases used r n) [
         | inl empty ↦ omega (arith, ap places_in empty.0)
         | inr whole ↦ omega (arith, ap places_in whole)
       ] in
-      let step : sum_by places_in (split_up_to (suc n) used r records) ≡ sum_by places_in (set before (first n) (kept_part used r n)) = ap (sum_by places_in) (split_suc n used r records) in
+      let step : sum_by places_in (split_up_to (suc n) used r records) ≡ sum_by places_in (set before (first n) (kept_part used r n)) =
+      ap (sum_by places_in) (split_suc n used r records) in
       omega (arith, step, change, most, few_places n (omega arith))
 
   -- the next part may come in
@@ -94,7 +103,8 @@ module _ (used : ℕ → Bool) (r : Reservation) (records : List (Option Reserva
           | inl part ↦
               let same = one_part_covers (r.size - 1) r.space page n part.0 r has (ap (covers r.space page) part.2 ∙ also) in
               omega (arith, same, part.1)
-          | inr was ↦ may.apart id page q was (covers_whole (r.size - 1) r.space page n r (omega arith) (omega (arith, one, eight_count r splits)) has) also
+          | inr was ↦ may.apart id page q was (covers_whole (r.size - 1) r.space page n r (omega arith)
+              (omega (arith, one, eight_count r splits)) has) also
         ];
         few = omega (arith, long, few_places n (omega arith), may.few, in_whole, eight_parts r.size splits);
       }
@@ -109,7 +119,8 @@ module _ (n : ℕ) (start m : Populations) (after : Records) (whole : Reservatio
   before = split_up_to n used whole has.was.records
 
   part_found : get_or after.records (part_of whole n).frame None ≡ kept_part used whole n
-  part_found = ap (λ l. get_or l (part_of whole n).frame None) has.was.split ∙ split_at used whole has.was.records splits has.was.enters.placed 8 n small (omega arith)
+  part_found = ap (λ l. get_or l (part_of whole n).frame None) has.was.split
+      ∙ split_at used whole has.was.records splits has.was.enters.placed 8 n small (omega arith)
 
   -- what is found at its frame is the part
   part_is : (q : Reservation) → get_or after.records (part_of whole n).frame None ≡ Some q → q ≡ part_of whole n
@@ -130,7 +141,8 @@ module _ (n : ℕ) (start m : Populations) (after : Records) (whole : Reservatio
     mapped =
         let set_at : Reservation → List (Option Reservation) = λ t. set before t.frame (Some q) in
         let kept = sym is ∙ part_found in
-        subst (IsMapped new) (ap set_at (part_is q is) ∙ ap (set before (part_of whole n).frame) kept ∙ sym (split_up_to-more n used whole has.was.records)) mapped;
+        subst (IsMapped new) (ap set_at (part_is q is) ∙ ap (set before (part_of whole n).frame) kept
+        ∙ sym (split_up_to-more n used whole has.was.records)) mapped;
   }
 
   pub HasMapped-skip : get_or after.records (part_of whole n).frame None ≡ None → HasMapped (n + 1) start m after whole
@@ -140,5 +152,6 @@ module _ (n : ℕ) (start m : Populations) (after : Records) (whole : Reservatio
         let vacant = none_yet used whole has.was.records splits has.was.enters n (part_of whole n).frame small
         (has_frame_from (part_of whole n).frame (part_of whole n) (omega arith) (omega (arith, eight_pos (whole.size - 1)))) in
         let kept = sym none ∙ part_found in
-        subst (IsMapped m) (sym (set-none before (part_of whole n).frame vacant) ∙ ap (set before (part_of whole n).frame) kept ∙ sym (split_up_to-more n used whole has.was.records)) has.mapped;
+        subst (IsMapped m) (sym (set-none before (part_of whole n).frame vacant) ∙ ap (set before (part_of whole n).frame) kept
+        ∙ sym (split_up_to-more n used whole has.was.records)) has.mapped;
   }

@@ -40,7 +40,9 @@ module _ (m n : Populations) (r : Reservation) (pages : IsExtent r.size r.first)
 
   id_else : (k s p : ℕ) → k ≤ 3 → p < 1048576 → (k ≡ r.size → covers s p r ≡ true → ⊥) → id_of n k (page_at s p) ≡ id_of m k (page_at s p)
   id_else k s p small known else =
-      places.others k (page_at s p) small (λ same at. else same (in_covered r pages low s p known (subst (λ j. page_at s p / 8 ^ j ≡ page_at r.space r.first / 8 ^ j) same at)))
+      places.others k (page_at s p) small
+      (λ same at. else same
+      (in_covered r pages low s p known (subst (λ j. page_at s p / 8 ^ j ≡ page_at r.space r.first / 8 ^ j) same at)))
 
 -- ---- a reservation comes in
 
@@ -63,7 +65,8 @@ module _ (m : Populations) (records : List (Option Reservation)) (r : Reservatio
 
   pages_with : (id : ℕ) (q : Reservation) → get_or with_it id None ≡ Some q → (q.space < 16) × (q.first < 1048576)
   pages_with id q is = elim (cases_eq id r.frame) [
-    | inl same ↦ subst (λ (t : Reservation). (t.space < 16) × (t.first < 1048576)) (same_Some r q (sym (here id same) ∙ is)) (may.known, may.within)
+    | inl same ↦ subst (λ (t : Reservation). (t.space < 16) × (t.first < 1048576)) (same_Some r q (sym (here id same) ∙ is))
+        (may.known, may.within)
     | inr other ↦ mapped.pages id q (sym (there id other) ∙ is)
   ]
 
@@ -75,10 +78,12 @@ module _ (m : Populations) (records : List (Option Reservation)) (r : Reservatio
     id_to : (s p k j : ℕ) → s < 16 → p < 1048576 → k ≤ 3 → id_of n k (page_at s p) ≡ Some j → HasAt k s p (get_or with_it j None)
     id_to s p k j known low small is = elim (its_own r k s p) [
       | inl own ↦
-          let same = same_Some r.frame j (sym (id_here m n r may.placed.pages_aligned may.within (Some r.frame) places k s p own.0 own.1) ∙ is) in
+          let same = same_Some r.frame j (sym (id_here m n r may.placed.pages_aligned may.within (Some r.frame) places k s p own.0 own.1)
+          ∙ is) in
           subst (HasAt k s p) (sym (here j (sym same))) (sym own.0, own.1)
       | inr else ↦
-          let was = (mapped.exact s p k j known low small).0 (sym (id_else m n r may.placed.pages_aligned may.within (Some r.frame) places k s p small low else) ∙ is) in
+          let was = (mapped.exact s p k j known low small).0
+          (sym (id_else m n r may.placed.pages_aligned may.within (Some r.frame) places k s p small low else) ∙ is) in
           elim (cases_eq j r.frame) [
             | inl same ↦ absurd (subst (HasAt k s p) (ap (λ i. get_or records i None) same ∙ first_free) was)
             | inr other ↦ subst (HasAt k s p) (sym (there j other)) was
@@ -119,7 +124,8 @@ module _ (m : Populations) (records : List (Option Reservation)) (r : Reservatio
       let covered = covers-CoversPageOf r.space at.0 r (record { space_is = refl; low = at.3; high = at.4 }) in
       ap (id_of m k) at.1 ∙ none_from_never (id_of m k (page_at r.space at.0))
       (λ j is.
-      let q = found_record_and (get_or records j None) (λ t. (t.size ≡ k) × (covers r.space at.0 t ≡ true)) ((mapped.exact r.space at.0 k j may.known at.2 small).0 is) in
+      let q = found_record_and (get_or records j None) (λ t. (t.size ≡ k) × (covers r.space at.0 t ≡ true))
+      ((mapped.exact r.space at.0 k j may.known at.2 small).0 is) in
       may.apart j at.0 q.0 q.1 covered q.2.1)
 
   pub entering_room : placed_pages m + 8 ^ r.size ≤ frame_count m
@@ -150,7 +156,8 @@ module _ (m : Populations) (records : List (Option Reservation)) (id : ℕ) (r :
 
   -- its extent is placed with its id
   own_id : (k s p : ℕ) → s < 16 → p < 1048576 → k ≡ r.size → covers s p r ≡ true → id_of m k (page_at s p) ≡ Some id
-  own_id k s p known low same has = (mapped.exact s p k id known low (omega (arith, same, pages.0))).1 (subst (HasAt k s p) (sym is) (sym same, has))
+  own_id k s p known low same has = (mapped.exact s p k id known low (omega (arith, same, pages.0))).1
+      (subst (HasAt k s p) (sym is) (sym same, has))
 
   -- what taking it out requires
   pub leaving_known : r.space < space_count m
@@ -158,7 +165,8 @@ module _ (m : Populations) (records : List (Option Reservation)) (id : ℕ) (r :
 
   pub leaving_placed : is_some (id_of m r.size (page_at r.space r.first)) ≡ true
   leaving_placed =
-      let first = covers-CoversPageOf r.space r.first r (record { space_is = refl; low = omega arith; high = omega (arith, eight_pos r.size) }) in
+      let first = covers-CoversPageOf r.space r.first r
+      (record { space_is = refl; low = omega arith; high = omega (arith, eight_pos r.size) }) in
       ap is_some (own_id r.size r.space r.first (mapped.pages id r is).0 low_of refl first)
 
   module _ (n : Populations) (places : PlacesOnly m n r.size (page_at r.space r.first) None) where
@@ -180,7 +188,8 @@ module _ (m : Populations) (records : List (Option Reservation)) (id : ℕ) (r :
       | inl same ↦ absurd (subst (HasAt k s p) (gone j same) has)
       | inr other ↦
           let was = (mapped.exact s p k j known low small).1 (subst (HasAt k s p) (stays j other) has) in
-          id_else m n r pages low_of None places k s p small low (λ same also. other (same_Some j id (sym was ∙ own_id k s p known low same also))) ∙ was
+          id_else m n r pages low_of None places k s p small low (λ same also. other
+          (same_Some j id (sym was ∙ own_id k s p known low same also))) ∙ was
     ]
 
     pub IsMapped-left : SameRoom m n → placed_pages n + 8 ^ r.size ≡ placed_pages m → IsMapped n without_it
@@ -204,8 +213,10 @@ IsMapped-alike m records id r q mapped is space first size = record {
       elim (cases_eq j id) [
         | inl same ↦
             let at_old = ap (λ i. get_or records i None) same ∙ is in
-            let at_new = ap (λ i. get_or (set records id (Some q)) i None) same ∙ get_or-set_same records id (Some q) None (get_or_within records id r is) in (
-              λ h. let own = subst (HasAt k s p) at_old (was.0 h) in subst (HasAt k s p) (sym at_new) (size ∙ own.0, sym (alike s p) ∙ own.1),
+            let at_new = ap (λ i. get_or (set records id (Some q)) i None) same
+            ∙ get_or-set_same records id (Some q) None (get_or_within records id r is) in (
+              λ h. let own = subst (HasAt k s p) at_old (was.0 h) in subst (HasAt k s p) (sym at_new)
+                  (size ∙ own.0, sym (alike s p) ∙ own.1),
               λ h. let own = subst (HasAt k s p) at_new h in was.1 (subst (HasAt k s p) (sym at_old) (sym size ∙ own.0, alike s p ∙ own.1)),
             )
         | inr other ↦
@@ -214,9 +225,11 @@ IsMapped-alike m records id r q mapped is space first size = record {
       ];
   pages = λ j t at. elim (cases_eq j id) [
     | inl same ↦
-        let at_new = ap (λ i. get_or (set records id (Some q)) i None) same ∙ get_or-set_same records id (Some q) None (get_or_within records id r is) in
+        let at_new = ap (λ i. get_or (set records id (Some q)) i None) same
+        ∙ get_or-set_same records id (Some q) None (get_or_within records id r is) in
         let was = mapped.pages id r is in
-        subst (λ (u : Reservation). (u.space < 16) × (u.first < 1048576)) (same_Some q t (sym at_new ∙ at)) (omega (arith, was.0, space), omega (arith, was.1, first))
+        subst (λ (u : Reservation). (u.space < 16) × (u.first < 1048576)) (same_Some q t (sym at_new ∙ at))
+        (omega (arith, was.0, space), omega (arith, was.1, first))
     | inr other ↦ mapped.pages j t (sym (get_or-set_other records id j (Some q) None other) ∙ at)
   ];
   room = mapped.room ∙ sym (length-set records id (Some q));

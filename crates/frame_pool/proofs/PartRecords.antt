@@ -18,12 +18,14 @@ eighth pages size splits is = ap (λ n. n / 8) is ∙ eight_quotient 1 size spli
 
 pub split_suc : (n : ℕ) (used : ℕ → Bool) (r : Reservation) (records : List (Option Reservation))
     → split_up_to (suc n) used r records ≡ split_step used r (split_up_to n used r records) n
-split_suc n used r records = subst (λ m. split_up_to m used r records ≡ split_step used r (split_up_to n used r records) n) (add-one n) (split_up_to-more n used r records)
+split_suc n used r records = subst (λ m. split_up_to m used r records ≡ split_step used r (split_up_to n used r records) n) (add-one n)
+    (split_up_to-more n used r records)
 
 module _ (used : ℕ → Bool) (r : Reservation) (records : List (Option Reservation)) (splits : 0 < r.size) (placed : IsPlaced (length records) r.frame r) where
   pub length-split : (n : ℕ) → length (split_up_to n used r records) ≡ length records
   length-split zero = refl
-  length-split (suc n) = ap length (split_suc n used r records) ∙ length-set (split_up_to n used r records) (part_of r n).frame (kept_part used r n) ∙ length-split n
+  length-split (suc n) = ap length (split_suc n used r records) ∙ length-set (split_up_to n used r records) (part_of r n).frame
+      (kept_part used r n) ∙ length-split n
 
   pub parts_apart : (i j : ℕ) → (part_of r i).frame ≡ (part_of r j).frame → i ≡ j
   parts_apart i j same =
@@ -49,7 +51,8 @@ module _ (used : ℕ → Bool) (r : Reservation) (records : List (Option Reserva
             ∙ split_at n i (omega arith) (omega arith)
       ]
 
-  pub split_other : (n id : ℕ) → ((i : ℕ) → i < n → id ≡ (part_of r i).frame → ⊥) → get_or (split_up_to n used r records) id None ≡ get_or records id None
+  pub split_other : (n id : ℕ) → ((i : ℕ) → i < n → id ≡ (part_of r i).frame → ⊥)
+      → get_or (split_up_to n used r records) id None ≡ get_or records id None
   split_other zero id none = refl
   split_other (suc n) id none =
       ap (λ l. get_or l id None) (split_suc n used r records)

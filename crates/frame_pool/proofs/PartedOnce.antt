@@ -47,13 +47,27 @@ part_at-again m s j i r le =
     let split : j * 8 ^ s ≡ j * (u * 8 ^ m) = ap (λ n. j * n) (eight_split m s le) in
     let pages : r.first + j * 8 ^ s + i * 8 ^ m ≡ r.first + (j * u + i) * 8 ^ m = omega (arith, split) in
     let frames : r.frame + j * 8 ^ s + i * 8 ^ m ≡ r.frame + (j * u + i) * 8 ^ m = omega (arith, split) in
-    ap (λ (n : ℕ). let q : Reservation = record { space = r.space; first = n; size = m; frame = r.frame + j * 8 ^ s + i * 8 ^ m; stamp = r.stamp } in q) pages
-    ∙ ap (λ (n : ℕ). let q : Reservation = record { space = r.space; first = r.first + (j * u + i) * 8 ^ m; size = m; frame = n; stamp = r.stamp } in q) frames
+    ap (λ (n : ℕ). let q : Reservation = record {
+      space = r.space;
+      first = n;
+      size = m;
+      frame = r.frame + j * 8 ^ s + i * 8 ^ m;
+      stamp = r.stamp;
+    } in q) pages
+    ∙ ap (λ (n : ℕ). let q : Reservation = record {
+      space = r.space;
+      first = r.first + (j * u + i) * 8 ^ m;
+      size = m;
+      frame = n;
+      stamp = r.stamp;
+    } in q) frames
 
-part_below : (m s j i : ℕ) (r : Reservation) → m ≤ s → s ≤ r.size → j < part_count s r → i < 8 ^ (s - m) → j * 8 ^ (s - m) + i < part_count m r
+part_below : (m s j i : ℕ) (r : Reservation) → m ≤ s → s ≤ r.size → j < part_count s r → i < 8 ^ (s - m)
+    → j * 8 ^ (s - m) + i < part_count m r
 part_below m s j i r le low one two =
     let less : r.size - m - (s - m) ≡ r.size - s = omega arith in
-    let whole : 8 ^ (r.size - m) ≡ 8 ^ (r.size - s) * 8 ^ (s - m) = eight_split (s - m) (r.size - m) (omega arith) ∙ ap (λ n. 8 ^ n * 8 ^ (s - m)) less in
+    let whole : 8 ^ (r.size - m) ≡ 8 ^ (r.size - s) * 8 ^ (s - m) = eight_split (s - m) (r.size - m) (omega arith)
+    ∙ ap (λ n. 8 ^ n * 8 ^ (s - m)) less in
     omega (arith, whole, part_inside j (8 ^ (s - m)) (8 ^ (r.size - s)) one, two)
 
 -- the whole is a part of itself
@@ -61,8 +75,15 @@ part_at-whole : (r : Reservation) → part_at r.size r 0 ≡ r
 part_at-whole r =
     let pages : r.first + 0 * 8 ^ r.size ≡ r.first = omega arith in
     let frames : r.frame + 0 * 8 ^ r.size ≡ r.frame = omega arith in
-    ap (λ (n : ℕ). let q : Reservation = record { space = r.space; first = n; size = r.size; frame = r.frame + 0 * 8 ^ r.size; stamp = r.stamp } in q) pages
-    ∙ ap (λ (n : ℕ). let q : Reservation = record { space = r.space; first = r.first; size = r.size; frame = n; stamp = r.stamp } in q) frames
+    ap (λ (n : ℕ). let q : Reservation = record {
+      space = r.space;
+      first = n;
+      size = r.size;
+      frame = r.frame + 0 * 8 ^ r.size;
+      stamp = r.stamp;
+    } in q) pages
+    ∙ ap (λ (n : ℕ). let q : Reservation = record { space = r.space; first = r.first; size = r.size; frame = n; stamp = r.stamp } in
+    q) frames
 
 IsPartOf-whole : (k : ℕ) (r : Reservation) → k ≤ r.size → IsPartOf k r r
 IsPartOf-whole k r le = record { low = le; high = omega arith; index = 0; below = eight_pos (r.size - r.size); is = part_at-whole r }
@@ -82,7 +103,8 @@ module _ (k : ℕ) (l : Layout) (r : Reservation) (laid : IsLaid l) (is : record
   own id q low high stands =
       let placed = laid.placed id q stands in
       let mine = has_frame_from id r low high in
-      let here = laid.apart id id r.frame (ap (has_frame id) stands ∙ has_frame_from id q (omega (arith, placed.named)) (omega (arith, placed.named, eight_pos q.size))) (ap (has_frame id) is ∙ mine) in
+      let here = laid.apart id id r.frame (ap (has_frame id) stands ∙ has_frame_from id q (omega (arith, placed.named))
+      (omega (arith, placed.named, eight_pos q.size))) (ap (has_frame id) is ∙ mine) in
       (here, same_Some q r (sym stands ∙ ap (record_at l) here ∙ is))
 
   pub IsDown-start : k ≤ r.size → Settles l l → IsDown k r.frame l l r
@@ -98,7 +120,8 @@ module _ (k : ℕ) (l : Layout) (r : Reservation) (laid : IsLaid l) (is : record
   pub IsDown-parted : k ≤ r.size → IsDown k end l (parted k r l) r
   IsDown-parted le =
       let split = IsSplit-parted k l r laid.records_long (placed_own l r.frame r laid is) le in
-      let who : (id : ℕ) (q : Reservation) → r.frame ≤ id → id < end → record_at (parted k r l) id ≡ Some q → IsPartOf k r q × (q.size ≡ k) =
+      let who : (id : ℕ) (q : Reservation) → r.frame ≤ id → id < end → record_at (parted k r l) id ≡ Some q
+      → IsPartOf k r q × (q.size ≡ k) =
       λ id q low high stands. elim (who_stands k l (parted k r l) r.frame r laid is le split id q stands) [
         | inl still ↦ absurd (still.0 (own id q low high still.1).0)
         | inr part ↦
@@ -119,7 +142,8 @@ module _ (k : ℕ) (l : Layout) (r : Reservation) (laid : IsLaid l) (is : record
 
   module _ (next : ℕ) (cur : Layout) (down : IsDown k next l cur r) where
     -- a part of more than the size is split
-    pub IsDown-split : (s j m : ℕ) → record_at cur (part_at s r j).frame ≡ Some (part_at s r j) → j < part_count s r → s ≤ r.size → k ≤ m → m ≤ s → next ≤ (part_at s r j).frame → IsDown k next l (parted m (part_at s r j) cur) r
+    pub IsDown-split : (s j m : ℕ) → record_at cur (part_at s r j).frame ≡ Some (part_at s r j) → j < part_count s r → s ≤ r.size → k ≤ m
+        → m ≤ s → next ≤ (part_at s r j).frame → IsDown k next l (parted m (part_at s r j) cur) r
     IsDown-split s j m stands one low from le above =
         let q = part_at s r j in
         let sound = down.settles.laid in
@@ -153,7 +177,8 @@ module _ (k : ℕ) (l : Layout) (r : Reservation) (laid : IsLaid l) (is : record
         }
 
     -- at a frame at which nothing larger stands the next part is looked at
-    pub IsDown-next : (c : ℕ) → next ≡ r.frame + c * 8 ^ k → next + 8 ^ k ≤ end → ((q : Reservation) → record_at cur next ≡ Some q → q.size ≡ k) → IsDown k (next + 8 ^ k) l cur r
+    pub IsDown-next : (c : ℕ) → next ≡ r.frame + c * 8 ^ k → next + 8 ^ k ≤ end
+        → ((q : Reservation) → record_at cur next ≡ Some q → q.size ≡ k) → IsDown k (next + 8 ^ k) l cur r
     IsDown-next c multiple ends small = record {
       settles = down.settles;
       records_long = down.records_long;
@@ -209,17 +234,21 @@ module _ (k : ℕ) (l : Layout) (r : Reservation) (laid : IsLaid l) (is : record
         let in_who = has_frame_bounds f who.0 who.2 in
         let named = (other.settles.laid.placed place.0 who.0 who.1).named in
         elim (cases_lt place.0 r.frame) [
-          | inl before ↦ absurd (beside_not place.0 f (inl before) (ap (has_frame f) (sym (other.beside place.0 (inl before))) ∙ place.1) (omega (arith, bounds.0, inside.0)) (omega (arith, bounds.1, inside.1)))
+          | inl before ↦ absurd (beside_not place.0 f (inl before) (ap (has_frame f) (sym (other.beside place.0 (inl before))) ∙ place.1)
+              (omega (arith, bounds.0, inside.0)) (omega (arith, bounds.1, inside.1)))
           | inr from ↦ elim (cases_lt place.0 end) [
-            | inr past ↦ absurd (beside_not place.0 f (inr past) (ap (has_frame f) (sym (other.beside place.0 (inr past))) ∙ place.1) (omega (arith, bounds.0, inside.0)) (omega (arith, bounds.1, inside.1)))
+            | inr past ↦ absurd (beside_not place.0 f (inr past) (ap (has_frame f) (sym (other.beside place.0 (inr past))) ∙ place.1)
+                (omega (arith, bounds.0, inside.0)) (omega (arith, bounds.1, inside.1)))
             | inl within ↦
                 let also = other.parts place.0 who.0 from within who.1 in
                 let also_size = other.done place.0 who.0 from within who.1 in
                 let mine : part_at k r part.index ≡ q = ap (λ n. part_at n r part.index) (sym size) ∙ part.is in
                 let its : part_at k r also.index ≡ who.0 = ap (λ n. part_at n r also.index) (sym also_size) ∙ also.is in
-                let index = same_part k r f part.index also.index (ap (λ p. has_frame f (Some p)) mine ∙ some.1) (ap (λ p. has_frame f (Some p)) its ∙ who.2) in
+                let index = same_part k r f part.index also.index (ap (λ p. has_frame f (Some p)) mine ∙ some.1)
+                (ap (λ p. has_frame f (Some p)) its ∙ who.2) in
                 let one : who.0 ≡ q = sym its ∙ ap (part_at k r) (sym index) ∙ mine in
-                let here : place.0 ≡ id = sym named ∙ ap (λ (p : Reservation). p.frame) one ∙ (down.settles.laid.placed id q stands).named in
+                let here : place.0 ≡ id = sym named ∙ ap (λ (p : Reservation). p.frame) one
+                ∙ (down.settles.laid.placed id q stands).named in
                 ap (record_at b) (sym here) ∙ who.1 ∙ ap Some one
           ]
         ]
@@ -240,13 +269,15 @@ module _ (k : ℕ) (l : Layout) (r : Reservation) (laid : IsLaid l) (is : record
     ]
   ]
     where
-      inside : (o p : Option Reservation) → record_at a id ≡ o → record_at b id ≡ p → r.frame ≤ id → id < r.frame + 8 ^ r.size → record_at a id ≡ record_at b id
+      inside : (o p : Option Reservation) → record_at a id ≡ o → record_at b id ≡ p → r.frame ≤ id → id < r.frame + 8 ^ r.size
+          → record_at a id ≡ record_at b id
       inside (Some q) p at also low high = at ∙ sym (carried k l r laid is a b down other id q low high at)
       inside None (Some q) at also low high = absurd (none-some q (sym at ∙ carried k l r laid is b a other down id q low high also))
       inside None None at also low high = at ∙ sym also
 
 -- a frame that is free in one of them is free in the other
-free_also : (l a b : Layout) → Settles l a → Settles l b → ((id : ℕ) → record_at a id ≡ record_at b id) → (f : ℕ) → is_free a f ≡ true → is_free b f ≡ true
+free_also : (l a b : Layout) → Settles l a → Settles l b → ((id : ℕ) → record_at a id ≡ record_at b id) → (f : ℕ) → is_free a f ≡ true
+    → is_free b f ≡ true
 free_also l a b first second same f free = elim ((second.within f).1 ((first.within f).0 (inl free))) [
   | inl is ↦ is
   | inr has ↦ absurd (first.laid.not_free f has.0 free (ap (has_frame f) (same has.0) ∙ has.1))
@@ -269,7 +300,9 @@ pub down_once : (k : ℕ) (l : Layout) (r : Reservation) → IsLaid l → record
 down_once k l r laid is a b down other =
     let same = same_record k l r laid is a b down other in
     same_layout a b (down.settles.sizes ∙ sym other.settles.sizes)
-    (ext_get_or false a.free b.free (down.settles.long ∙ sym other.settles.long) (λ f _. same_bool (is_free a f) (is_free b f) (free_also l a b down.settles other.settles same f) (free_also l b a other.settles down.settles (λ id. sym (same id)) f)))
+    (ext_get_or false a.free b.free (down.settles.long ∙ sym other.settles.long)
+    (λ f _. same_bool (is_free a f) (is_free b f) (free_also l a b down.settles other.settles same f)
+    (free_also l b a other.settles down.settles (λ id. sym (same id)) f)))
     (ext_get_or None a.records b.records (down.records_long ∙ sym other.records_long) (λ id _. same id))
     (down.settles.used ∙ sym other.settles.used)
 
@@ -317,7 +350,8 @@ IsGoing-start size end id l r laid is less ends =
       ends = omega (arith, ends, named);
       laid = laid;
       less = less;
-      down = subst (λ n. IsDown size n l l r) named (IsDown-start size l r laid (own_is l id r laid is) (omega arith) (Settles-same l laid));
+      down = subst (λ n. IsDown size n l l r) named (IsDown-start size l r laid (own_is l id r laid is) (omega arith)
+          (Settles-same l laid));
       index = 0;
       at = omega (arith, named);
       low = omega (arith, ends);
@@ -345,9 +379,22 @@ module _ (size next end id : ℕ) (l cur : Layout) (going : IsGoing size next en
       let at_part : record_at cur (part_at q.size r part.index).frame ≡ Some (part_at q.size r part.index) =
       ap (λ (p : Reservation). record_at cur p.frame) part.is ∙ ap (record_at cur) named ∙ found.1 ∙ ap Some (sym part.is) in
       let begins : next ≤ (part_at q.size r part.index).frame = omega (arith, ap (λ (p : Reservation). p.frame) part.is, named) in
-      let down = IsDown-split size l r going.laid r_is next cur going.down q.size part.index (q.size - 1) at_part part.below part.high (omega (arith, found.2)) (omega arith) begins in
-      let down_new : IsDown size next l new r = subst (λ m. IsDown size next l m r) (sym done) (subst (λ p. IsDown size next l (parted (q.size - 1) p cur) r) part.is down) in
-      record { whole = r; is = going.is; named = going.named; ends = going.ends; laid = going.laid; less = going.less; down = down_new; index = going.index; at = going.at; low = going.low }
+      let down = IsDown-split size l r going.laid r_is next cur going.down q.size part.index (q.size - 1) at_part part.below part.high
+      (omega (arith, found.2)) (omega arith) begins in
+      let down_new : IsDown size next l new r = subst (λ m. IsDown size next l m r) (sym done)
+      (subst (λ p. IsDown size next l (parted (q.size - 1) p cur) r) part.is down) in
+      record {
+        whole = r;
+        is = going.is;
+        named = going.named;
+        ends = going.ends;
+        laid = going.laid;
+        less = going.less;
+        down = down_new;
+        index = going.index;
+        at = going.at;
+        low = going.low;
+      }
 
   pub IsGoing-skip : next < end → is_larger size (record_at cur next) ≡ false → IsGoing size (next + 8 ^ size) end id l cur
   IsGoing-skip inside small =
@@ -373,11 +420,13 @@ module _ (size next end id : ℕ) (l cur : Layout) (going : IsGoing size next en
   going_done past =
       let all : next ≡ r.frame + 8 ^ r.size = omega (arith, past, going.low, going.ends) in
       let down = subst (λ n. IsDown size n l cur r) all going.down in
-      subst (λ o. IfSome o (λ p. cur ≡ parted size p l)) (sym going.is) (down_parted size l cur r going.laid r_is (omega (arith, going.less)) down)
+      subst (λ o. IfSome o (λ p. cur ≡ parted size p l)) (sym going.is)
+      (down_parted size l cur r going.laid r_is (omega (arith, going.less)) down)
 
   -- how far it is from the end
   pub split_nearer : (new : Layout) → next < end → is_larger size (record_at cur next) ≡ true
-      → IfSome (record_at cur next) (λ q. new ≡ parted (q.size - 1) q cur) → size_there (record_at new next) < size_there (record_at cur next)
+      → IfSome (record_at cur next) (λ q. new ≡ parted (q.size - 1) q cur)
+      → size_there (record_at new next) < size_there (record_at cur next)
   split_nearer new inside larger split =
       let found = larger_some size (record_at cur next) larger in
       let q = found.0 in
@@ -386,11 +435,13 @@ module _ (size next end id : ℕ) (l cur : Layout) (going : IsGoing size next en
       let sound = going.down.settles.laid in
       let split_is = IsSplit-parted (q.size - 1) cur q sound.records_long (placed_own cur next q sound found.1) (omega arith) in
       let first : (part_at (q.size - 1) q 0).frame ≡ next = omega (arith, named) in
-      let there : record_at new next ≡ kept_at (q.size - 1) (is_used cur.used) q 0 = ap (λ m. record_at m next) done ∙ ap (record_at (parted (q.size - 1) q cur)) (sym first) ∙ split_is.parts 0 (eight_pos (q.size - (q.size - 1))) in
+      let there : record_at new next ≡ kept_at (q.size - 1) (is_used cur.used) q 0 = ap (λ m. record_at m next) done
+      ∙ ap (record_at (parted (q.size - 1) q cur)) (sym first) ∙ split_is.parts 0 (eight_pos (q.size - (q.size - 1))) in
       let size_now : size_there (record_at cur next) ≡ q.size = ap size_there found.1 in
       elim (kept_at-cases (q.size - 1) (is_used cur.used) q 0) [
         | inl none ↦ let now : size_there (record_at new next) ≡ 0 = ap size_there (there ∙ none.0) in omega (arith, now, size_now, found.2)
-        | inr kept ↦ let now : size_there (record_at new next) ≡ q.size - 1 = ap size_there (there ∙ kept.0) in omega (arith, now, size_now, found.2)
+        | inr kept ↦ let now : size_there (record_at new next) ≡ q.size - 1 = ap size_there (there ∙ kept.0) in
+            omega (arith, now, size_now, found.2)
       ]
 
 -- at most size 3 stands anywhere

@@ -84,16 +84,21 @@ module _ (l new : Layout) (stamp space page : ℕ) (want : Want) (preferred size
       ∙ ap (λ r. with_reservation r page (without_extent finds.found)) added_is
 
   placing_is : placing stamp space page want l ≡ Some (reserved stamp space page finds.found)
-  placing_is = ap (placing_in stamp space page want l) none ∙ ap (option_map (reserved stamp space page)) (ap (λ k. largest_extent k l) (sym preferred_is) ∙ finds.is)
+  placing_is = ap (placing_in stamp space page want l) none ∙ ap (option_map (reserved stamp space page))
+      (ap (λ k. largest_extent k l) (sym preferred_is) ∙ finds.is)
 
   pub IsLaid-added : IsLaid l → frame_in l space page ≡ None → IsLaid (with_reservation added page new)
   IsLaid-added laid unplaced =
-      subst IsLaid (sym layout_is) (WasPlaced-placing l stamp space page want (reserved stamp space page finds.found) laid unplaced placing_is).laid
+      subst IsLaid (sym layout_is) (WasPlaced-placing l stamp space page want
+      (reserved stamp space page finds.found) laid unplaced placing_is).laid
 
   pub PlacesPage-added : IsLaid l → frame_in l space page ≡ None
       → PlacesPage l (with_reservation added page new) (placing stamp space page want l) (frame_for page added) broken
   PlacesPage-added laid unplaced =
       let few : finds.found.broken ≤ 1 = omega (arith, finds.same_broken, finds.few_broken) in
-      let places = PlacesPage-from l (with_reservation added page new) stamp space page want (reserved stamp space page finds.found) laid unplaced placing_is layout_is few in
-      subst (λ f. PlacesPage l (with_reservation added page new) (placing stamp space page want l) f broken) (sym (ap (frame_for page) added_is))
-      (subst (PlacesPage l (with_reservation added page new) (placing stamp space page want l) (reserved stamp space page finds.found).frame) (sym finds.same_broken) places)
+      let places = PlacesPage-from l (with_reservation added page new) stamp space page want
+      (reserved stamp space page finds.found) laid unplaced placing_is layout_is few in
+      subst (λ f. PlacesPage l (with_reservation added page new) (placing stamp space page want l) f broken)
+      (sym (ap (frame_for page) added_is))
+      (subst (PlacesPage l (with_reservation added page new) (placing stamp space page want l)
+      (reserved stamp space page finds.found).frame) (sym finds.same_broken) places)

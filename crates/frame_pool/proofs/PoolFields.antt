@@ -44,25 +44,31 @@ AreHere-set frames used at frame place here long fits = λ f known.
     let within : f < length frames = omega (arith, length-set frames at frame) in
     elim (cases_eq f at) [
       | inl same ↦
-          let at_frames : get_or (set frames at frame) f None ≡ frame = ap (λ k. get_or (set frames at frame) k None) same ∙ get_or-set_same frames at frame None (omega (arith, same)) in
-          let at_used : get_or (set used at place) f None ≡ place = ap (λ k. get_or (set used at place) k None) same ∙ get_or-set_same used at place None (omega (arith, same)) in
-          ap number_in at_frames ∙ fits ∙ ap (λ k. cond (is_some place) None (Some k)) (sym same) ∙ ap (λ o. cond (is_some o) None (Some f)) (sym at_used)
+          let at_frames : get_or (set frames at frame) f None ≡ frame = ap (λ k. get_or (set frames at frame) k None) same
+          ∙ get_or-set_same frames at frame None (omega (arith, same)) in
+          let at_used : get_or (set used at place) f None ≡ place = ap (λ k. get_or (set used at place) k None) same
+          ∙ get_or-set_same used at place None (omega (arith, same)) in
+          ap number_in at_frames ∙ fits ∙ ap (λ k. cond (is_some place) None (Some k)) (sym same)
+          ∙ ap (λ o. cond (is_some o) None (Some f)) (sym at_used)
       | inr other ↦
-          ap number_in (get_or-set_other frames at f frame None other) ∙ here f within ∙ ap (λ o. cond (is_some o) None (Some f)) (sym (get_or-set_other used at f place None other))
+          ap number_in (get_or-set_other frames at f frame None other) ∙ here f within
+          ∙ ap (λ o. cond (is_some o) None (Some f)) (sym (get_or-set_other used at f place None other))
     ]
 
 -- which places are used is all that counts
 AreHere-same : (frames : List (Option Framed)) (used after : List (Option Used)) → AreHere frames used
     → map is_some after ≡ map is_some used → AreHere frames after
 AreHere-same frames used after here same = λ f known.
-    let still : is_some (get_or used f None) ≡ is_some (get_or after f None) = sym (get_or-map is_some used f None) ∙ sym (ap (λ us. get_or us f false) same) ∙ get_or-map is_some after f None in
+    let still : is_some (get_or used f None) ≡ is_some (get_or after f None) = sym (get_or-map is_some used f None)
+    ∙ sym (ap (λ us. get_or us f false) same) ∙ get_or-map is_some after f None in
     here f known ∙ ap (λ b. cond b None (Some f)) still
 
 -- A pool after a move.
 
 -- the layout of a pool is that of its state
 pub layout_of-pool : (p : Inside) → IsPool p.frames.items p.layout p.used.processors (state_of p) → layout_of (state_of p) ≡ p.layout
-layout_of-pool p pool = ap (λ us. record { sizes = p.layout.sizes; free = p.layout.free; records = p.layout.records; used = us }) (sym pool.same_used)
+layout_of-pool p pool = ap (λ us. record { sizes = p.layout.sizes; free = p.layout.free; records = p.layout.records; used = us })
+    (sym pool.same_used)
 
 -- so this layout is sound
 laid : (p : Inside) → IsPool p.frames.items p.layout p.used.processors (state_of p) → IsLaid p.layout
@@ -73,11 +79,13 @@ pub used_long : (frames : List (Option Framed)) (l : Layout) (claimers : ℕ) (s
 used_long frames l claimers st pool = sym (length-map st.used is_some) ∙ pool.sound.laid.used_long ∙ sym pool.frames_known
 
 -- what a move leaves is a pool, where the state stays sound and the frames are there as it says
-IsPool-after : (frames : List (Option Framed)) (l : Layout) (claimers : ℕ) (st : FrameState) (moved : List (Option Framed)) (m : Layout) (after : FrameState)
+IsPool-after : (frames : List (Option Framed)) (l : Layout) (claimers : ℕ) (st : FrameState) (moved : List (Option Framed)) (m : Layout)
+    (after : FrameState)
     → IsPool frames l claimers st → IsSound (length st.free) (length st.held) after → m.used ≡ map is_some after.used
     → length moved ≡ length frames → AreHere moved after.used → after.preemptions ≤ after.entries → IsPool moved m claimers after
 IsPool-after frames l claimers st moved m after pool sound same long here few = record {
-  sound = subst (λ n. IsSound n (length after.held) after) (sym sound.known) (subst (λ n. IsSound (length st.free) n after) (sym sound.processors_known) sound);
+  sound = subst (λ n. IsSound n (length after.held) after) (sym sound.known)
+      (subst (λ n. IsSound (length st.free) n after) (sym sound.processors_known) sound);
   same_used = same;
   few_frames = omega (arith, sound.known, pool.few_frames);
   few_processors = omega (arith, sound.processors_known, pool.few_processors);
@@ -98,7 +106,8 @@ IsPool-reclaimed : (frames : List (Option Framed)) (l : Layout) (claimers : ℕ)
     → IsPool frames l claimers (counted (claimed st at claim))
 IsPool-reclaimed frames l claimers st at claim pool sound =
     let still = map-set_same is_some st.used at (with_claim claim (used_at st at)) None (used_claimed claim (used_at st at)) in
-    IsPool-after frames l claimers st frames l (counted (claimed st at claim)) pool (IsSound-counted _ _ (claimed st at claim) sound) (pool.same_used ∙ sym still) refl
+    IsPool-after frames l claimers st frames l (counted (claimed st at claim)) pool (IsSound-counted _ _ (claimed st at claim) sound)
+    (pool.same_used ∙ sym still) refl
     (AreHere-same frames st.used (set st.used at (with_claim claim (used_at st at))) pool.here still)
     (omega (arith, pool.few_broken))
 
@@ -118,14 +127,19 @@ pub held_read : (st : FrameState) (c frame : ℕ) (read : Option ℕ) → IsSome
 held_read st c frame read holds is found = sym (get_or_read st.held c read known is None) ∙ found
   where
     known : c < length st.held
-    known = elim (cases_lt c (length st.held)) [ inl within ↦ within | inr past ↦ absurd (false≢true (subst IsSome (get_or_past st.held c None past) holds)) ]
+    known = elim (cases_lt c (length st.held)) [
+      | inl within ↦ within
+      | inr past ↦
+          absurd (false≢true (subst IsSome (get_or_past st.held c None past) holds))
+    ]
 
 -- a held frame is put back
 pub IsPool-dropped : (frames : List (Option Framed)) (l : Layout) (claimers : ℕ) (st : FrameState) (c frame : ℕ)
     → IsPool frames l claimers st → held_by st c ≡ Some frame → IsPool frames (put_back frame l) claimers (dropped_in st c (Some frame))
 IsPool-dropped frames l claimers st c frame pool holds =
     let sound = subst (λ o. IsSound (length st.free) (length st.held) (dropped_in st c o)) holds (IsSound-dropped _ _ st c pool.sound) in
-    IsPool-after frames l claimers st frames (put_back frame l) (dropped_in st c (Some frame)) pool sound pool.same_used refl pool.here pool.few_broken
+    IsPool-after frames l claimers st frames (put_back frame l) (dropped_in st c
+    (Some frame)) pool sound pool.same_used refl pool.here pool.few_broken
 
 -- At first all frames are there.
 
@@ -231,7 +245,8 @@ module _ (p : Inside) (space page : ℕ) (want : Want) (m : Layout) (frame broke
   -- so it is there
   pub frame_there : (read : Option Framed) → read ≡ get_or p.frames.items frame read → number_in read ≡ Some frame
   frame_there read is =
-      ap number_in (get_or_read p.frames.items frame read frame_known is None) ∙ pool.here frame frame_known ∙ ap (λ b. cond b None (Some frame)) was_unused
+      ap number_in (get_or_read p.frames.items frame read frame_known is None) ∙ pool.here frame frame_known
+      ∙ ap (λ b. cond b None (Some frame)) was_unused
 
   pub IsPool-taken : IsPool (set p.frames.items frame None) m p.used.processors (state_taken (state_of p) m want frame broken)
   IsPool-taken =
@@ -250,7 +265,15 @@ module _ (p : Inside) (space page : ℕ) (want : Want) (m : Layout) (frame broke
 -- the state once a frame was given up in this layout, with these held frames
 abbrev pub state_given : FrameState → Layout → ℕ → List (Option ℕ) → FrameState
 state_given st m frame held =
-    record { sizes = m.sizes; free = m.free; records = m.records; used = set st.used frame None; held = held; entries = st.entries; preemptions = st.preemptions }
+    record {
+      sizes = m.sizes;
+      free = m.free;
+      records = m.records;
+      used = set st.used frame None;
+      held = held;
+      entries = st.entries;
+      preemptions = st.preemptions;
+    }
 
 -- A page gives its frame up, and the layout is moved by the claim that was read.
 module _ (p : Inside) (space page frame : ℕ) (pool : IsPool p.frames.items p.layout p.used.processors (state_of p))
@@ -279,22 +302,28 @@ module _ (p : Inside) (space page frame : ℕ) (pool : IsPool p.frames.items p.l
 
   module _ (claim : Option ℕ) (m : Layout) (claims : claim ≡ claim_in (used_at (state_of p) frame)) (moves : (id : ℕ) → IfSome (record_at p.layout id) (λ r. has_frame frame (Some r) ≡ true → m ≡ layout_given claim frame r p.layout)) where
     moved : m ≡ layout_given claim frame giver p.layout
-    moved = subst (λ o. IfSome o (λ r. has_frame frame (Some r) ≡ true → m ≡ layout_given claim frame r p.layout)) place.is (moves place.id) giver_has
+    moved = subst (λ o. IfSome o (λ r. has_frame frame (Some r) ≡ true → m ≡ layout_given claim frame r p.layout)) place.is
+        (moves place.id) giver_has
 
     pub give_page-is : state_given (state_of p) m frame (held_given claim frame p.held.items) ≡ give_page (state_of p) space page
     give_page-is =
         let st = state_of p in
-        ap (λ k. state_given st k frame (held_given claim frame st.held)) (moved ∙ ap (layout_given claim frame giver) (sym (layout_of-pool p pool)))
+        ap (λ k. state_given st k frame (held_given claim frame st.held))
+        (moved ∙ ap (layout_given claim frame giver) (sym (layout_of-pool p pool)))
         ∙ ap (λ o. state_given st (layout_given o frame giver (layout_of st)) frame (held_given o frame st.held)) claims
         ∙ ap (λ f. given st f giver) place.frame
         ∙ sym (ap (given_in st page) (covering-is (layout_of st) space page place.id giver pool.sound.laid place.is place.covers_page))
 
-    pub IsPool-given : (back : Framed) → back.number ≡ frame → IsPool (set p.frames.items frame (Some back)) m p.used.processors (state_given (state_of p) m frame (held_given claim frame p.held.items))
+    pub IsPool-given : (back : Framed) → back.number ≡ frame → IsPool (set p.frames.items frame (Some back)) m p.used.processors
+        (state_given (state_of p) m frame (held_given claim frame p.held.items))
     IsPool-given back numbered =
         let st = state_of p in
-        IsPool-after p.frames.items p.layout p.used.processors st (set p.frames.items frame (Some back)) m (state_given st m frame (held_given claim frame st.held)) pool
+        IsPool-after p.frames.items p.layout p.used.processors st (set p.frames.items frame (Some back)) m
+        (state_given st m frame (held_given claim frame st.held)) pool
         (subst (IsSound (length st.free) (length st.held)) (sym give_page-is) (IsSound-give_page _ _ st space page frame pool.sound is))
-        (ap (λ k. k.used) moved ∙ used_given claim ∙ ap (λ us. set us frame false) pool.same_used ∙ sym (map-set is_some st.used frame None))
+        (ap (λ k. k.used) moved ∙ used_given claim ∙ ap (λ us. set us frame false) pool.same_used
+        ∙ sym (map-set is_some st.used frame None))
         (length-set p.frames.items frame (Some back))
-        (AreHere-set p.frames.items st.used frame (Some back) None pool.here (used_long p.frames.items p.layout p.used.processors st pool) (ap Some numbered))
+        (AreHere-set p.frames.items st.used frame (Some back) None pool.here (used_long p.frames.items p.layout p.used.processors st pool)
+        (ap Some numbered))
         pool.few_broken

@@ -15,4 +15,5 @@ same_size-is (Some m) (Some n) = refl
 -- where no number of a range passes none is found
 pub find_none : (p : ℕ → Bool) (a n : ℕ) → ((k : ℕ) → a ≤ k → k < a + n → p k ≡ false) → find p (range_with_len a n) ≡ None
 find_none p a zero fails = refl
-find_none p a (suc n) fails = cond-false _ _ _ (fails a (omega arith) (omega arith)) ∙ find_none p (a + 1) n (λ k low high. fails k (omega arith) (omega arith))
+find_none p a (suc n) fails = cond-false _ _ _ (fails a (omega arith) (omega arith))
+    ∙ find_none p (a + 1) n (λ k low high. fails k (omega arith) (omega arith))

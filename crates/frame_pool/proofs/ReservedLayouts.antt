@@ -30,13 +30,15 @@ IsLaid-fewer l free laid long fewer = record {
 -- or none is
 pub IsLaid-none_free : (l : Layout) (frames : ℕ) → IsLaid l → length l.free ≡ frames → IsLaid (with_free (replicate frames false) l)
 IsLaid-none_free l frames laid long =
-    IsLaid-fewer l (replicate frames false) laid (length-replicate frames false ∙ sym long) (λ f free. absurd (false≢true (sym (get_or-alike frames f false) ∙ free)))
+    IsLaid-fewer l (replicate frames false) laid (length-replicate frames false ∙ sym long)
+    (λ f free. absurd (false≢true (sym (get_or-alike frames f false) ∙ free)))
 
 -- also with one reservation more, where it is sound with some frames free
 pub IsLaid-with : (l : Layout) (r : Reservation) (page frames : ℕ) → IsLaid l → length l.free ≡ frames → (free : List Bool)
     → IsLaid (with_free free (with_reservation r page l)) → IsLaid (with_free (replicate frames false) (with_reservation r page l))
 IsLaid-with l r page frames laid known free after =
-    IsLaid-none_free (with_free free (with_reservation r page l)) frames after (sym after.records_long ∙ length-set l.records r.frame (Some r) ∙ laid.records_long ∙ known)
+    IsLaid-none_free (with_free free (with_reservation r page l)) frames after
+    (sym after.records_long ∙ length-set l.records r.frame (Some r) ∙ laid.records_long ∙ known)
 
 -- A used place goes.
 
@@ -47,19 +49,34 @@ IsLaid-without_place l frame r laid is has used =
     let gives = Gives-vacate l r.frame frame r laid is has used in
     let fits : r.frame + 8 ^ r.size ≤ length l.free = omega (arith, (laid.placed r.frame r is).within, laid.records_long) in
     IsLaid-fewer (vacate_layout frame r l) l.free gives.laid (sym gives.long) (λ f free.
-    cond_both (is_last frame r l) (with_range l.free r.frame (8 ^ r.size) true) l.free (λ fs. get_or fs f false ≡ true) (λ _. (with_range_free l.free r.frame (8 ^ r.size) fits f).1 (inl free)) (λ _. free))
+    cond_both (is_last frame r l) (with_range l.free r.frame (8 ^ r.size) true) l.free (λ fs. get_or fs f false ≡ true)
+    (λ _. (with_range_free l.free r.frame (8 ^ r.size) fits f).1 (inl free)) (λ _. free))
 
 -- a reservation whose last used place this was goes, and another one stays
-pub vacated : (l : Layout) (frame : ℕ) (r : Reservation) (last : Bool) (st : Records) → is_last frame r l ≡ last → st ≡ record { records = cond last (set l.records r.frame None) l.records; used = set l.used frame false } → record { sizes = l.sizes; free = l.free; records = st.records; used = st.used } ≡ without_place frame r l
+pub vacated : (l : Layout) (frame : ℕ) (r : Reservation) (last : Bool) (st : Records) → is_last frame r l ≡ last
+    → st ≡ record { records = cond last (set l.records r.frame None) l.records; used = set l.used frame false }
+    → record { sizes = l.sizes; free = l.free; records = st.records; used = st.used } ≡ without_place frame r l
 vacated l frame r last st is kept =
     let with_records : Records → Layout = λ k. record { sizes = l.sizes; free = l.free; records = k.records; used = k.used } in
-    let by_last : Bool → Layout = λ b. record { sizes = l.sizes; free = l.free; records = cond b (set l.records r.frame None) l.records; used = set l.used frame false } in
+    let by_last : Bool → Layout =
+    λ b. record {
+      sizes = l.sizes;
+      free = l.free;
+      records = cond b (set l.records r.frame None) l.records;
+      used = set l.used frame false;
+    } in
     ap with_records kept ∙ sym (ap by_last is)
 
 -- a reservation of one frame goes with it
 pub without_only : (l : Layout) (frame : ℕ) (r : Reservation) → r.frame ≡ frame → r.size ≡ 0 → without_place frame r l ≡ take_out frame l
 without_only l frame r named one =
-    let left : Bool → ℕ → Layout = λ b f. record { sizes = l.sizes; free = l.free; records = cond b (set l.records f None) l.records; used = set l.used frame false } in
+    let left : Bool → ℕ → Layout =
+    λ b f. record {
+      sizes = l.sizes;
+      free = l.free;
+      records = cond b (set l.records f None) l.records;
+      used = set l.used frame false;
+    } in
     let used = is_used (set l.used frame false) in
     let alone : none_used used frame 1 ≡ true = rw (get_or-set_default l.used frame frame false refl) refl in
     let last : is_last frame r l ≡ true = ap (λ k. none_used used r.frame (8 ^ k)) one ∙ ap (λ f. none_used used f 1) named ∙ alone in

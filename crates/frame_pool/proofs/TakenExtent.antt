@@ -32,13 +32,16 @@ module _ (found : Found) (laid : IsLaid found.layout) (is : choice found.layout.
   IsLaid-without = IsLaid-fewer found.layout (without_extent found).free laid without-long (λ f still.
       range_cases found.first (8 ^ found.size) (λ g. is_free (without_extent found) g ≡ true → is_free found.layout g ≡ true)
       (λ g out now. sym (with_range_outside found.layout.free found.first (8 ^ found.size) false within g out) ∙ now)
-      (λ g low high now. absurd (false≢true (sym (with_range_inside found.layout.free found.first (8 ^ found.size) false within g low high) ∙ now)))
+      (λ g low high now. absurd
+      (false≢true (sym (with_range_inside found.layout.free found.first (8 ^ found.size) false within g low high) ∙ now)))
       f still)
 
   -- no reservation has a frame of it
-  out_of_all : (frame id : ℕ) → found.first ≤ frame → frame < found.first + 8 ^ found.size → has_frame frame (record_at found.layout id) ≡ false
+  out_of_all : (frame id : ℕ) → found.first ≤ frame → frame < found.first + 8 ^ found.size
+      → has_frame frame (record_at found.layout id) ≡ false
   out_of_all frame id low high =
-      let free = (run_free_exactly found.layout.free found.first (8 ^ found.size)).0 (run_free-choice found.layout.free found.size found.first is) frame low high in
+      let free = (run_free_exactly found.layout.free found.first (8 ^ found.size)).0
+      (run_free-choice found.layout.free found.size found.first is) frame low high in
       elim (has_frame frame (record_at found.layout id)) as (λ b. has_frame frame (record_at found.layout id) ≡ b → b ≡ false) [
         | true ↦ λ has. absurd (laid.not_free frame id free has)
         | false ↦ λ has. refl
@@ -65,7 +68,8 @@ module _ (found : Found) (laid : IsLaid found.layout) (is : choice found.layout.
 pub extent_of-free : (size first : ℕ) (l : Layout) → choice l.free size ≡ Some first
     → extent_of size l ≡ Some (record { layout = l; size = size; first = first; broken = 0 })
 extent_of-free size first l is =
-    ap (λ o. option_or (option_map (λ f. record { layout = l; size = size; first = f; broken = 0 }) o) (option_and_then (λ id. chosen size 1 (broken_at id l)) (to_break l size))) is
+    ap (λ o. option_or (option_map (λ f. record { layout = l; size = size; first = f; broken = 0 }) o)
+    (option_and_then (λ id. chosen size 1 (broken_at id l)) (to_break l size))) is
 
 -- and where there is none, one that breaking a reservation frees
 pub extent_of-broken : (size id first : ℕ) (l new : Layout) → choice l.free size ≡ None → to_break l size ≡ Some id → new ≡ broken_at id l
@@ -86,7 +90,8 @@ module _ (l : Layout) (size id : ℕ) (laid : IsLaid l) (oldest : to_break l siz
       let w = oldest_from-found l size (3 - size) id laid.placed oldest in
       let some = laid.some_used id w.0 w.4 in
       let less = yield_less l.sizes (is_used l.used) w.0 w.1 some.0 some.1 some.2 w.5 in
-      subst (λ o. IsSomeAnd o (λ r. (0 < r.size) × IsSome (yield_in l.sizes (is_used l.used) r))) (sym w.4) (omega (arith, less), ap is_some w.5)
+      subst (λ o. IsSomeAnd o (λ r. (0 < r.size) × IsSome (yield_in l.sizes (is_used l.used) r))) (sym w.4)
+      (omega (arith, less), ap is_some w.5)
 
   -- and then there is a choice
   pub choice-oldest : is_some (choice (broken_at id l).free size) ≡ true
@@ -94,7 +99,8 @@ module _ (l : Layout) (size id : ℕ) (laid : IsLaid l) (oldest : to_break l siz
       let w = oldest_from-found l size (3 - size) id laid.placed oldest in
       let broken : broken_at id l ≡ break_layout w.0 l = ap (λ o. option_map_or (λ r. break_layout r l) o l) w.4 in
       elim (choice (broken_at id l).free size) as (λ o. choice (broken_at id l).free size ≡ o → is_some o ≡ true) [
-        | None ↦ λ none. absurd (choice-break l id w.0 w.1 size laid w.4 w.5 w.2 (sym (ap (λ (m : Layout). choice m.free size) broken) ∙ none))
+        | None ↦ λ none. absurd (choice-break l id w.0 w.1 size laid w.4 w.5 w.2
+            (sym (ap (λ (m : Layout). choice m.free size) broken) ∙ none))
         | Some first ↦ λ is. refl
       ] refl
 
@@ -108,12 +114,14 @@ largest_below (suc size) l = largest_extent size l
 -- size by size
 largest_step : (size : ℕ) (l : Layout) → largest_extent (suc size) l ≡ option_or (extent_there (suc size) l) (largest_extent size l)
 largest_step size l =
-    elim (has_size l.sizes (suc size)) as (λ b. cond b (option_or (extent_of (suc size) l) (largest_extent size l)) (largest_extent size l) ≡ option_or (cond b (extent_of (suc size) l) None) (largest_extent size l)) [
+    elim (has_size l.sizes (suc size)) as (λ b. cond b (option_or (extent_of (suc size) l) (largest_extent size l))
+    (largest_extent size l) ≡ option_or (cond b (extent_of (suc size) l) None) (largest_extent size l)) [
       | true ↦ refl
       | false ↦ refl
     ]
 
-pub largest_below-found : (l : Layout) (n size : ℕ) (found : Found) → n ≡ suc size → extent_there size l ≡ Some found → extent_there size l ≡ largest_below n l
+pub largest_below-found : (l : Layout) (n size : ℕ) (found : Found) → n ≡ suc size → extent_there size l ≡ Some found
+    → extent_there size l ≡ largest_below n l
 largest_below-found l n zero found next is = sym (ap (λ m. largest_below m l) next)
 largest_below-found l n (suc size) found next is =
     sym (option_or-some (extent_there (suc size) l) (largest_extent size l) (ap is_some is))

@@ -31,7 +31,8 @@ pub is_listed-none : (z : SizeSet) (lists : Lists) (used : List Bool) (records :
 is_listed-none z lists used records id are placed none =
     let missing : (k : ℕ) → k < 3 → has_member_of id (list_at lists k) ≡ false =
     λ k small. ap (has_member_of id) (are k small)
-    ∙ list_any_none (λ m. eqb m.frame id) (list_of z used k records) (λ i d within. ne_eqb _ _ (others_of_list z used k records id placed none i d within)) in
+    ∙ list_any_none (λ m. eqb m.frame id) (list_of z used k records) (λ i d within. ne_eqb _ _
+    (others_of_list z used k records id placed none i d within)) in
     or_from _ _ (missing 0 (omega arith)) (or_from _ _ (missing 1 (omega arith)) (missing 2 (omega arith)))
 
 -- The reservation that begins at a frame goes out of the lists.
@@ -40,7 +41,8 @@ list_at-without_frame id lists zero = refl
 list_at-without_frame id lists (suc zero) = refl
 list_at-without_frame id lists (suc (suc k)) = refl
 
-pub AreListed-without_frame : (z : SizeSet) (lists : Lists) (used : List Bool) (records : List (Option Reservation)) (id : ℕ) (r : Reservation)
+pub AreListed-without_frame : (z : SizeSet) (lists : Lists) (used : List Bool) (records : List (Option Reservation)) (id : ℕ)
+    (r : Reservation)
     → AreListed z lists used records → ArePlaced records → get_or records id None ≡ Some r
     → AreListed z (without_frame id lists) used (set records id None)
 AreListed-without_frame z lists used records id r are placed is k small =
@@ -49,7 +51,8 @@ AreListed-without_frame z lists used records id r are placed is k small =
     let others = others_of_list z used k (set records id None) id rest_placed (get_or-set_default records id id None refl) in
     list_at-without_frame id lists k
     ∙ ap (without_member_of id) (are k small ∙ list_of-open z used k records id r is)
-    ∙ elim (same_size (yield_in z (is_used used) r) (Some k)) as (λ v. without_member_of id (cond v (with_member (member_of r) rest) rest) ≡ rest) [
+    ∙ elim (same_size (yield_in z (is_used used) r) (Some k)) as (λ v. without_member_of id
+    (cond v (with_member (member_of r) rest) rest) ≡ rest) [
       | true ↦ without_member_of-with id (member_of r) rest (placed id r is).named others
       | false ↦ without_member_of-none id rest others
     ]

@@ -6,4 +6,3 @@ pub mod ReservedState
 pub mod ReservedChanges
 pub mod PoolState
 pub mod Mapped
-pub mod Spaces

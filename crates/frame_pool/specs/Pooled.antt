@@ -4,7 +4,7 @@ use Rattle.pager_model.specs.Frame.{Framed}
 use Rattle.pager_model.specs.FrameStates.{FrameState, used_at}
 use Rattle.pager_model.specs.Layouts.{Layout}
 use Rattle.pager_laws.specs.Laid.{IsSound}
-use Rattle.pager_model.specs.Bounds.{most_frames}
+use Rattle.pager_model.specs.Bounds.{most_frames, most_actors}
 
 -- the number of the frame that is there, where one is
 abbrev pub number_in : Option Framed → Option ℕ
@@ -17,7 +17,7 @@ pub record IsPool (frames : List (Option Framed)) (layout : Layout) (claimers : 
   pub sound : IsSound (length st.free) (length st.held) st
   pub same_used : layout.used ≡ map is_some st.used
   pub few_frames : length st.free ≤ most_frames
-  pub few_processors : length st.held ≤ 17
+  pub few_processors : length st.held ≤ most_actors
   pub claimers_known : claimers ≡ length st.held
   pub frames_known : length frames ≡ length st.free
   pub here : (f : ℕ) → f < length frames → number_in (slice_index_or frames f None) ≡ (if is_some (used_at st f) then None else Some f)

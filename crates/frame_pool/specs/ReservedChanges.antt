@@ -17,7 +17,12 @@ none_reserved z frames = record { sizes = z; free = replicate frames false; reco
 -- a used place of a reservation is used no more, and a reservation without a used place is none any more
 abbrev pub without_place : ℕ → Reservation → Layout → Layout
 without_place frame r l =
-    record { sizes = l.sizes; free = l.free; records = if is_last frame r l then slice_set l.records r.frame None else l.records; used = slice_set l.used frame false }
+    record {
+      sizes = l.sizes;
+      free = l.free;
+      records = if is_last frame r l then slice_set l.records r.frame None else l.records;
+      used = slice_set l.used frame false;
+    }
 
 -- The used frame is a used place no more. Where its reservation had no other used place, it went, and its frames are told.
 pub record Vacates (old new : Layout) (frame : ℕ) (told : Option Extent) : Type 0 where
@@ -25,4 +30,5 @@ pub record Vacates (old new : Layout) (frame : ℕ) (told : Option Extent) : Typ
   pub stood : record_at old whole.frame ≡ Some whole
   pub had : has_frame frame (Some whole) ≡ true
   pub left : new ≡ without_place frame whole old
-  pub frames : MatchOption told (is_last frame whole old ≡ false) (λ e. (is_last frame whole old ≡ true) × (e ≡ record { size = whole.size; first = whole.frame }))
+  pub frames : MatchOption told (is_last frame whole old ≡ false) (λ e. (is_last frame whole old ≡ true)
+      × (e ≡ record { size = whole.size; first = whole.frame }))

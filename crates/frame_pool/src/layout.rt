@@ -10,8 +10,7 @@ ghost use Rattle.pager_model.specs.RecordPlaces.{IsPlaced};
 ghost use Rattle.reservations.specs.Parts.{told_parts};
 ghost use Rattle.pager_laws.specs.Laid.{IsIn, IsLaid};
 ghost use Rattle.frame_pool.specs.Placed.{CanBreak, extent_there, is_larger, FindsExtent, PlacesPage};
-ghost use Rattle.pager_model.specs.Bounds.{most_frames, space_pages};
-ghost use Rattle.frame_pool.specs.Spaces.{most_spaces};
+ghost use Rattle.pager_model.specs.Bounds.{most_frames, space_pages, most_spaces};
 
 use crate::free::{give, take};
 use crate::reserved::Reserved;

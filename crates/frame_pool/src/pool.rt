@@ -5,8 +5,7 @@ ghost use Rattle.pager_model.specs.FrameStates.{FrameState, Taking, start_frames
 ghost use Rattle.pager_model.specs.FrameStates.{take_frame, counted, give_page, claimed, dropped, IsFull, IsVictim, has_evictable, is_short};
 ghost use Rattle.pager_model.specs.FrameStates.{free_count, used_count, reserved_count, wired_count, claimed_count, held_count};
 ghost use Rattle.pager_model.specs.PreferredSize.{IsWanted};
-ghost use Rattle.pager_model.specs.Bounds.{most_frames, space_pages};
-ghost use Rattle.frame_pool.specs.Spaces.{most_spaces};
+ghost use Rattle.pager_model.specs.Bounds.{most_frames, space_pages, most_spaces, most_actors};
 
 use crate::layout::Layout;
 use crate::records::page_at;
@@ -85,7 +84,7 @@ impl Pool {
     ) -> Result<Pool, NoMemory>
         requires whole { frames % 512 ≡ 0 }
         requires frames { frames ≤ most_frames }
-        requires processors { processors ≤ 17 }
+        requires processors { processors ≤ most_actors }
         ensures { IfOk result (λ pool. pool ≡ start_frames sizes frames processors) }
     {
         Ok(Pool {
@@ -336,7 +335,7 @@ fn every_frame(alloc: Global, count: u32) -> Result<Vec<Option<Frame>>, NoMemory
 
 /// How many processors hold a frame.
 fn held_frames(held: &[Option<u32>]) -> u32
-    requires { length held.now ≤ 17 }
+    requires { length held.now ≤ most_actors }
     ensures { result ≡ count_by is_some held.now }
 {
     held.iter().filter(|frame| frame.is_some()).count() as u32

@@ -10,22 +10,18 @@ ghost use Rattle.reservations.specs.Kept.{CoversPage};
 ghost use Rattle.reservations.specs.Parts.{told_parts};
 ghost use Rattle.frame_pool.specs.Placed.{first_of, with_reservation};
 ghost use Rattle.frame_pool.specs.ReservedChanges.{Vacates, none_reserved, with_free};
-ghost use Rattle.pager_model.specs.Bounds.{most_frames, space_pages};
-ghost use Rattle.frame_pool.specs.Spaces.{most_spaces};
+ghost use Rattle.pager_model.specs.Bounds.{most_frames, space_pages, most_spaces};
 
 use crate::lists::{enlist, enlist_parts};
 use crate::mapped;
 use crate::records::{page_at, yields_in};
-use pager_model::{Extent, NoMemory, Reservation, Size, Sizes, Want};
+use pager_model::{Extent, MOST_SPACES, NoMemory, Reservation, Size, Sizes, Want};
 use population_map::PopulationMap;
 use reservation_lists::Lists;
 use reservations::{Part, Reservations, frame_for};
 use std::alloc::Global;
 use std::marker::{Brand, Model};
 use std::sync::ledger::Blank;
-
-/// How many spaces a program has at most.
-const MOST_SPACES: u32 = 16;
 
 /// The reservations with their used places, the lists of them by age, and the map by which the one that has a page is found: all three
 /// change together.

@@ -26,7 +26,10 @@ use Rattle.page_map.proofs.Rows.{HasRow, only_entry, only_one, no_entry, same_en
 page_same : (t u : Arena Mapping) (p : ℕ) → IsKept t → ((size : ℕ) → size ≤ 3 → row u size p ≡ row t size p)
     → IsOne (λ size. row u size p) × (entry_at u p ≡ entry_at t p)
 unfolding entry_at
-page_same t u p kept same = (same_one (λ size. row t size p) (λ size. row u size p) same (kept.one p), same_entry (λ size. row t size p) (λ size. row u size p) p same)
+page_same t u p kept same = (
+  same_one (λ size. row t size p) (λ size. row u size p) same (kept.one p),
+  same_entry (λ size. row t size p) (λ size. row u size p) p same,
+)
 
 -- a page with this row alone
 page_only : (u : Arena Mapping) (p size : ℕ) (v : Mapping) → size ≤ 3 → row u size p ≡ Some v
@@ -36,7 +39,8 @@ unfolding entry_at
 page_only u p size v low is none = (only_one (λ size. row u size p) size none, only_entry (λ size. row u size p) p size v low is none)
 
 -- a page without a row
-pub page_none : (u : Arena Mapping) (p : ℕ) → ((other : ℕ) → other ≤ 3 → row u other p ≡ None) → IsOne (λ size. row u size p) × (entry_at u p ≡ None)
+pub page_none : (u : Arena Mapping) (p : ℕ) → ((other : ℕ) → other ≤ 3 → row u other p ≡ None)
+    → IsOne (λ size. row u size p) × (entry_at u p ≡ None)
 unfolding entry_at
 page_none u p none = (only_one (λ size. row u size p) 0 (λ other low _. none other low), no_entry (λ size. row u size p) p none)
 
@@ -63,7 +67,8 @@ others_none : (t : Arena Mapping) (size p : ℕ) (v : Mapping) → IsKept t → 
 others_none t size p v kept low is other small apart = kept.one p size other low small apart (ap is_some is)
 
 -- and its entry is that row
-pub entry_is : (t : Arena Mapping) (size p : ℕ) (v : Mapping) → IsKept t → size ≤ 3 → row t size p ≡ Some v → entry_at t p ≡ entry_in size p (Some v)
+pub entry_is : (t : Arena Mapping) (size p : ℕ) (v : Mapping) → IsKept t → size ≤ 3 → row t size p ≡ Some v
+    → entry_at t p ≡ entry_in size p (Some v)
 entry_is t size p v kept low is = (page_only t p size v low is (others_none t size p v kept low is)).1
 
 -- ---- entries map extents of the space
@@ -80,9 +85,11 @@ kept_entries t kept = record {
     one page other entry at inside =
         let has = has_row t page entry at in
         let size = entry.extent.size in
-        let same : other / 8 ^ size ≡ page / 8 ^ size = eqb-true _ _ inside ∙ (ap (λ n. n / 8 ^ size) has.starts ∙ first_of_extent size page) in
+        let same : other / 8 ^ size ≡ page / 8 ^ size = eqb-true _ _ inside
+        ∙ (ap (λ n. n / 8 ^ size) has.starts ∙ first_of_extent size page) in
         entry_is t size other entry.mapping kept has.low (row_alike t size other page has.low same ∙ has.is)
-        ∙ ap (λ n. Some (record { extent = record { size = size; first = n }; mapping = entry.mapping })) (ap (λ n. n * 8 ^ size) same ∙ sym has.starts)
+        ∙ ap (λ n. Some (record { extent = record { size = size; first = n }; mapping = entry.mapping }))
+        (ap (λ n. n * 8 ^ size) same ∙ sym has.starts)
 
 -- the entry of each page of its extent
 pub entry_of_all : (t : Arena Mapping) (entry : Entry) → IsKept t → entry_at t entry.extent.first ≡ Some entry → (page : ℕ)
@@ -92,7 +99,8 @@ entry_of_all t entry kept there page same = (kept_entries t kept).one entry.exte
 -- ---- room
 
 rows_in : (t : Arena Mapping) (test : ℕ → Bool) → IsKept t → ((p : ℕ) → is_some (entry_at t p) ≡ true → test p ≡ true) → RowsIn t test
-rows_in t test kept passes = record { splits = kept.splits; pages = λ size page low has. (page, refl, passes page (row_has t size page low has)) }
+rows_in t test kept passes =
+    record { splits = kept.splits; pages = λ size page low has. (page, refl, passes page (row_has t size page low has)) }
 
 over_roots : (t : Arena Mapping) → IsKept t → pages_in t ≡ count_by (λ page. is_some (entry_at t page)) (range_with_len 0 (512 * t.roots))
 over_roots t kept = pages_over t (512 * t.roots) (omega (arith, kept.roots))
@@ -100,7 +108,12 @@ over_roots t kept = pages_over t (512 * t.roots) (omega (arith, kept.roots))
 -- for the row of an extent that has a mapped page
 pub mapped_room : (t : Arena Mapping) (size page : ℕ) → IsKept t → is_some (entry_at t page) ≡ true → splits_with t size page ≤ t.room
 mapped_room t size page kept has =
-    omega (arith, room_for t (λ p. is_some (entry_at t p)) size page (rows_in t (λ p. is_some (entry_at t p)) kept (λ p h. h)) has, over_roots t kept, kept.room)
+    omega (
+      arith,
+      room_for t (λ p. is_some (entry_at t p)) size page (rows_in t (λ p. is_some (entry_at t p)) kept (λ p h. h)) has,
+      over_roots t kept,
+      kept.room,
+    )
 
 with_page : Arena Mapping → ℕ → ℕ → Bool
 with_page t page p = is_some (entry_at t p) || (p == page)
@@ -113,7 +126,9 @@ one_more : (t : Arena Mapping) (page : ℕ) → IsKept t → page < 512 * t.root
     → count_by (with_page t page) (range_with_len 0 (512 * t.roots)) ≡ pages_in t + 1
 unfolding with_page
 one_more t page kept known none =
-    count-one_more (λ p. is_some (entry_at t p)) (with_page t page) page (ap is_some none) (or_right (is_some (entry_at t page)) (eqb page page) (eq-eqb page page refl)) (λ g apart. sym (or_off (is_some (entry_at t g)) (eqb g page) (ne_eqb g page apart))) 0 (512 * t.roots) (omega arith) (omega arith)
+    count-one_more (λ p. is_some (entry_at t p)) (with_page t page) page (ap is_some none)
+    (or_right (is_some (entry_at t page)) (eqb page page) (eq-eqb page page refl))
+    (λ g apart. sym (or_off (is_some (entry_at t g)) (eqb g page) (ne_eqb g page apart))) 0 (512 * t.roots) (omega arith) (omega arith)
     ∙ ap (λ n. n + 1) (sym (over_roots t kept))
 
 -- and of one that has none, while a page more may be mapped
@@ -121,7 +136,14 @@ pub put_room : (t : Arena Mapping) (size page : ℕ) → IsKept t → page < 512
     → splits_with t size page ≤ t.room
 unfolding with_page
 put_room t size page kept known none room =
-    omega (arith, room_for t (with_page t page) size page (rows_in t (with_page t page) kept (λ p h. or_left (is_some (entry_at t p)) (eqb p page) h)) (or_right (is_some (entry_at t page)) (eqb page page) (eq-eqb page page refl)), one_more t page kept known none, room)
+    omega (
+      arith,
+      room_for t (with_page t page) size page (rows_in t (with_page t page) kept
+          (λ p h. or_left (is_some (entry_at t p)) (eqb p page) h)) (or_right (is_some (entry_at t page)) (eqb page page)
+          (eq-eqb page page refl)),
+      one_more t page kept known none,
+      room,
+    )
 
 -- ---- a change of an extent, page by page
 
@@ -138,7 +160,8 @@ changed t u extent given kept roots room splits few pages = (
   record {
     frames = ap (λ n. n / 3) room;
     entries = kept_entries u now;
-    at = λ p. decided (p / 8 ^ extent.size) (extent.first / 8 ^ extent.size) (given p) (entry_at t p) (entry_at u p) (pages p).inside (pages p).outside;
+    at = λ p. decided (p / 8 ^ extent.size) (extent.first / 8 ^ extent.size) (given p) (entry_at t p) (entry_at u p) (pages p).inside
+        (pages p).outside;
   },
 )
   where
@@ -171,7 +194,8 @@ off_row : (t u : Arena Mapping) (extent : Extent) (value : Option Mapping) (p : 
     → ChangesOnly t u extent.size extent.first value → p / 8 ^ extent.size ≢ extent.first / 8 ^ extent.size
     → IsOne (λ size. row u size p) × (entry_at u p ≡ entry_at t p)
 off_row t u extent value p kept changes apart =
-    page_same t u p kept (λ k small. changes.others k p small (λ e at. apart (ap (λ s. p / 8 ^ s) (sym e) ∙ (at ∙ ap (λ s. extent.first / 8 ^ s) e))))
+    page_same t u p kept (λ k small. changes.others k p small (λ e at. apart
+    (ap (λ s. p / 8 ^ s) (sym e) ∙ (at ∙ ap (λ s. extent.first / 8 ^ s) e))))
 
 -- the rows of an extent and of its eight parts change: a page outside it
 off_eight : (t u : Arena Mapping) (extent : Extent) (value : Option Mapping) (values : List Mapping) (p : ℕ) → IsKept t
@@ -195,12 +219,14 @@ entry_round : (entry : Entry) (p : ℕ) → IsExtent entry.extent.size entry.ext
     → p / 8 ^ entry.extent.size ≡ entry.extent.first / 8 ^ entry.extent.size
     → entry_in entry.extent.size p (Some entry.mapping) ≡ Some entry
 entry_round entry p is same =
-    ap (λ n. Some (record { extent = record { size = entry.extent.size; first = n }; mapping = entry.mapping })) (sym (start_of entry.extent.size entry.extent.first p is.0 is.1 same))
+    ap (λ n. Some (record { extent = record { size = entry.extent.size; first = n }; mapping = entry.mapping }))
+    (sym (start_of entry.extent.size entry.extent.first p is.0 is.1 same))
 
 -- ---- an extent gets a row, where its pages have no other
 
 given_row : (t u : Arena Mapping) (entry : Entry) → IsKept t → IsExtent entry.extent.size entry.extent.first
-    → ((p other : ℕ) → p / 8 ^ entry.extent.size ≡ entry.extent.first / 8 ^ entry.extent.size → other ≤ 3 → other ≢ entry.extent.size → row t other p ≡ None)
+    → ((p other : ℕ) → p / 8 ^ entry.extent.size ≡ entry.extent.first / 8 ^ entry.extent.size → other ≤ 3 → other ≢ entry.extent.size
+    → row t other p ≡ None)
     → ChangesOnly t u entry.extent.size entry.extent.first (Some entry.mapping) → (p : ℕ) → PageIs t u entry.extent (λ _. Some entry) p
 given_row t u entry kept extent alone changes p = elim (cases_eq (p / 8 ^ entry.extent.size) (entry.extent.first / 8 ^ entry.extent.size)) [
   | inl same ↦
@@ -215,7 +241,8 @@ given_row t u entry kept extent alone changes p = elim (cases_eq (p / 8 ^ entry.
 pub put_kept : (t u : Arena Mapping) (entry : Entry) → IsKept t → IsExtent entry.extent.size entry.extent.first
     → entry.extent.first < 1048576
     → ((p : ℕ) → p / 8 ^ entry.extent.size ≡ entry.extent.first / 8 ^ entry.extent.size → entry_at t p ≡ None)
-    → pages_in t + 8 ^ entry.extent.size ≤ frames_in t → ChangesOnly t u entry.extent.size entry.extent.first (Some entry.mapping) → SplitsAreRowsBelow u → IsKept u × Maps entry.extent (λ _. Some entry) t u × (pages_in u ≡ pages_in t + 8 ^ entry.extent.size)
+    → pages_in t + 8 ^ entry.extent.size ≤ frames_in t → ChangesOnly t u entry.extent.size entry.extent.first (Some entry.mapping)
+    → SplitsAreRowsBelow u → IsKept u × Maps entry.extent (λ _. Some entry) t u × (pages_in u ≡ pages_in t + 8 ^ entry.extent.size)
 put_kept t u entry kept extent known none room changes splits =
     let after = changed t u entry.extent (λ _. Some entry) kept changes.roots changes.room splits (omega (arith, room, many)) pages in
     (after.0, after.1, many)
@@ -224,7 +251,8 @@ put_kept t u entry kept extent known none room changes splits =
     pages = given_row t u entry kept extent (λ p other same small _. rows_none t p (none p same) other small) changes
 
     many : pages_in u ≡ pages_in t + 8 ^ entry.extent.size
-    many = more_pages t u entry.extent extent known (λ p same. (ap is_some (none p same), ap is_some ((pages p).inside same))) (λ p apart. (pages p).outside apart)
+    many = more_pages t u entry.extent extent known (λ p same. (ap is_some (none p same), ap is_some ((pages p).inside same)))
+        (λ p apart. (pages p).outside apart)
 
 -- the pages of an extent have the entry that has it
 pub same_extent : (t : Arena Mapping) (extent : Extent) (before : Entry) → IsKept t → entry_at t extent.first ≡ Some before
@@ -236,7 +264,8 @@ pub replace_kept : (t u : Arena Mapping) (entry before : Entry) → IsKept t →
     → before.extent ≡ entry.extent → ChangesOnly t u entry.extent.size entry.extent.first (Some entry.mapping) → SplitsAreRowsBelow u
     → IsKept u × Maps entry.extent (λ _. Some entry) t u × (pages_in u ≡ pages_in t)
 replace_kept t u entry before kept there e changes splits =
-    stays t u entry.extent (λ _. entry) kept (λ p same. ap is_some (at p same)) changes.roots changes.room splits (given_row t u entry kept extent alone changes)
+    stays t u entry.extent (λ _. entry) kept (λ p same. ap is_some (at p same)) changes.roots changes.room splits
+    (given_row t u entry kept extent alone changes)
   where
     at : (p : ℕ) → p / 8 ^ entry.extent.size ≡ entry.extent.first / 8 ^ entry.extent.size → entry_at t p ≡ Some before
     at = same_extent t entry.extent before kept there e
@@ -244,9 +273,11 @@ replace_kept t u entry before kept there e changes splits =
     extent : IsExtent entry.extent.size entry.extent.first
     extent = subst (λ (x : Extent). IsExtent x.size x.first) e (is_extent t entry.extent.first before (kept_entries t kept) there)
 
-    alone : (p other : ℕ) → p / 8 ^ entry.extent.size ≡ entry.extent.first / 8 ^ entry.extent.size → other ≤ 3 → other ≢ entry.extent.size → row t other p ≡ None
+    alone : (p other : ℕ) → p / 8 ^ entry.extent.size ≡ entry.extent.first / 8 ^ entry.extent.size → other ≤ 3 → other ≢ entry.extent.size
+        → row t other p ≡ None
     alone p other same small apart =
-        others_none t entry.extent.size p before.mapping kept extent.0 (subst (λ (x : Extent). row t x.size p ≡ Some before.mapping) e (has_row t p before (at p same)).is) other small apart
+        others_none t entry.extent.size p before.mapping kept extent.0
+        (subst (λ (x : Extent). row t x.size p ≡ Some before.mapping) e (has_row t p before (at p same)).is) other small apart
 
 -- ---- an extent loses its row
 
@@ -268,7 +299,8 @@ remove_kept t u entry kept there changes splits =
       | inl same ↦
           let none = page_none u p (λ other small. elim (cases_eq other entry.extent.size) [
             | inl e ↦ ap (λ k. row u k p) e ∙ changes.changed p same
-            | inr apart ↦ changes.others other p small (λ e _. apart e) ∙ others_none t entry.extent.size p entry.mapping kept extent.0 (has_row t p entry (at p same)).is other small apart
+            | inr apart ↦ changes.others other p small (λ e _. apart e)
+                ∙ others_none t entry.extent.size p entry.mapping kept extent.0 (has_row t p entry (at p same)).is other small apart
           ]) in
           record { one = none.0; inside = λ _. none.1; outside = λ n. absurd (n same) }
       | inr apart ↦
@@ -296,12 +328,14 @@ pub part_value : (whole : Entry) (p : ℕ) → 0 < whole.extent.size → IsExten
     → p / 8 ^ whole.extent.size ≡ whole.extent.first / 8 ^ whole.extent.size
     → moved_by (p / 8 ^ (whole.extent.size - 1) % 8 * 8 ^ (whole.extent.size - 1)) whole.mapping ≡ (part_of whole p).mapping
 part_value whole p large is same =
-    ap (λ n. moved_by n whole.mapping) (part_offset whole.extent.size p large is.0 ∙ ap (λ n. extent_start (whole.extent.size - 1) p - n) (sym (start_of whole.extent.size whole.extent.first p is.0 is.1 same)))
+    ap (λ n. moved_by n whole.mapping) (part_offset whole.extent.size p large is.0
+    ∙ ap (λ n. extent_start (whole.extent.size - 1) p - n) (sym (start_of whole.extent.size whole.extent.first p is.0 is.1 same)))
 
 pub split_kept : (t u : Arena Mapping) (entry : Entry) (parts : List Mapping) → IsKept t → 0 < entry.extent.size
     → entry_at t entry.extent.first ≡ Some entry
     → ((part : ℕ) → part < 8 → slice_get parts part ≡ Some (moved_by (part * 8 ^ (entry.extent.size - 1)) entry.mapping))
-    → ChangesEight t u entry.extent.size entry.extent.first None parts → SplitsAreRowsBelow u → IsKept u × Maps entry.extent (λ p. Some (part_of entry p)) t u × (pages_in u ≡ pages_in t)
+    → ChangesEight t u entry.extent.size entry.extent.first None parts → SplitsAreRowsBelow u
+    → IsKept u × Maps entry.extent (λ p. Some (part_of entry p)) t u × (pages_in u ≡ pages_in t)
 split_kept t u entry parts kept large there values changes splits =
     stays t u entry.extent (part_of entry) kept (λ p same. ap is_some (at p same)) changes.roots changes.room splits pages
   where
@@ -318,10 +352,13 @@ split_kept t u entry parts kept large there values changes splits =
     pages p = elim (cases_eq (p / 8 ^ entry.extent.size) (entry.extent.first / 8 ^ entry.extent.size)) [
       | inl same ↦
           let before = others_none t entry.extent.size p entry.mapping kept extent.0 (has_row t p entry (at p same)).is in
-          let is = changes.parts (entry.extent.size - 1) p down same ∙ (values (p / 8 ^ (entry.extent.size - 1) % 8) (omega arith) ∙ ap Some (part_value entry p large extent same)) in
-          let only = page_only u p (entry.extent.size - 1) (part_of entry p).mapping (omega (arith, extent.0)) is (λ other small apart. elim (cases_eq other entry.extent.size) [
+          let is = changes.parts (entry.extent.size - 1) p down same ∙ (values (p / 8 ^ (entry.extent.size - 1) % 8) (omega arith)
+          ∙ ap Some (part_value entry p large extent same)) in
+          let only = page_only u p (entry.extent.size - 1) (part_of entry p).mapping (omega (arith, extent.0)) is
+          (λ other small apart. elim (cases_eq other entry.extent.size) [
             | inl e ↦ ap (λ k. row u k p) e ∙ changes.whole p same
-            | inr off ↦ changes.others other p small (λ e _. elim e [ inl one ↦ off one | inr next ↦ apart (omega (arith, next)) ]) ∙ before other small off
+            | inr off ↦ changes.others other p small (λ e _. elim e [ inl one ↦ off one | inr next ↦ apart (omega (arith, next)) ])
+                ∙ before other small off
           ]) in
           record { one = only.0; inside = λ _. only.1; outside = λ n. absurd (n same) }
       | inr apart ↦
@@ -349,10 +386,13 @@ join_kept t u whole kept large extent parts changes splits =
     pages : (p : ℕ) → PageIs t u whole.extent (λ _. Some whole) p
     pages p = elim (cases_eq (p / 8 ^ whole.extent.size) (whole.extent.first / 8 ^ whole.extent.size)) [
       | inl same ↦
-          let before = others_none t (whole.extent.size - 1) p (part_of whole p).mapping kept (omega (arith, extent.0)) (part_row t whole p parts same) in
-          let only = page_only u p whole.extent.size whole.mapping extent.0 (changes.whole p same) (λ other small apart. elim (cases_eq other (whole.extent.size - 1)) [
+          let before = others_none t (whole.extent.size - 1) p (part_of whole p).mapping kept (omega (arith, extent.0))
+          (part_row t whole p parts same) in
+          let only = page_only u p whole.extent.size whole.mapping extent.0 (changes.whole p same)
+          (λ other small apart. elim (cases_eq other (whole.extent.size - 1)) [
             | inl e ↦ ap (λ k. row u k p) e ∙ changes.parts (whole.extent.size - 1) p down same
-            | inr off ↦ changes.others other p small (λ e _. elim e [ inl one ↦ apart one | inr next ↦ off (omega (arith, next)) ]) ∙ before other small off
+            | inr off ↦ changes.others other p small (λ e _. elim e [ inl one ↦ apart one | inr next ↦ off (omega (arith, next)) ])
+                ∙ before other small off
           ]) in
           record { one = only.0; inside = λ _. only.1 ∙ entry_round whole p extent same; outside = λ n. absurd (n same) }
       | inr apart ↦
@@ -365,7 +405,8 @@ join_kept t u whole kept large extent parts changes splits =
 pub none_at : (t : Arena Mapping) → ((size p : ℕ) → row t size p ≡ None) → (p : ℕ) → entry_at t p ≡ None
 none_at t none p = (page_none t p (λ other _. none other p)).1
 
-pub none_kept : (t : Arena Mapping) (frames : ℕ) → ((size p : ℕ) → row t size p ≡ None) → SplitsAreRowsBelow t → t.roots ≡ 2048 → t.room ≡ 3 * frames → IsKept t
+pub none_kept : (t : Arena Mapping) (frames : ℕ) → ((size p : ℕ) → row t size p ≡ None) → SplitsAreRowsBelow t → t.roots ≡ 2048
+    → t.room ≡ 3 * frames → IsKept t
 none_kept t frames none splits roots room = record {
   splits = splits;
   one = λ p. only_one (λ size. row t size p) 0 (λ other low _. none other p);

@@ -20,7 +20,8 @@ Given m extent entries = (page : ℕ) → page / 8 ^ extent.size ≡ extent.firs
 begun_is : (m : Arena Mapping) (extent : Extent) (part many size : ℕ) → IsExtent extent.size extent.first → HasParts m extent part
     → many ≡ 8 ^ (extent.size - part) → begun_in m extent size ≡ cond (eqb size part) many 0
 begun_is m extent part many size is parts e = elim (cases_eq size part) [
-  | inl here ↦ ap (begun_in m extent) here ∙ (begun_parts m extent part is parts ∙ (sym e ∙ sym (ap (λ b. cond b many 0) (eq-eqb size part here))))
+  | inl here ↦ ap (begun_in m extent) here ∙ (begun_parts m extent part is parts
+      ∙ (sym e ∙ sym (ap (λ b. cond b many 0) (eq-eqb size part here))))
   | inr other ↦ begun_other m extent part size is parts other ∙ sym (ap (λ b. cond b many 0) (ne_eqb size part other))
 ]
 
@@ -111,7 +112,8 @@ remove_counts old new entry counts after is within there maps before grows = rec
 
 pub split_counts : (old new : Arena Mapping) (entry : Entry) (counts between after : List ℕ) → 0 < entry.extent.size
     → IsExtent entry.extent.size entry.extent.first → entry.extent.first < 1048576 → Given old entry.extent (λ _. Some entry)
-    → Maps entry.extent (λ page. Some (part_of entry page)) old new → AreCounts counts old → Grows entry.extent.size 1 between counts → Grows (entry.extent.size - 1) 8 between after → AreCounts after new
+    → Maps entry.extent (λ page. Some (part_of entry page)) old new → AreCounts counts old → Grows entry.extent.size 1 between counts
+    → Grows (entry.extent.size - 1) 8 between after → AreCounts after new
 split_counts old new entry counts between after large is within there maps before shrinks grows = record {
   four = grows.same_length ∙ (sym shrinks.same_length ∙ before.four);
   each = λ size low.
@@ -129,7 +131,8 @@ split_counts old new entry counts between after large is within there maps befor
 pub join_counts : (old new : Arena Mapping) (entry : Entry) (counts between after : List ℕ) → 0 < entry.extent.size
     → IsExtent entry.extent.size entry.extent.first → entry.extent.first < 1048576
     → Given old entry.extent (λ page. Some (part_of entry page))
-    → Maps entry.extent (λ _. Some entry) old new → AreCounts counts old → Grows (entry.extent.size - 1) 8 between counts → Grows entry.extent.size 1 between after → AreCounts after new
+    → Maps entry.extent (λ _. Some entry) old new → AreCounts counts old → Grows (entry.extent.size - 1) 8 between counts
+    → Grows entry.extent.size 1 between after → AreCounts after new
 join_counts old new entry counts between after large is within there maps before shrinks grows = record {
   four = grows.same_length ∙ (sym shrinks.same_length ∙ before.four);
   each = λ size low.
@@ -150,7 +153,13 @@ pub one_there : (m : Arena Mapping) (entry : Entry) (counts : List ℕ) → IsEx
     → entry.extent.first < 1048576 → Given m entry.extent (λ _. Some entry) → AreCounts counts m → 1 ≤ slice_index counts entry.extent.size
 one_there m entry counts is within there are =
     let size = entry.extent.size in
-    omega (arith, are.each size is.0, count_within m entry.extent size is within, whole m entry.extent entry size is refl there, ap (λ b. cond {A = ℕ} b 1 0) (eq-eqb size size refl))
+    omega (
+      arith,
+      are.each size is.0,
+      count_within m entry.extent size is within,
+      whole m entry.extent entry size is refl there,
+      ap (λ b. cond {A = ℕ} b 1 0) (eq-eqb size size refl),
+    )
 
 pub eight_there : (m : Arena Mapping) (entry : Entry) (counts : List ℕ) → 0 < entry.extent.size
     → IsExtent entry.extent.size entry.extent.first → entry.extent.first < 1048576
@@ -158,7 +167,13 @@ pub eight_there : (m : Arena Mapping) (entry : Entry) (counts : List ℕ) → 0 
     → 8 ≤ slice_index counts (entry.extent.size - 1)
 eight_there m entry counts large is within there are =
     let size = entry.extent.size - 1 in
-    omega (arith, are.each size (omega (arith, is.0)), count_within m entry.extent size is within, eight m entry size large is there, ap (λ b. cond {A = ℕ} b 8 0) (eq-eqb size size refl))
+    omega (
+      arith,
+      are.each size (omega (arith, is.0)),
+      count_within m entry.extent size is within,
+      eight m entry size large is there,
+      ap (λ b. cond {A = ℕ} b 8 0) (eq-eqb size size refl),
+    )
 
 pub few : (m : Arena Mapping) (counts : List ℕ) (size : ℕ) → size ≤ 3 → AreCounts counts m → slice_index counts size ≤ 1048576
 few m counts size low are = omega (arith, are.each size low, count_most m size)
@@ -169,7 +184,8 @@ few_between m counts between part entries size low are shrinks = omega (arith, f
 
 pub are_four : (counts : List ℕ) (a b c d : ℕ) → length counts ≡ 4 → slice_index counts 0 ≡ a → slice_index counts 1 ≡ b
     → slice_index counts 2 ≡ c → slice_index counts 3 ≡ d → counts ≡ a ∷ b ∷ c ∷ d ∷ []
-are_four (x ∷ y ∷ z ∷ w ∷ []) a b c d four at0 at1 at2 at3 = ap (λ n. n ∷ y ∷ z ∷ w ∷ []) at0 ∙ (ap (λ n. a ∷ n ∷ z ∷ w ∷ []) at1 ∙ (ap (λ n. a ∷ b ∷ n ∷ w ∷ []) at2 ∙ ap (λ n. a ∷ b ∷ c ∷ n ∷ []) at3))
+are_four (x ∷ y ∷ z ∷ w ∷ []) a b c d four at0 at1 at2 at3 = ap (λ n. n ∷ y ∷ z ∷ w ∷ []) at0
+    ∙ (ap (λ n. a ∷ n ∷ z ∷ w ∷ []) at1 ∙ (ap (λ n. a ∷ b ∷ n ∷ w ∷ []) at2 ∙ ap (λ n. a ∷ b ∷ c ∷ n ∷ []) at3))
 are_four [] a b c d four at0 at1 at2 at3 = absurd (omega arith)
 are_four (x ∷ []) a b c d four at0 at1 at2 at3 = absurd (omega arith)
 are_four (x ∷ y ∷ []) a b c d four at0 at1 at2 at3 = absurd (omega arith)

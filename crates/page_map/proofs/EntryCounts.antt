@@ -37,13 +37,15 @@ none_within (suc (suc zero)) first page low aligned above below e = omega arith
 none_within (suc (suc (suc zero))) first page low aligned above below e = omega arith
 none_within (suc (suc (suc (suc size)))) first page low aligned above below e = absurd (omega arith)
 
-one_begins : (size first width : ℕ) → size ≤ 3 → 8 ^ size ≡ suc width → first % 8 ^ size ≡ 0 → count_by (begins size) (range_with_len first (suc width)) ≡ 1
+one_begins : (size first width : ℕ) → size ≤ 3 → 8 ^ size ≡ suc width → first % 8 ^ size ≡ 0
+    → count_by (begins size) (range_with_len first (suc width)) ≡ 1
 one_begins size first width low e aligned =
     omega (
       arith,
       count-suc (begins size) first width,
       ap weight (begins-is size first ∙ eq-eqb (first % 8 ^ size) 0 aligned),
-      count-none (begins size) (first + 1) width (λ n above below. begins-is size n ∙ ne_eqb (n % 8 ^ size) 0 (none_within size first n low aligned (omega arith) (omega (arith, e)))),
+      count-none (begins size) (first + 1) width (λ n above below. begins-is size n
+          ∙ ne_eqb (n % 8 ^ size) 0 (none_within size first n low aligned (omega arith) (omega (arith, e)))),
     )
 
 in_block : (size first : ℕ) → size ≤ 3 → first % 8 ^ size ≡ 0 → count_by (begins size) (range_with_len first (8 ^ size)) ≡ 1
@@ -57,7 +59,12 @@ blocks size zero first low aligned = ap (λ n. count_by (begins size) (range_wit
 blocks size (suc many) first low aligned =
     let next : (first + 8 ^ size) % 8 ^ size ≡ 0 = add-mod_right first (8 ^ size) ∙ aligned in
     ap (λ n. count_by (begins size) (range_with_len first n)) {x = suc many * 8 ^ size} {y = 8 ^ size + many * 8 ^ size} (omega arith)
-    ∙ omega (arith, count-apart (begins size) first (8 ^ size) (many * 8 ^ size) (first + 8 ^ size) refl, in_block size first low aligned, blocks size many (first + 8 ^ size) low next)
+    ∙ omega (
+      arith,
+      count-apart (begins size) first (8 ^ size) (many * 8 ^ size) (first + 8 ^ size) refl,
+      in_block size first low aligned,
+      blocks size many (first + 8 ^ size) low next,
+    )
 
 -- ---- entries that begin in an extent
 
@@ -105,10 +112,12 @@ unfolding begun_in
 begun_parts m extent part is parts =
     count-agree (begins_entry m part) (begins part) extent.first (8 ^ extent.size) same
     ∙ (ap (λ n. count_by (begins part) (range_with_len extent.first n)) (eight_split part extent.size parts.low)
-    ∙ blocks part (8 ^ (extent.size - part)) extent.first (omega (arith, is.0, parts.low)) (aligned_too extent.size part extent.first is.0 parts.low is.1))
+    ∙ blocks part (8 ^ (extent.size - part)) extent.first (omega (arith, is.0, parts.low))
+    (aligned_too extent.size part extent.first is.0 parts.low is.1))
   where
     aligned_too : (size part first : ℕ) → size ≤ 3 → part ≤ size → first % 8 ^ size ≡ 0 → first % 8 ^ part ≡ 0
-    aligned_too size part first low le aligned = ap (λ n. n % 8 ^ part) {x = first} {y = first + 0 * 8 ^ part} (omega arith) ∙ aligned_part part size first 0 le aligned
+    aligned_too size part first low le aligned = ap (λ n. n % 8 ^ part) {x = first} {y = first + 0 * 8 ^ part} (omega arith)
+        ∙ aligned_part part size first 0 le aligned
 
     same : (page : ℕ) → extent.first ≤ page → page < extent.first + 8 ^ extent.size → begins_entry m part page ≡ begins part page
     same page low high =
@@ -124,7 +133,8 @@ begun_other m extent part size is parts other =
     count-none (begins_entry m size) extent.first (8 ^ extent.size) (λ page low high.
     let at = in_extent extent.size extent.first page is.0 is.1 low high in
     ap (is_first_of size page) (parts.at page at)
-    ∙ and_false (eqb (parts.entry page).extent.first page) (eqb (parts.entry page).extent.size size) (ne_eqb _ _ (λ e. other (sym e ∙ parts.size page))))
+    ∙ and_false (eqb (parts.entry page).extent.first page) (eqb (parts.entry page).extent.size size)
+    (ne_eqb _ _ (λ e. other (sym e ∙ parts.size page))))
 
 -- ---- a change of an extent
 
@@ -142,7 +152,8 @@ counted_change : (old new : Arena Mapping) (extent : Extent) (given : ℕ → Op
 unfolding begun_in counted
 counted_change old new extent given size pages is within maps =
     block_change (begins_entry old size) (begins_entry new size) pages extent.first (8 ^ extent.size) within
-    (λ page apart. ap (is_first_of size page) (maps_outside old new extent given page maps (λ at. let within = of_extent extent.size extent.first page is.0 is.1 at in apart within.0 within.1)))
+    (λ page apart. ap (is_first_of size page) (maps_outside old new extent given page maps
+    (λ at. let within = of_extent extent.size extent.first page is.0 is.1 at in apart within.0 within.1)))
 
 -- the count of a size changes as that of the extent does
 pub count_change : (old new : Arena Mapping) (extent : Extent) (given : ℕ → Option Entry) (size : ℕ) → IsExtent extent.size extent.first
@@ -152,14 +163,26 @@ count_change old new extent given size is inside maps = over 1048576 refl
   where
     over : (pages : ℕ) → pages ≡ 1048576 → entry_count new size + begun_in old extent size ≡ entry_count old size + begun_in new extent size
     over pages e =
-        omega (arith, entry_count-is new size pages e, entry_count-is old size pages e, counted_change old new extent given size pages is (ends_within extent pages is inside e) maps)
+        omega (
+          arith,
+          entry_count-is new size pages e,
+          entry_count-is old size pages e,
+          counted_change old new extent given size pages is (ends_within extent pages is inside e) maps,
+        )
 
-counted_within : (m : Arena Mapping) (extent : Extent) (size pages : ℕ) → extent.first + 8 ^ extent.size ≤ pages → begun_in m extent size ≤ counted m size pages
+counted_within : (m : Arena Mapping) (extent : Extent) (size pages : ℕ) → extent.first + 8 ^ extent.size ≤ pages
+    → begun_in m extent size ≤ counted m size pages
 unfolding begun_in counted
 counted_within m extent size pages within =
     let rest = pages - (extent.first + 8 ^ extent.size) in
-    let whole = ap (λ n. count_by (begins_entry m size) (range_with_len 0 n)) {x = pages} {y = extent.first + (8 ^ extent.size + rest)} (omega (arith, within)) in
-    omega (arith, whole, count-apart (begins_entry m size) 0 extent.first (8 ^ extent.size + rest) extent.first (omega arith), count-apart (begins_entry m size) extent.first (8 ^ extent.size) rest (extent.first + 8 ^ extent.size) refl)
+    let whole = ap (λ n. count_by (begins_entry m size) (range_with_len 0 n)) {x = pages} {y = extent.first + (8 ^ extent.size + rest)}
+    (omega (arith, within)) in
+    omega (
+      arith,
+      whole,
+      count-apart (begins_entry m size) 0 extent.first (8 ^ extent.size + rest) extent.first (omega arith),
+      count-apart (begins_entry m size) extent.first (8 ^ extent.size) rest (extent.first + 8 ^ extent.size) refl,
+    )
 
 -- an extent has no more entries of a size than there are
 pub count_within : (m : Arena Mapping) (extent : Extent) (size : ℕ) → IsExtent extent.size extent.first → extent.first < 1048576
@@ -205,8 +228,15 @@ none_counted m counts entries are zeros page = elim (entry_at m page) as (λ o. 
       let first = entry.extent.first in
       let low = entries.low page entry at in
       let here : entry_at m first ≡ Some entry = entries.one page first entry at (eq-eqb (first / 8 ^ size) (first / 8 ^ size) refl) in
-      let found : is_first_of size first (entry_at m first) ≡ true = ap (is_first_of size first) here ∙ ap (λ b. b && (size == size)) (eq-eqb first first refl) ∙ eq-eqb size size refl in
-      absurd (omega (arith, are.each size low, zeros size low, is_counted (begins_entry m size) first (entries.in_space first entry here) found))
+      let found : is_first_of size first (entry_at m first) ≡ true = ap (is_first_of size first) here
+      ∙ ap (λ b. b && (size == size)) (eq-eqb first first refl) ∙ eq-eqb size size refl in
+      absurd (omega (
+        arith,
+        are.each size low,
+        zeros size low,
+        is_counted (begins_entry m size) first
+            (entries.in_space first entry here) found,
+      ))
 ] refl
 
 -- and where there is none, none is counted

@@ -31,8 +31,10 @@ first_is m page entry entries at = ap (λ (x : Extent). x.first) (entries.round 
 pub within : (m : Arena Mapping) (page : ℕ) (entry : Entry) → AreEntries m → entry_at m page ≡ Some entry
     → (entry.extent.first ≤ page) × (page < entry.extent.first + 8 ^ entry.extent.size)
 within m page entry entries at =
-    let first = first_is m page entry entries at in
-    (omega (arith, first, div-mul-le_self page (8 ^ entry.extent.size)), omega (arith, first, lt-div-mul-add {a = page} (eight_pos entry.extent.size)))
+    let first = first_is m page entry entries at in (
+      omega (arith, first, div-mul-le_self page (8 ^ entry.extent.size)),
+      omega (arith, first, lt-div-mul-add {a = page} (eight_pos entry.extent.size)),
+    )
 
 -- an extent begins at a multiple of its size
 pub start_aligned : (size page first : ℕ) → size ≤ 3 → extent_start size page ≡ first → first % 8 ^ size ≡ 0
@@ -43,7 +45,8 @@ start_aligned (suc (suc (suc zero))) page first low starts = omega arith
 start_aligned (suc (suc (suc (suc size)))) page first low starts = absurd (omega arith)
 
 -- and an entry's pages are one
-pub is_extent : (m : Arena Mapping) (page : ℕ) (entry : Entry) → AreEntries m → entry_at m page ≡ Some entry → IsExtent entry.extent.size entry.extent.first
+pub is_extent : (m : Arena Mapping) (page : ℕ) (entry : Entry) → AreEntries m → entry_at m page ≡ Some entry
+    → IsExtent entry.extent.size entry.extent.first
 is_extent m page entry entries at =
     let low = entries.low page entry at in
     (low, start_aligned entry.extent.size page entry.extent.first low (first_is m page entry entries at))
@@ -81,13 +84,14 @@ by_entries old new page before after was is same =
 -- a split leaves each page's mapping as it was
 pub split_mapping : (old new : Arena Mapping) (whole : Entry) → AreEntries old → entry_at old whole.extent.first ≡ Some whole
     → Maps whole.extent (λ page. Some (part_of whole page)) old new → (p : ℕ) → mapping_at new p ≡ mapping_at old p
-split_mapping old new whole entries there maps p = elim (cases_eq (p / 8 ^ whole.extent.size) (whole.extent.first / 8 ^ whole.extent.size)) [
-  | inl at ↦
-      let was = entries.one whole.extent.first p whole there (eq-eqb _ _ at) in
-      by_entries old new p whole (part_of whole p) was (maps_inside old new whole.extent (λ page. Some (part_of whole page)) p maps at)
-      (part_mapping whole p (entries.low p whole was) (first_is old p whole entries was))
-  | inr apart ↦ mapping_by old new p (maps_outside old new whole.extent (λ page. Some (part_of whole page)) p maps apart)
-]
+split_mapping old new whole entries there maps p = elim (cases_eq (p / 8 ^ whole.extent.size)
+    (whole.extent.first / 8 ^ whole.extent.size)) [
+      | inl at ↦
+          let was = entries.one whole.extent.first p whole there (eq-eqb _ _ at) in
+          by_entries old new p whole (part_of whole p) was (maps_inside old new whole.extent (λ page. Some (part_of whole page)) p maps at)
+          (part_mapping whole p (entries.low p whole was) (first_is old p whole entries was))
+      | inr apart ↦ mapping_by old new p (maps_outside old new whole.extent (λ page. Some (part_of whole page)) p maps apart)
+    ]
 
 -- and so does a join
 pub join_mapping : (old new : Arena Mapping) (whole : Entry) → AreParts whole old → Maps whole.extent (λ _. Some whole) old new → (p : ℕ)

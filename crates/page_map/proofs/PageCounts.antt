@@ -11,7 +11,8 @@ use Rattle.extent_tree.specs.Rows.{Arena}
 use Rattle.page_map.specs.Entries.{entry_at, pages_in}
 
 -- they are counted over so many pages
-pub pages_over : (m : Arena Mapping) (pages : ℕ) → pages ≡ 1048576 → pages_in m ≡ count_by (λ page. is_some (entry_at m page)) (range_with_len 0 pages)
+pub pages_over : (m : Arena Mapping) (pages : ℕ) → pages ≡ 1048576 → pages_in m ≡ count_by (λ page. is_some (entry_at m page))
+    (range_with_len 0 pages)
 unfolding pages_in count_pages
 pages_over m pages e = ap (λ n. count_by (λ page. is_some (entry_at m page)) (range_with_len 0 n)) (sym e)
 
@@ -22,8 +23,10 @@ ends_within extent pages is inside e = omega (arith, extent_within extent.size e
 
 -- the pages of an extent are mapped where none was
 pub more_pages : (few many : Arena Mapping) (extent : Extent) → IsExtent extent.size extent.first → extent.first < 1048576
-    → ((page : ℕ) → page / 8 ^ extent.size ≡ extent.first / 8 ^ extent.size → (is_some (entry_at few page) ≡ false) × (is_some (entry_at many page) ≡ true))
-    → ((page : ℕ) → page / 8 ^ extent.size ≢ extent.first / 8 ^ extent.size → entry_at many page ≡ entry_at few page) → pages_in many ≡ pages_in few + 8 ^ extent.size
+    → ((page : ℕ) → page / 8 ^ extent.size ≡ extent.first / 8 ^ extent.size
+    → (is_some (entry_at few page) ≡ false) × (is_some (entry_at many page) ≡ true))
+    → ((page : ℕ) → page / 8 ^ extent.size ≢ extent.first / 8 ^ extent.size → entry_at many page ≡ entry_at few page)
+    → pages_in many ≡ pages_in few + 8 ^ extent.size
 more_pages few many extent is within inside outside = over 1048576 refl
   where
     over : (pages : ℕ) → pages ≡ 1048576 → pages_in many ≡ pages_in few + 8 ^ extent.size
@@ -32,9 +35,11 @@ more_pages few many extent is within inside outside = over 1048576 refl
           arith,
           pages_over few pages e,
           pages_over many pages e,
-          count_block (λ page. is_some (entry_at few page)) (λ page. is_some (entry_at many page)) pages extent.first (8 ^ extent.size) (ends_within extent pages is within e)
+          count_block (λ page. is_some (entry_at few page)) (λ page. is_some (entry_at many page)) pages extent.first (8 ^ extent.size)
+              (ends_within extent pages is within e)
               (λ page low high. inside page (in_extent extent.size extent.first page is.0 is.1 low high))
-              (λ page apart. ap is_some (outside page (λ at. let in_it = of_extent extent.size extent.first page is.0 is.1 at in apart in_it.0 in_it.1))),
+              (λ page apart. ap is_some
+              (outside page (λ at. let in_it = of_extent extent.size extent.first page is.0 is.1 at in apart in_it.0 in_it.1))),
         )
 
 -- as many are where the same pages are
@@ -43,7 +48,8 @@ same_pages m n alike = over 1048576 refl
   where
     over : (pages : ℕ) → pages ≡ 1048576 → pages_in m ≡ pages_in n
     over pages e =
-        pages_over m pages e ∙ (count-agree (λ page. is_some (entry_at m page)) (λ page. is_some (entry_at n page)) 0 pages (λ page _ _. alike page) ∙ sym (pages_over n pages e))
+        pages_over m pages e ∙ (count-agree (λ page. is_some (entry_at m page)) (λ page. is_some (entry_at n page)) 0 pages
+        (λ page _ _. alike page) ∙ sym (pages_over n pages e))
 
 pub no_pages : (m : Arena Mapping) → ((page : ℕ) → entry_at m page ≡ None) → pages_in m ≡ 0
 no_pages m none = over 1048576 refl

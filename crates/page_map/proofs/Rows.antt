@@ -15,12 +15,15 @@ pub only_entry : (rows : ℕ → Option Mapping) (page size : ℕ) (v : Mapping)
 only_entry rows page zero v low is none =
     ap (λ a. first_entry page a (rows 2) (rows 1) (rows 0)) (none 3 (omega arith) (λ e. omega arith))
     ∙ (ap (λ a. first_entry page None a (rows 1) (rows 0)) (none 2 (omega arith) (λ e. omega arith))
-    ∙ (ap (λ a. first_entry page None None a (rows 0)) (none 1 (omega arith) (λ e. omega arith)) ∙ ap (λ a. first_entry page None None None a) is))
+    ∙ (ap (λ a. first_entry page None None a (rows 0)) (none 1 (omega arith) (λ e. omega arith))
+    ∙ ap (λ a. first_entry page None None None a) is))
 only_entry rows page (suc zero) v low is none =
     ap (λ a. first_entry page a (rows 2) (rows 1) (rows 0)) (none 3 (omega arith) (λ e. omega arith))
-    ∙ (ap (λ a. first_entry page None a (rows 1) (rows 0)) (none 2 (omega arith) (λ e. omega arith)) ∙ ap (λ a. first_entry page None None a (rows 0)) is)
+    ∙ (ap (λ a. first_entry page None a (rows 1) (rows 0)) (none 2 (omega arith) (λ e. omega arith))
+    ∙ ap (λ a. first_entry page None None a (rows 0)) is)
 only_entry rows page (suc (suc zero)) v low is none =
-    ap (λ a. first_entry page a (rows 2) (rows 1) (rows 0)) (none 3 (omega arith) (λ e. omega arith)) ∙ ap (λ a. first_entry page None a (rows 1) (rows 0)) is
+    ap (λ a. first_entry page a (rows 2) (rows 1) (rows 0)) (none 3 (omega arith) (λ e. omega arith))
+    ∙ ap (λ a. first_entry page None a (rows 1) (rows 0)) is
 only_entry rows page (suc (suc (suc zero))) v low is none = ap (λ a. first_entry page a (rows 2) (rows 1) (rows 0)) is
 only_entry rows page (suc (suc (suc (suc size)))) v low is none = absurd (omega arith)
 
@@ -35,7 +38,8 @@ pub no_entry : (rows : ℕ → Option Mapping) (page : ℕ) → ((other : ℕ) �
 no_entry rows page none =
     ap (λ a. first_entry page a (rows 2) (rows 1) (rows 0)) (none 3 (omega arith))
     ∙ (ap (λ a. first_entry page None a (rows 1) (rows 0)) (none 2 (omega arith))
-    ∙ (ap (λ a. first_entry page None None a (rows 0)) (none 1 (omega arith)) ∙ ap (λ a. first_entry page None None None a) (none 0 (omega arith))))
+    ∙ (ap (λ a. first_entry page None None a (rows 0)) (none 1 (omega arith))
+    ∙ ap (λ a. first_entry page None None None a) (none 0 (omega arith))))
 
 -- the same rows, the same entry
 pub same_entry : (rows others : ℕ → Option Mapping) (page : ℕ) → ((size : ℕ) → size ≤ 3 → others size ≡ rows size)
@@ -43,7 +47,8 @@ pub same_entry : (rows others : ℕ → Option Mapping) (page : ℕ) → ((size 
 same_entry rows others page same =
     ap (λ a. first_entry page a (others 2) (others 1) (others 0)) (same 3 (omega arith))
     ∙ (ap (λ a. first_entry page (rows 3) a (others 1) (others 0)) (same 2 (omega arith))
-    ∙ (ap (λ a. first_entry page (rows 3) (rows 2) a (others 0)) (same 1 (omega arith)) ∙ ap (λ a. first_entry page (rows 3) (rows 2) (rows 1) a) (same 0 (omega arith))))
+    ∙ (ap (λ a. first_entry page (rows 3) (rows 2) a (others 0)) (same 1 (omega arith))
+    ∙ ap (λ a. first_entry page (rows 3) (rows 2) (rows 1) a) (same 0 (omega arith))))
 
 pub same_one : (rows others : ℕ → Option Mapping) → ((size : ℕ) → size ≤ 3 → others size ≡ rows size) → IsOne rows → IsOne others
 same_one rows others same one a b la lb apart has = same b lb ∙ one a b la lb apart (sym (ap is_some (same a la)) ∙ has)
@@ -62,11 +67,14 @@ in_some : (size page : ℕ) (o : Option Mapping) → is_some o ≡ true → is_s
 in_some size page None is = absurd (false≢true is)
 in_some size page (Some v) is = refl
 
-pub row_entry : (rows : ℕ → Option Mapping) (page size : ℕ) → size ≤ 3 → is_some (rows size) ≡ true → is_some (entry_of_rows rows page) ≡ true
+pub row_entry : (rows : ℕ → Option Mapping) (page size : ℕ) → size ≤ 3 → is_some (rows size) ≡ true
+    → is_some (entry_of_rows rows page) ≡ true
 row_entry rows page zero low is =
-    or_second (entry_in 3 page (rows 3)) _ (or_second (entry_in 2 page (rows 2)) _ (or_second (entry_in 1 page (rows 1)) _ (in_some 0 page (rows 0) is)))
+    or_second (entry_in 3 page (rows 3)) _ (or_second (entry_in 2 page (rows 2)) _
+    (or_second (entry_in 1 page (rows 1)) _ (in_some 0 page (rows 0) is)))
 row_entry rows page (suc zero) low is =
-    or_second (entry_in 3 page (rows 3)) _ (or_second (entry_in 2 page (rows 2)) _ (or_first (entry_in 1 page (rows 1)) _ (in_some 1 page (rows 1) is)))
+    or_second (entry_in 3 page (rows 3)) _ (or_second (entry_in 2 page (rows 2)) _
+    (or_first (entry_in 1 page (rows 1)) _ (in_some 1 page (rows 1) is)))
 row_entry rows page (suc (suc zero)) low is =
     or_second (entry_in 3 page (rows 3)) _ (or_first (entry_in 2 page (rows 2)) _ (in_some 2 page (rows 2) is))
 row_entry rows page (suc (suc (suc zero))) low is = or_first (entry_in 3 page (rows 3)) _ (in_some 3 page (rows 3) is)
@@ -91,19 +99,26 @@ from_row rows page size v entry low is at = subst (HasRow rows page) (same_Some 
 
 pub entry_row : (rows : ℕ → Option Mapping) (page : ℕ) (entry : Entry) → entry_of_rows rows page ≡ Some entry → HasRow rows page entry
 entry_row rows page entry at = elim (cases_Option (rows 3)) [
-  | inr large ↦ from_row rows page 3 large.0 entry (omega arith) large.1 (sym (ap (λ a. first_entry page a (rows 2) (rows 1) (rows 0)) large.1) ∙ at)
+  | inr large ↦ from_row rows page 3 large.0 entry (omega arith) large.1
+      (sym (ap (λ a. first_entry page a (rows 2) (rows 1) (rows 0)) large.1) ∙ at)
   | inl none3 ↦
-      let at2 : first_entry page None (rows 2) (rows 1) (rows 0) ≡ Some entry = sym (ap (λ a. first_entry page a (rows 2) (rows 1) (rows 0)) none3) ∙ at in
+      let at2 : first_entry page None (rows 2) (rows 1) (rows 0) ≡ Some entry =
+      sym (ap (λ a. first_entry page a (rows 2) (rows 1) (rows 0)) none3) ∙ at in
       elim (cases_Option (rows 2)) [
-        | inr middle ↦ from_row rows page 2 middle.0 entry (omega arith) middle.1 (sym (ap (λ a. first_entry page None a (rows 1) (rows 0)) middle.1) ∙ at2)
+        | inr middle ↦ from_row rows page 2 middle.0 entry (omega arith) middle.1
+            (sym (ap (λ a. first_entry page None a (rows 1) (rows 0)) middle.1) ∙ at2)
         | inl none2 ↦
-            let at1 : first_entry page None None (rows 1) (rows 0) ≡ Some entry = sym (ap (λ a. first_entry page None a (rows 1) (rows 0)) none2) ∙ at2 in
+            let at1 : first_entry page None None (rows 1) (rows 0) ≡ Some entry =
+            sym (ap (λ a. first_entry page None a (rows 1) (rows 0)) none2) ∙ at2 in
             elim (cases_Option (rows 1)) [
-              | inr small ↦ from_row rows page 1 small.0 entry (omega arith) small.1 (sym (ap (λ a. first_entry page None None a (rows 0)) small.1) ∙ at1)
+              | inr small ↦ from_row rows page 1 small.0 entry (omega arith) small.1
+                  (sym (ap (λ a. first_entry page None None a (rows 0)) small.1) ∙ at1)
               | inl none1 ↦
-                  let at0 : first_entry page None None None (rows 0) ≡ Some entry = sym (ap (λ a. first_entry page None None a (rows 0)) none1) ∙ at1 in
+                  let at0 : first_entry page None None None (rows 0) ≡ Some entry =
+                  sym (ap (λ a. first_entry page None None a (rows 0)) none1) ∙ at1 in
                   elim (cases_Option (rows 0)) [
-                    | inr base ↦ from_row rows page 0 base.0 entry (omega arith) base.1 (sym (ap (λ a. first_entry page None None None a) base.1) ∙ at0)
+                    | inr base ↦ from_row rows page 0 base.0 entry (omega arith) base.1
+                        (sym (ap (λ a. first_entry page None None None a) base.1) ∙ at0)
                     | inl none0 ↦ absurd (none-some entry (sym (ap (λ a. first_entry page None None None a) none0) ∙ at0))
                   ]
             ]

@@ -41,7 +41,8 @@ abbrev pub entry_in : ℕ → ℕ → Option Mapping → Option Entry
 entry_in size page mapping = option_map (entry_with size page) mapping
 
 abbrev pub first_entry : ℕ → Option Mapping → Option Mapping → Option Mapping → Option Mapping → Option Entry
-first_entry page large middle small base = option_or (entry_in 3 page large) (option_or (entry_in 2 page middle) (option_or (entry_in 1 page small) (entry_in 0 page base)))
+first_entry page large middle small base = option_or (entry_in 3 page large)
+    (option_or (entry_in 2 page middle) (option_or (entry_in 1 page small) (entry_in 0 page base)))
 
 -- the first of the rows of the four sizes round a page, as an entry
 abbrev pub entry_of_rows : (ℕ → Option Mapping) → ℕ → Option Entry
@@ -59,7 +60,8 @@ mapping_at m page = option_map (λ entry. mapping_of entry page) (entry_at m pag
 pub record AreEntries (m : Arena Mapping) : Type 0 where
   pub low : (page : ℕ) (entry : Entry) → entry_at m page ≡ Some entry → entry.extent.size ≤ 3
   pub round : (page : ℕ) (entry : Entry) → entry_at m page ≡ Some entry → extent_round entry.extent.size page ≡ entry.extent
-  pub one : (page other : ℕ) (entry : Entry) → entry_at m page ≡ Some entry → is_in entry.extent other ≡ true → entry_at m other ≡ Some entry
+  pub one : (page other : ℕ) (entry : Entry) → entry_at m page ≡ Some entry → is_in entry.extent other ≡ true
+      → entry_at m other ≡ Some entry
   pub in_space : (page : ℕ) (entry : Entry) → entry_at m page ≡ Some entry → page < space_pages
 
 -- how many frames there is room for

@@ -18,8 +18,10 @@ unfolding rights_of
 rights_of-is t p = refl
 
 -- the rights of a page of a block that is known
-pub rights_of-at : (t : RightsTree) (p block : ℕ) (b : Block) → p / 512 ≡ block → block_at t block ≡ b → rights_of t p ≡ rights_in t b (p % 512)
-rights_of-at t p block b here is = rights_of-is t p ∙ ap (λ n. rights_in t (block_at t n) (p % 512)) here ∙ ap (λ c. rights_in t c (p % 512)) is
+pub rights_of-at : (t : RightsTree) (p block : ℕ) (b : Block) → p / 512 ≡ block → block_at t block ≡ b
+    → rights_of t p ≡ rights_in t b (p % 512)
+rights_of-at t p block b here is = rights_of-is t p ∙ ap (λ n. rights_in t (block_at t n) (p % 512)) here
+    ∙ ap (λ c. rights_in t c (p % 512)) is
 
 -- no page has rights at first
 module _ (t : RightsTree) (blocks : t.blocks ≡ replicate 2048 plain) (leaves : t.leaves ≡ []) where
@@ -52,7 +54,8 @@ module _ (t : RightsTree) (tree : IsTree t) (block : ℕ) (b : Block) (within : 
   pub block_elsewhere : (leaves : List (List (Option Rights))) (c : ℕ) → c ≢ block → block_at (with_block t block b leaves) c ≡ block_at t c
   block_elsewhere leaves c other = get_or-set_other t.blocks block c b plain other
 
-  count_changed : count_by has_leaf (slice_set t.blocks block b) + cond (has_leaf (block_at t block)) 1 0 ≡ count_by has_leaf t.blocks + cond (has_leaf b) 1 0
+  count_changed : count_by has_leaf (slice_set t.blocks block b) + cond
+      (has_leaf (block_at t block)) 1 0 ≡ count_by has_leaf t.blocks + cond (has_leaf b) 1 0
   count_changed = sum_by-set (λ c. cond (has_leaf c) 1 0) t.blocks block b plain (omega (arith, tree.blocks))
 
   -- the block has the leaf that it had
@@ -71,7 +74,8 @@ module _ (t : RightsTree) (tree : IsTree t) (block : ℕ) (b : Block) (within : 
       }
 
 -- a block's pages have the same rights where its leaf is as before
-rights_in-same : (t u : RightsTree) (b : Block) (i : ℕ) → ((k : ℕ) → leaf_of b ≡ Some k → leaf_at u k ≡ leaf_at t k) → rights_in u b i ≡ rights_in t b i
+rights_in-same : (t u : RightsTree) (b : Block) (i : ℕ) → ((k : ℕ) → leaf_of b ≡ Some k → leaf_at u k ≡ leaf_at t k)
+    → rights_in u b i ≡ rights_in t b i
 rights_in-same t u (Uniform rights leaf) i same = refl
 rights_in-same t u (Mixed leaf) i same = ap (λ (ls : List (Option Rights)). slice_index_or ls i None) (same leaf refl)
 
@@ -113,23 +117,34 @@ module _ (t : RightsTree) (tree : IsTree t) (block : ℕ) (within : block < 2048
 
   pub mixed_room : (leaf : Option ℕ) → block_at t block ≡ Uniform rights leaf → IfNone leaf (length t.leaves < 2048)
   mixed_room None is =
-      omega (arith, tree.count, tree.blocks, count_changed t tree block (Mixed 0) within, ap {B = ℕ} (λ b. cond (has_leaf b) 1 0) is, count_by-le-length has_leaf (slice_set t.blocks block (Mixed 0)), length-set t.blocks block (Mixed 0))
+      omega (
+        arith,
+        tree.count,
+        tree.blocks,
+        count_changed t tree block (Mixed 0) within,
+        ap {B = ℕ} (λ b. cond (has_leaf b) 1 0) is,
+        count_by-le-length has_leaf (slice_set t.blocks block (Mixed 0)),
+        length-set t.blocks block (Mixed 0),
+      )
   mixed_room (Some n) is = tt
 
   pub mixed_tree : (leaf : Option ℕ) → block_at t block ≡ Uniform rights leaf
       → IsTree (with_block t block (Mixed (unwrap_or leaf (length t.leaves))) (with_leaf leaf filled t.leaves))
-  mixed_tree (Some n) is = IsTree-kept t tree block (Mixed n) within (with_leaf (Some n) filled t.leaves) (sym (ap leaf_of is)) (length-set t.leaves n filled)
+  mixed_tree (Some n) is = IsTree-kept t tree block (Mixed n) within (with_leaf (Some n) filled t.leaves) (sym (ap leaf_of is))
+      (length-set t.leaves n filled)
   mixed_tree None is =
       let n = length t.leaves in
       let after = with_block t block (Mixed n) (with_leaf None filled t.leaves) in
       let long : length after.leaves ≡ n + 1 = length-append t.leaves (filled ∷ []) in
       let here : leaf_of (block_at after block) ≡ Some n = ap leaf_of (block_here t tree block (Mixed n) within after.leaves) in
-      let elsewhere : (c : ℕ) → c ≢ block → leaf_of (block_at after c) ≡ leaf_of (block_at t c) = λ c other. ap leaf_of (block_elsewhere t tree block (Mixed n) within after.leaves c other) in
+      let elsewhere : (c : ℕ) → c ≢ block → leaf_of (block_at after c) ≡ leaf_of (block_at t c) =
+      λ c other. ap leaf_of (block_elsewhere t tree block (Mixed n) within after.leaves c other) in
       record {
         blocks = length-set t.blocks block (Mixed n) ∙ tree.blocks;
         count = omega (arith, long, tree.count, count_changed t tree block (Mixed n) within, ap {B = ℕ} (λ b. cond (has_leaf b) 1 0) is);
         known = λ c m at. elim (cases_eq c block) [
-          | inl e ↦ let same : n ≡ m = same_Some n m (sym here ∙ ap (λ d. leaf_of (block_at after d)) (sym e) ∙ at) in omega (arith, long, same)
+          | inl e ↦ let same : n ≡ m = same_Some n m (sym here ∙ ap (λ d. leaf_of (block_at after d)) (sym e) ∙ at) in
+              omega (arith, long, same)
           | inr other ↦ omega (arith, long, tree.known c m (sym (elsewhere c other) ∙ at))
         ];
         apart = λ c d m at also. elim (cases_eq c block) [
@@ -157,7 +172,8 @@ module _ (t : RightsTree) (tree : IsTree t) (block : ℕ) (within : block < 2048
   leaf_unwritten : (leaf : Option ℕ) → block_at t block ≡ Uniform rights leaf → (c k : ℕ) → c ≢ block → leaf_of (block_at t c) ≡ Some k
       → slice_index_or (with_leaf leaf filled t.leaves) k [] ≡ leaf_at t k
   leaf_unwritten None is c k other at = get_or_append_left t.leaves (filled ∷ []) [] k (tree.known c k at)
-  leaf_unwritten (Some n) is c k other at = get_or-set_other t.leaves n k filled [] (λ same. other (tree.apart c block k at (ap leaf_of is ∙ ap Some (sym same))))
+  leaf_unwritten (Some n) is c k other at = get_or-set_other t.leaves n k filled []
+      (λ same. other (tree.apart c block k at (ap leaf_of is ∙ ap Some (sym same))))
 
   pub mixed_rights : (leaf : Option ℕ) → block_at t block ≡ Uniform rights leaf → (p : ℕ)
       → rights_of (with_block t block (Mixed (unwrap_or leaf (length t.leaves))) (with_leaf leaf filled t.leaves)) p ≡ rights_of t p
@@ -170,7 +186,8 @@ module _ (t : RightsTree) (tree : IsTree t) (block : ℕ) (within : block < 2048
             ∙ ap (λ (ls : List (Option Rights)). slice_index_or ls (p % 512) None) (leaf_written leaf is)
             ∙ get_or-replicate 512 (p % 512) rights None (omega arith)
             ∙ sym (rights_of-at t p block (Uniform rights leaf) here is)
-        | inr other ↦ rights_of-elsewhere t after block p other (block_elsewhere t tree block (Mixed n) within after.leaves) (leaf_unwritten leaf is)
+        | inr other ↦ rights_of-elsewhere t after block p other (block_elsewhere t tree block (Mixed n) within after.leaves)
+            (leaf_unwritten leaf is)
       ]
 
 -- other rights stand in the leaf of a block
@@ -178,14 +195,18 @@ module _ (t : RightsTree) (tree : IsTree t) (block n : ℕ) (is : block_at t blo
   abbrev pub rewritten : RightsTree
   rewritten = record t { leaves = slice_set t.leaves n written }
 
-  pub rewritten_rights : (p : ℕ) → rights_of rewritten p ≡ (if p / 512 == block then slice_index_or written (p % 512) None else rights_of t p)
+  pub rewritten_rights : (p : ℕ) → rights_of rewritten p ≡ (if p / 512 == block then slice_index_or written
+      (p % 512) None else rights_of t p)
   rewritten_rights p = elim (cases_eq (p / 512) block) [
     | inl here ↦
         rights_of-at rewritten p block (Mixed n) here is
-        ∙ ap (λ (ls : List (Option Rights)). slice_index_or ls (p % 512) None) (get_or-set_same t.leaves n written [] (tree.known block n (ap leaf_of is)))
+        ∙ ap (λ (ls : List (Option Rights)). slice_index_or ls (p % 512) None)
+        (get_or-set_same t.leaves n written [] (tree.known block n (ap leaf_of is)))
         ∙ sym (cond-true _ (slice_index_or written (p % 512) None) (rights_of t p) (eq-eqb (p / 512) block here))
     | inr other ↦
-        rights_of-elsewhere t rewritten block p other (λ c apart. refl) (λ c k apart at. get_or-set_other t.leaves n k written [] (λ same. apart (tree.apart c block k at (ap leaf_of is ∙ ap Some (sym same)))))
+        rights_of-elsewhere t rewritten block p other (λ c apart. refl)
+        (λ c k apart at. get_or-set_other t.leaves n k written []
+        (λ same. apart (tree.apart c block k at (ap leaf_of is ∙ ap Some (sym same)))))
         ∙ sym (cond-false _ (slice_index_or written (p % 512) None) (rights_of t p) (ne_eqb (p / 512) block other))
   ]
 

@@ -68,14 +68,20 @@ pub page_of_bit : (m : Arena Mark) (page : ℕ) → bit_at (mark_of m 1 page).so
 unfolding is_populated
 page_of_bit m page is = eq-eqb _ _ is
 
-pub bits_over : (m : Arena Mark) → AreMarks m → (size page : ℕ) → 0 < size → size ≤ 3 → is_populated m page ≡ true → HasBit (mark_of m size page).some
+pub bits_over : (m : Arena Mark) → AreMarks m → (size page : ℕ) → 0 < size → size ≤ 3 → is_populated m page ≡ true
+    → HasBit (mark_of m size page).some
 bits_over m marks zero page low small is = absurd (omega arith)
 bits_over m marks (suc zero) page low small is = (page % 8, omega arith, bit_of_page m page is)
-bits_over m marks (suc (suc size)) page low small is =
-    (page / 8 ^ suc size % 8, omega arith, (marks.some (suc size) page (omega arith) (omega arith)).1 (bits_over m marks (suc size) page (omega arith) (omega arith) is))
+bits_over m marks (suc (suc size)) page low small is = (
+  page / 8 ^ suc size % 8,
+  omega arith,
+  (marks.some (suc size) page (omega arith) (omega arith)).1
+      (bits_over m marks (suc size) page (omega arith) (omega arith) is),
+)
 
 -- the page with this part of an extent round a page
-pub part_page : (size page part : ℕ) → size < 3 → part < 8 → (in_it : ℕ) × (in_it / 8 ^ suc size ≡ page / 8 ^ suc size) × (in_it / 8 ^ size % 8 ≡ part)
+pub part_page : (size page part : ℕ) → size < 3 → part < 8 → (in_it : ℕ) × (in_it / 8 ^ suc size ≡ page / 8 ^ suc size)
+    × (in_it / 8 ^ size % 8 ≡ part)
 part_page zero page part low small = (8 * (page / 8) + part, omega arith, omega arith)
 part_page (suc zero) page part low small = (64 * (page / 64) + 8 * part, omega arith, omega arith)
 part_page (suc (suc zero)) page part low small = (512 * (page / 512) + 64 * part, omega arith, omega arith)
@@ -91,30 +97,37 @@ some_page m marks (suc zero) page small has =
     (q.0, q.1, page_of_bit m q.0 (ap (bit_at (mark_of m 1 q.0).some) (sym part) ∙ bit))
 some_page m marks (suc (suc size)) page small has =
     let q = part_page (suc size) page has.0 (omega arith) has.1 in
-    let bit = ap (bit_at (mark_of m (suc (suc size)) q.0).some) q.2 ∙ (ap (λ v. bit_at v.some has.0) (mark_alike m (suc (suc size)) q.0 page small q.1) ∙ has.2) in
+    let bit = ap (bit_at (mark_of m (suc (suc size)) q.0).some) q.2 ∙ (ap (λ v. bit_at v.some has.0)
+    (mark_alike m (suc (suc size)) q.0 page small q.1) ∙ has.2) in
     let below = some_page m marks (suc size) q.0 (omega arith) ((marks.some (suc size) q.0 (omega arith) (omega arith)).0 bit) in
     (below.0, coarser (suc size) (suc (suc size)) below.0 q.0 (omega arith) small below.1 ∙ q.1, below.2)
 
 -- ---- all bits of a mark say that all pages are populated
 
-pub all_pages : (m : Arena Mark) → AreMarks m → (size page : ℕ) → 0 < size → size ≤ 3 → HasAllBits (mark_of m size page).full → AllPopulated m size page
+pub all_pages : (m : Arena Mark) → AreMarks m → (size page : ℕ) → 0 < size → size ≤ 3 → HasAllBits (mark_of m size page).full
+    → AllPopulated m size page
 all_pages m marks zero page low small all q same = absurd (omega arith)
 all_pages m marks (suc zero) page low small all q same =
-    page_of_bit m q (ap (λ v. bit_at v.some (q % 8)) (mark_alike m 1 q page (omega arith) same) ∙ (ap (λ n. bit_at n (q % 8)) (sym (marks.pages_full page)) ∙ all (q % 8) (omega arith)))
+    page_of_bit m q (ap (λ v. bit_at v.some (q % 8)) (mark_alike m 1 q page (omega arith) same)
+    ∙ (ap (λ n. bit_at n (q % 8)) (sym (marks.pages_full page)) ∙ all (q % 8) (omega arith)))
 all_pages m marks (suc (suc size)) page low small all q same =
-    let bit = ap (λ v. bit_at v.full (q / 8 ^ suc size % 8)) (mark_alike m (suc (suc size)) q page small same) ∙ all (q / 8 ^ suc size % 8) (omega arith) in
+    let bit = ap (λ v. bit_at v.full (q / 8 ^ suc size % 8)) (mark_alike m (suc (suc size)) q page small same)
+    ∙ all (q / 8 ^ suc size % 8) (omega arith) in
     all_pages m marks (suc size) q (omega arith) (omega arith) ((marks.full (suc size) q (omega arith) (omega arith)).0 bit) q refl
 
-pub pages_all : (m : Arena Mark) → AreMarks m → (size page : ℕ) → 0 < size → size ≤ 3 → AllPopulated m size page → HasAllBits (mark_of m size page).full
+pub pages_all : (m : Arena Mark) → AreMarks m → (size page : ℕ) → 0 < size → size ≤ 3 → AllPopulated m size page
+    → HasAllBits (mark_of m size page).full
 pages_all m marks zero page low small all part less = absurd (omega arith)
 pages_all m marks (suc zero) page low small all part less =
     let q = part_page 0 page part (omega arith) less in
     let part_is : q.0 % 8 ≡ part = omega (arith, q.2) in
     ap (λ n. bit_at n part) (marks.pages_full page)
-    ∙ (ap (λ v. bit_at v.some part) (sym (mark_alike m 1 q.0 page (omega arith) q.1)) ∙ (ap (bit_at (mark_of m 1 q.0).some) (sym part_is) ∙ bit_of_page m q.0 (all q.0 q.1)))
+    ∙ (ap (λ v. bit_at v.some part) (sym (mark_alike m 1 q.0 page (omega arith) q.1))
+    ∙ (ap (bit_at (mark_of m 1 q.0).some) (sym part_is) ∙ bit_of_page m q.0 (all q.0 q.1)))
 pages_all m marks (suc (suc size)) page low small all part less =
     let q = part_page (suc size) page part (omega arith) less in
-    let below = pages_all m marks (suc size) q.0 (omega arith) (omega arith) (λ r same. all r (coarser (suc size) (suc (suc size)) r q.0 (omega arith) small same ∙ q.1)) in
+    let below = pages_all m marks (suc size) q.0 (omega arith) (omega arith)
+    (λ r same. all r (coarser (suc size) (suc (suc size)) r q.0 (omega arith) small same ∙ q.1)) in
     ap (λ v. bit_at v.full part) (sym (mark_alike m (suc (suc size)) q.0 page small q.1))
     ∙ (ap (bit_at (mark_of m (suc (suc size)) q.0).full) (sym q.2) ∙ (marks.full (suc size) q.0 (omega arith) (omega arith)).1 below)
 
@@ -124,8 +137,10 @@ full_page m marks zero page small has = absurd (no_bit _ (marks.no_parts page).1
 full_page m marks (suc zero) page small has = some_page m marks 1 page small (subst HasBit (marks.pages_full page) has)
 full_page m marks (suc (suc size)) page small has =
     let q = part_page (suc size) page has.0 (omega arith) has.1 in
-    let bit = ap (bit_at (mark_of m (suc (suc size)) q.0).full) q.2 ∙ (ap (λ v. bit_at v.full has.0) (mark_alike m (suc (suc size)) q.0 page small q.1) ∙ has.2) in
-    let all = all_pages m marks (suc size) q.0 (omega arith) (omega arith) ((marks.full (suc size) q.0 (omega arith) (omega arith)).0 bit) in
+    let bit = ap (bit_at (mark_of m (suc (suc size)) q.0).full) q.2 ∙ (ap (λ v. bit_at v.full has.0)
+    (mark_alike m (suc (suc size)) q.0 page small q.1) ∙ has.2) in
+    let all = all_pages m marks (suc size) q.0 (omega arith) (omega arith)
+    ((marks.full (suc size) q.0 (omega arith) (omega arith)).0 bit) in
     (q.0, q.1, all q.0 refl)
 
 -- ---- room for nodes

@@ -45,7 +45,8 @@ bit_by P bit false is there back = (λ one. absurd (omega arith), λ p. absurd (
 
 pub is_carried : (old below : Mark) (some full part : ℕ) (has all : Bool) → (has ≡ true → HasBit below.some)
     → (HasBit below.some → has ≡ true) → (all ≡ true → HasAllBits below.full) → (HasAllBits below.full → all ≡ true)
-    → WithBit old.some some part has → WithBit old.full full part all → IsCarried old (record { id = old.id; some = some; full = full }) part below
+    → WithBit old.some some part has → WithBit old.full full part all
+    → IsCarried old (record { id = old.id; some = some; full = full }) part below
 is_carried old below some full part has all a b c d with_some with_full = record {
   id = refl;
   small = (with_some.small, with_full.small);

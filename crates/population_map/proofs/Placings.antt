@@ -34,8 +34,10 @@ in_none m page none = false_from_ne_true _ (λ is. let at = placed_size m page i
 -- A tree after the ids of some extents changed: bits of marks are as before, and what is kept is right.
 pub record ChangesIds (m n : Arena Mark) : Type 0 where
   pub splits : SplitsAreRowsBelow n
-  pub some : (size page part : ℕ) → size ≤ 3 → part < 8 → (bit_at (mark_of n size page).some part ≡ 1) ↔ (bit_at (mark_of m size page).some part ≡ 1)
-  pub full : (size page part : ℕ) → size ≤ 3 → part < 8 → (bit_at (mark_of n size page).full part ≡ 1) ↔ (bit_at (mark_of m size page).full part ≡ 1)
+  pub some : (size page part : ℕ) → size ≤ 3 → part < 8 → (bit_at (mark_of n size page).some part ≡ 1) ↔
+      (bit_at (mark_of m size page).some part ≡ 1)
+  pub full : (size page part : ℕ) → size ≤ 3 → part < 8 → (bit_at (mark_of n size page).full part ≡ 1) ↔
+      (bit_at (mark_of m size page).full part ≡ 1)
   pub no_parts : (page : ℕ) → ((mark_of n 0 page).some ≡ 0) × ((mark_of n 0 page).full ≡ 0)
   pub pages_full : (page : ℕ) → (mark_of n 1 page).full ≡ (mark_of n 1 page).some
   pub in_use : (size page : ℕ) → size ≤ 3 → is_some (row n size page) ≡ true
@@ -86,7 +88,8 @@ unfolding mark_of
 mark_else m n size page value c part other less apart = ap (λ v. unwrap_or v unmarked) (c.others part other less apart)
 
 -- the extent, or another
-here_or_not : (size page part other : ℕ) → ((part ≡ size) × (other / 8 ^ part ≡ page / 8 ^ part)) ⊎ (part ≡ size → other / 8 ^ part ≡ page / 8 ^ part → ⊥)
+here_or_not : (size page part other : ℕ) → ((part ≡ size) × (other / 8 ^ part ≡ page / 8 ^ part))
+    ⊎ (part ≡ size → other / 8 ^ part ≡ page / 8 ^ part → ⊥)
 here_or_not size page part other = elim (cases_eq part size) [
   | inr apart ↦ inr (λ e _. apart e)
   | inl e ↦ elim (cases_eq (other / 8 ^ part) (page / 8 ^ part)) [ inl same ↦ inl (e, same) | inr apart ↦ inr (λ _ same. apart same) ]
@@ -121,15 +124,19 @@ swapped_some m n size page value s part other bit less low = elim (here_or_not s
   | inl here ↦
       let there = at_size size page part other here.0 here.1 in
       let now = mark_here m n size page value s.changes other there in
-      subst (λ k. (bit_at (mark_of n k other).some bit ≡ 1) ↔ (bit_at (mark_of m k other).some bit ≡ 1)) (sym here.0)
-      (λ h. absurd (no_bit 0 refl (bit, low, ap (λ x. bit_at x bit) (sym (ap (λ v. v.some) now ∙ s.some_now)) ∙ h)), λ h. absurd (s.some_before other there (bit, low, h)))
-  | inr else ↦ let at = ap (λ v. bit_at v.some bit) (mark_else m n size page value s.changes part other less else) in (λ h. sym at ∙ h, λ h. at ∙ h)
+      subst (λ k. (bit_at (mark_of n k other).some bit ≡ 1) ↔ (bit_at (mark_of m k other).some bit ≡ 1)) (sym here.0) (
+        λ h. absurd (no_bit 0 refl (bit, low, ap (λ x. bit_at x bit) (sym (ap (λ v. v.some) now ∙ s.some_now)) ∙ h)),
+        λ h. absurd (s.some_before other there (bit, low, h)),
+      )
+  | inr else ↦ let at = ap (λ v. bit_at v.some bit) (mark_else m n size page value s.changes part other less else) in
+      (λ h. sym at ∙ h, λ h. at ∙ h)
 ]
 
 -- and so are populated pages
 swapped_pages : (m n : Arena Mark) (size page : ℕ) (value : Option Mark) → SwapsId m n size page value → (other : ℕ)
     → is_populated n other ≡ is_populated m other
-swapped_pages m n size page value s other = same_pages m n other (swapped_some m n size page value s 1 other (other % 8) (omega arith) (omega arith))
+swapped_pages m n size page value s other = same_pages m n other (swapped_some m n size page value s 1 other (other % 8) (omega arith)
+    (omega arith))
 
 -- what is kept is right where the placed pages are
 pub swapped : (m n : Arena Mark) (size page : ℕ) (value : Option Mark) → AreMarks m → SwapsId m n size page value
@@ -142,32 +149,41 @@ swapped m n size page value marks s placed apart = record {
   full = full;
   no_parts = λ other. elim (here_or_not size page 0 other) [
     | inl here ↦
-        let at : mark_of n 0 other ≡ unwrap_or value unmarked = subst (λ k. mark_of n k other ≡ unwrap_or value unmarked) (sym here.0) (mark_here m n size page value s.changes other (at_size size page 0 other here.0 here.1)) in
+        let at : mark_of n 0 other ≡ unwrap_or value unmarked = subst (λ k. mark_of n k other ≡ unwrap_or value unmarked) (sym here.0)
+        (mark_here m n size page value s.changes other (at_size size page 0 other here.0 here.1)) in
         (ap (λ v. v.some) at ∙ s.some_now, ap (λ v. v.full) at ∙ s.full_now)
-    | inr else ↦ let at = mark_else m n size page value s.changes 0 other (omega arith) else in (ap (λ v. v.some) at ∙ (marks.no_parts other).0, ap (λ v. v.full) at ∙ (marks.no_parts other).1)
+    | inr else ↦ let at = mark_else m n size page value s.changes 0 other (omega arith) else in
+        (ap (λ v. v.some) at ∙ (marks.no_parts other).0, ap (λ v. v.full) at ∙ (marks.no_parts other).1)
   ];
   pages_full = λ other. elim (here_or_not size page 1 other) [
     | inl here ↦
-        let at : mark_of n 1 other ≡ unwrap_or value unmarked = subst (λ k. mark_of n k other ≡ unwrap_or value unmarked) (sym here.0) (mark_here m n size page value s.changes other (at_size size page 1 other here.0 here.1)) in
+        let at : mark_of n 1 other ≡ unwrap_or value unmarked = subst (λ k. mark_of n k other ≡ unwrap_or value unmarked) (sym here.0)
+        (mark_here m n size page value s.changes other (at_size size page 1 other here.0 here.1)) in
         ap (λ v. v.full) at ∙ (s.full_now ∙ (sym s.some_now ∙ ap (λ v. v.some) (sym at)))
-    | inr else ↦ let at = mark_else m n size page value s.changes 1 other (omega arith) else in ap (λ v. v.full) at ∙ (marks.pages_full other ∙ ap (λ v. v.some) (sym at))
+    | inr else ↦ let at = mark_else m n size page value s.changes 1 other (omega arith) else in ap (λ v. v.full) at
+        ∙ (marks.pages_full other ∙ ap (λ v. v.some) (sym at))
   ];
   in_use = in_use;
   placed = placed;
   apart = apart;
 }
   where
-    full : (part other bit : ℕ) → part ≤ 3 → bit < 8 → (bit_at (mark_of n part other).full bit ≡ 1) ↔ (bit_at (mark_of m part other).full bit ≡ 1)
+    full : (part other bit : ℕ) → part ≤ 3 → bit < 8 → (bit_at (mark_of n part other).full bit ≡ 1) ↔
+        (bit_at (mark_of m part other).full bit ≡ 1)
     full part other bit less low = elim (here_or_not size page part other) [
       | inl here ↦
           let there = at_size size page part other here.0 here.1 in
           let now = mark_here m n size page value s.changes other there in
-          subst (λ k. (bit_at (mark_of n k other).full bit ≡ 1) ↔ (bit_at (mark_of m k other).full bit ≡ 1)) (sym here.0)
-          (λ h. absurd (no_bit 0 refl (bit, low, ap (λ x. bit_at x bit) (sym (ap (λ v. v.full) now ∙ s.full_now)) ∙ h)), λ h. absurd (s.full_before other there (bit, low, h)))
-      | inr else ↦ let at = ap (λ v. bit_at v.full bit) (mark_else m n size page value s.changes part other less else) in (λ h. sym at ∙ h, λ h. at ∙ h)
+          subst (λ k. (bit_at (mark_of n k other).full bit ≡ 1) ↔ (bit_at (mark_of m k other).full bit ≡ 1)) (sym here.0) (
+            λ h. absurd (no_bit 0 refl (bit, low, ap (λ x. bit_at x bit) (sym (ap (λ v. v.full) now ∙ s.full_now)) ∙ h)),
+            λ h. absurd (s.full_before other there (bit, low, h)),
+          )
+      | inr else ↦ let at = ap (λ v. bit_at v.full bit) (mark_else m n size page value s.changes part other less else) in
+          (λ h. sym at ∙ h, λ h. at ∙ h)
     ]
 
-    in_use : (part other : ℕ) → part ≤ 3 → is_some (row n part other) ≡ true → (is_some (id_of n part other) ≡ true) ⊎ (HasBit (mark_of n part other).some ⊎ HasBit (mark_of n part other).full)
+    in_use : (part other : ℕ) → part ≤ 3 → is_some (row n part other) ≡ true
+        → (is_some (id_of n part other) ≡ true) ⊎ (HasBit (mark_of n part other).some ⊎ HasBit (mark_of n part other).full)
     in_use part other less has = elim (here_or_not size page part other) [
       | inl here ↦
           let there = at_size size page part other here.0 here.1 in
@@ -214,11 +230,18 @@ pub place_room : (m : Arena Mark) (size first : ℕ) → AreMarks m → size ≤
 unfolding placed_pages
 place_room m size first marks small aligned low apart room =
     let most = room_for m (λ q. is_placed m q || (q / 8 ^ size == first / 8 ^ size)) size first
-    (record { splits = marks.splits; pages = λ part page less has. let q = rows_placed m marks part page less has in (q.0, q.1, or_left _ _ q.2) })
+    (record {
+      splits = marks.splits;
+      pages = λ part page less has. let q = rows_placed m marks part page less has in
+          (q.0, q.1, or_left _ _ q.2);
+    })
     (or_right (is_placed m first) _ (eq-eqb _ _ refl)) in
-    let count = count_block (is_placed m) (λ q. is_placed m q || (q / 8 ^ size == first / 8 ^ size)) (512 * m.roots) first (8 ^ size) (extent_within size first m.roots small aligned low)
-    (λ page a b. let same = in_extent size first page small aligned a b in (in_none m page (apart page same), or_right (is_placed m page) _ (eq-eqb _ _ same)))
-    (λ page out. beside_test (is_placed m page) (page / 8 ^ size == first / 8 ^ size) (false_from_ne_true _ (λ same. let at = of_extent size first page small aligned (eqb-true _ _ same) in out at.0 at.1))) in
+    let count = count_block (is_placed m) (λ q. is_placed m q || (q / 8 ^ size == first / 8 ^ size)) (512 * m.roots) first (8 ^ size)
+    (extent_within size first m.roots small aligned low)
+    (λ page a b. let same = in_extent size first page small aligned a b in
+    (in_none m page (apart page same), or_right (is_placed m page) _ (eq-eqb _ _ same)))
+    (λ page out. beside_test (is_placed m page) (page / 8 ^ size == first / 8 ^ size)
+    (false_from_ne_true _ (λ same. let at = of_extent size first page small aligned (eqb-true _ _ same) in out at.0 at.1))) in
     omega (arith, most, count, room)
   where
     beside_test : (a b : Bool) → b ≡ false → (a || b) ≡ a
@@ -231,13 +254,16 @@ pub record Placed (m n : Arena Mark) (size first : ℕ) (id : Option ℕ) : Type
   pub placed : PlacesOnly m n size first id
   pub empty : EmptiesOnly m n size first
 
-pub placed_extent : (m n : Arena Mark) (size first id : ℕ) → AreMarks m → size ≤ 3 → ((page : ℕ) → page / 8 ^ size ≡ first / 8 ^ size → IsInNone m page)
-    → ChangesOnly m n size first (Some (record { id = Some id; some = 0; full = 0 })) → SplitsAreRowsBelow n → Placed m n size first (Some id)
+pub placed_extent : (m n : Arena Mark) (size first id : ℕ) → AreMarks m → size ≤ 3
+    → ((page : ℕ) → page / 8 ^ size ≡ first / 8 ^ size → IsInNone m page)
+    → ChangesOnly m n size first (Some (record { id = Some id; some = 0; full = 0 })) → SplitsAreRowsBelow n
+    → Placed m n size first (Some id)
 placed_extent m n size first id marks small apart changes splits = record {
   marks = marks_with_ids m n marks (swapped m n size first value marks swaps placed_after apart_after);
   placed = ids;
   empty = record {
-    emptied = λ other same. pages other ∙ false_from_ne_true _ (λ is. false≢true (sym (in_none m other (apart other same)) ∙ marks.placed other is));
+    emptied = λ other same. pages other ∙ false_from_ne_true _ (λ is. false≢true
+        (sym (in_none m other (apart other same)) ∙ marks.placed other is));
     others = λ other _. pages other;
   };
 }
@@ -268,7 +294,8 @@ placed_extent m n size first id marks small apart changes splits = record {
 
     still : (part other : ℕ) → part ≤ 3 → is_some (id_of m part other) ≡ true → is_some (id_of n part other) ≡ true
     still part other less has = elim (here_or_not size first part other) [
-      | inl here ↦ subst (λ k. is_some (id_of n k other) ≡ true) (sym here.0) (ap is_some (ids.changed other (at_size size first part other here.0 here.1)))
+      | inl here ↦ subst (λ k. is_some (id_of n k other) ≡ true) (sym here.0)
+          (ap is_some (ids.changed other (at_size size first part other here.0 here.1)))
       | inr else ↦ ap is_some (ids.others part other less else) ∙ has
     ]
 
@@ -278,7 +305,8 @@ placed_extent m n size first id marks small apart changes splits = record {
         placed_by n at.0 other at.1 (still at.0 other at.1 at.2)
 
     -- an id that isn't the new one was there before
-    was : (part other : ℕ) → part ≤ 3 → (part ≡ size → other / 8 ^ part ≡ first / 8 ^ part → ⊥) → is_some (id_of n part other) ≡ true → is_some (id_of m part other) ≡ true
+    was : (part other : ℕ) → part ≤ 3 → (part ≡ size → other / 8 ^ part ≡ first / 8 ^ part → ⊥) → is_some (id_of n part other) ≡ true
+        → is_some (id_of m part other) ≡ true
     was part other less else has = ap is_some (sym (ids.others part other less else)) ∙ has
 
     alone : (part other : ℕ) → part ≤ 3 → other / 8 ^ size ≡ first / 8 ^ size → is_some (id_of m part other) ≡ true → ⊥
@@ -310,7 +338,8 @@ pub removed_extent : (m n : Arena Mark) (size first : ℕ) → AreMarks m → si
     → ((page : ℕ) → page / 8 ^ size ≡ first / 8 ^ size → is_populated m page ≡ false)
     → ChangesOnly m n size first None → SplitsAreRowsBelow n → Placed m n size first None
 removed_extent m n size first marks small empty changes splits = record {
-  marks = marks_with_ids m n marks (swapped m n size first None marks swaps placed_after (λ a b other x y p q. marks.apart a b other x y (was a other x p) (was b other y q)));
+  marks = marks_with_ids m n marks (swapped m n size first None marks swaps placed_after
+      (λ a b other x y p q. marks.apart a b other x y (was a other x p) (was b other y q)));
   placed = ids;
   empty = record { emptied = λ other same. pages other ∙ empty other same; others = λ other _. pages other };
 }
@@ -338,14 +367,16 @@ removed_extent m n size first marks small empty changes splits = record {
 
     was : (part other : ℕ) → part ≤ 3 → is_some (id_of n part other) ≡ true → is_some (id_of m part other) ≡ true
     was part other less has = elim (here_or_not size first part other) [
-      | inl here ↦ absurd (false≢true (sym (ap is_some (ids.changed other (at_size size first part other here.0 here.1))) ∙ subst (λ k. is_some (id_of n k other) ≡ true) here.0 has))
+      | inl here ↦ absurd (false≢true (sym (ap is_some (ids.changed other (at_size size first part other here.0 here.1)))
+          ∙ subst (λ k. is_some (id_of n k other) ≡ true) here.0 has))
       | inr else ↦ ap is_some (sym (ids.others part other less else)) ∙ has
     ]
 
     placed_after : (other : ℕ) → is_populated n other ≡ true → is_placed n other ≡ true
     placed_after other is =
         let before = sym (pages other) ∙ is in
-        placed_alike m n other (beside m n size first None ids other (λ same. false≢true (sym (empty other same) ∙ before))) ∙ marks.placed other before
+        placed_alike m n other (beside m n size first None ids other (λ same. false≢true (sym (empty other same) ∙ before)))
+        ∙ marks.placed other before
 
 pub removed_count : (m n : Arena Mark) (size first : ℕ) → AreMarks m → size ≤ 3 → first % 8 ^ size ≡ 0 → first < 512 * m.roots
     → n.roots ≡ m.roots → is_some (id_of m size first) ≡ true
@@ -363,7 +394,8 @@ removed_count m n size first marks small aligned low roots has ids =
       | inl here ↦ subst (λ k. id_of n k page ≡ None) (sym here.0) (ids.changed page same)
       | inr else ↦ elim (some_or_none (id_of m part page)) [
         | inl none ↦ ids.others part page less else ∙ none
-        | inr some ↦ let e = marks.apart part size page less small some (there page same) in absurd (else e (ap (λ k. page / 8 ^ k) e ∙ (same ∙ ap (λ k. first / 8 ^ k) (sym e))))
+        | inr some ↦ let e = marks.apart part size page less small some (there page same) in
+            absurd (else e (ap (λ k. page / 8 ^ k) e ∙ (same ∙ ap (λ k. first / 8 ^ k) (sym e))))
       ]
     ]
 
@@ -375,7 +407,8 @@ pub spot_id : (m : Arena Mark) (height page : ℕ) (s : Spot Mark) (mark : Mark)
 unfolding id_of mark_of row
 spot_id m height page s mark small seen is =
     let back : 3 - (3 - height) ≡ height = omega arith in
-    ap (λ v. v.id) is ∙ (ap (λ s. (let v : Mark = unwrap_or s.value unmarked in v.id)) seen ∙ ap (λ h. (let v : Mark = unwrap_or (spot_of m h page).value unmarked in v.id)) (sym back))
+    ap (λ v. v.id) is ∙ (ap (λ s. (let v : Mark = unwrap_or s.value unmarked in v.id)) seen
+    ∙ ap (λ h. (let v : Mark = unwrap_or (spot_of m h page).value unmarked in v.id)) (sym back))
 
 -- what is split has a placed page
 pub split_is_placed : (m : Arena Mark) (size page : ℕ) → AreMarks m → size ≤ 3 → is_split m size page ≡ true
@@ -392,7 +425,9 @@ pub none_met : (m : Arena Mark) (size page : ℕ) → AreMarks m → size ≤ 3
 none_met m size page marks small none split other same part less = elim (some_or_none (id_of m part other)) [
   | inl none_there ↦ none_there
   | inr some ↦ elim (cases_lt part size) [
-    | inl below ↦ absurd (false≢true (sym split ∙ (sym (split_alike m size other page small same) ∙ marks.splits.above size part other below small (row_if_id m part other some))))
+    | inl below ↦ absurd (false≢true
+        (sym split ∙ (sym (split_alike m size other page small same) ∙ marks.splits.above size part other below small
+        (row_if_id m part other some))))
     | inr from ↦ id_alike m part other page less (coarser size part other page from less same) ∙ none part from less
   ]
 ]
@@ -424,7 +459,8 @@ none_further m page below id low is fails none size far small = elim (cases_eq s
 ]
 
 -- where the same extents are placed, as many pages are
-pub same_count : (m n : Arena Mark) → n.roots ≡ m.roots → ((size page : ℕ) → size ≤ 3 → id_of n size page ≡ id_of m size page) → placed_pages n ≡ placed_pages m
+pub same_count : (m n : Arena Mark) → n.roots ≡ m.roots → ((size page : ℕ) → size ≤ 3 → id_of n size page ≡ id_of m size page)
+    → placed_pages n ≡ placed_pages m
 unfolding placed_pages
 same_count m n roots ids =
     ap (λ r. count_by (is_placed n) (range_with_len 0 (512 * r))) roots
@@ -444,29 +480,38 @@ unfolding mark_of id_of
 start_marks m empty splits = record {
   splits = splits;
   in_use = λ size page _ has. absurd (false≢true (sym (ap is_some (empty size page)) ∙ has));
-  no_parts = λ page. (ap (λ o. (let v : Mark = unwrap_or o unmarked in v.some)) (empty 0 page), ap (λ o. (let v : Mark = unwrap_or o unmarked in v.full)) (empty 0 page));
-  pages_full = λ page. ap (λ o. (let v : Mark = unwrap_or o unmarked in v.full)) (empty 1 page) ∙ sym (ap (λ o. (let v : Mark = unwrap_or o unmarked in v.some)) (empty 1 page));
+  no_parts = λ page. (
+    ap (λ o. (let v : Mark = unwrap_or o unmarked in v.some)) (empty 0 page),
+    ap (λ o. (let v : Mark = unwrap_or o unmarked in v.full)) (empty 0 page),
+  );
+  pages_full = λ page. ap (λ o. (let v : Mark = unwrap_or o unmarked in v.full)) (empty 1 page)
+      ∙ sym (ap (λ o. (let v : Mark = unwrap_or o unmarked in v.some)) (empty 1 page));
   some = λ size page low less.
       let whole = ap (λ o. (let v : Mark = unwrap_or o unmarked in v.some)) (empty (suc size) page) in
       let part = ap (λ o. (let v : Mark = unwrap_or o unmarked in v.some)) (empty size page) in
       (λ bit. absurd (no_bit _ whole (page / 8 ^ size % 8, omega arith, bit)), λ has. absurd (no_bit _ part has));
   full = λ size page low less.
       let whole = ap (λ o. (let v : Mark = unwrap_or o unmarked in v.full)) (empty (suc size) page) in
-      let part = ap (λ o. (let v : Mark = unwrap_or o unmarked in v.full)) (empty size page) in
-      (λ bit. absurd (no_bit _ whole (page / 8 ^ size % 8, omega arith, bit)), λ all. absurd (no_bit _ part (0, omega arith, all 0 (omega arith))));
+      let part = ap (λ o. (let v : Mark = unwrap_or o unmarked in v.full)) (empty size page) in (
+        λ bit. absurd (no_bit _ whole (page / 8 ^ size % 8, omega arith, bit)),
+        λ all. absurd (no_bit _ part (0, omega arith, all 0 (omega arith))),
+      );
   placed = λ page is. absurd (false≢true (sym (no_page m empty page) ∙ is));
-  apart = λ a b page _ _ has _. absurd (false≢true (sym (ap (λ o. (let v : Mark = unwrap_or o unmarked in is_some v.id)) (empty a page)) ∙ has));
+  apart = λ a b page _ _ has _. absurd
+      (false≢true (sym (ap (λ o. (let v : Mark = unwrap_or o unmarked in is_some v.id)) (empty a page)) ∙ has));
 }
   where
     no_page : (m : Arena Mark) → ((size page : ℕ) → row m size page ≡ None) → (page : ℕ) → is_populated m page ≡ false
-    no_page m empty page = false_from_ne_true _ (λ is. no_bit _ (ap (λ o. (let v : Mark = unwrap_or o unmarked in v.some)) (empty 1 page)) (page % 8, omega arith, bit_of_page m page is))
+    no_page m empty page = false_from_ne_true _ (λ is. no_bit _ (ap (λ o. (let v : Mark = unwrap_or o unmarked in v.some)) (empty 1 page))
+        (page % 8, omega arith, bit_of_page m page is))
 
 pub start_ids : (m : Arena Mark) → ((size page : ℕ) → row m size page ≡ None) → (size page : ℕ) → id_of m size page ≡ None
 unfolding mark_of id_of
 start_ids m empty size page = ap (λ o. (let v : Mark = unwrap_or o unmarked in v.id)) (empty size page)
 
 pub start_pages : (m : Arena Mark) → ((size page : ℕ) → id_of m size page ≡ None) → AreMarks m → (page : ℕ) → is_populated m page ≡ false
-start_pages m none marks page = false_from_ne_true _ (λ is. false≢true (sym (in_none m page (λ size _. none size page)) ∙ marks.placed page is))
+start_pages m none marks page = false_from_ne_true _ (λ is. false≢true
+    (sym (in_none m page (λ size _. none size page)) ∙ marks.placed page is))
 
 pub start_count : (m : Arena Mark) → ((size page : ℕ) → id_of m size page ≡ None) → placed_pages m ≡ 0
 unfolding placed_pages
@@ -487,14 +532,16 @@ some_says m zero page marks low small = absurd (omega arith)
 some_says m (suc zero) page marks low small =
     let part : page / 1 % 8 ≡ page % 8 = omega arith in (
       λ bit. (page, refl, page_of_bit m page (ap (bit_at (mark_of m 1 page).some) (sym part) ∙ bit)),
-      λ q. let same : q.0 ≡ page = omega (arith, q.1) in ap (bit_at (mark_of m 1 page).some) part ∙ bit_of_page m page (ap (is_populated m) (sym same) ∙ q.2),
+      λ q. let same : q.0 ≡ page = omega (arith, q.1) in ap (bit_at (mark_of m 1 page).some) part
+          ∙ bit_of_page m page (ap (is_populated m) (sym same) ∙ q.2),
     )
 some_says m (suc (suc size)) page marks low small =
     let less : suc (suc size) - 1 ≡ suc size = omega arith in
     let says = marks.some (suc size) page (omega arith) (omega arith) in
     subst (λ k. (bit_at (mark_of m (suc (suc size)) page).some (page / 8 ^ k % 8) ≡ 1) ↔ SomePopulated m k page) (sym less) (
       λ bit. some_page m marks (suc size) page (omega arith) (says.0 bit),
-      λ q. says.1 (subst (λ v. HasBit v.some) (mark_alike m (suc size) q.0 page (omega arith) q.1) (bits_over m marks (suc size) q.0 (omega arith) (omega arith) q.2)),
+      λ q. says.1 (subst (λ v. HasBit v.some) (mark_alike m (suc size) q.0 page (omega arith) q.1)
+          (bits_over m marks (suc size) q.0 (omega arith) (omega arith) q.2)),
     )
 
 pub full_says : (m : Arena Mark) (size page : ℕ) → AreMarks m → 0 < size → size ≤ 3
@@ -503,11 +550,14 @@ full_says m zero page marks low small = absurd (omega arith)
 full_says m (suc zero) page marks low small =
     let part : page / 1 % 8 ≡ page % 8 = omega arith in
     let same_bits = ap (λ n. bit_at n (page / 1 % 8)) (marks.pages_full page) in (
-      λ bit. λ q at. let same : page ≡ q = omega (arith, at) in ap (is_populated m) (sym same) ∙ page_of_bit m page (ap (bit_at (mark_of m 1 page).some) (sym part) ∙ (sym same_bits ∙ bit)),
+      λ bit. λ q at. let same : page ≡ q = omega (arith, at) in ap (is_populated m) (sym same)
+          ∙ page_of_bit m page (ap (bit_at (mark_of m 1 page).some) (sym part) ∙ (sym same_bits ∙ bit)),
       λ all. same_bits ∙ (ap (bit_at (mark_of m 1 page).some) part ∙ bit_of_page m page (all page refl)),
     )
 full_says m (suc (suc size)) page marks low small =
     let less : suc (suc size) - 1 ≡ suc size = omega arith in
     let says = marks.full (suc size) page (omega arith) (omega arith) in
-    subst (λ k. (bit_at (mark_of m (suc (suc size)) page).full (page / 8 ^ k % 8) ≡ 1) ↔ AllPopulated m k page) (sym less)
-    (λ bit. all_pages m marks (suc size) page (omega arith) (omega arith) (says.0 bit), λ all. says.1 (pages_all m marks (suc size) page (omega arith) (omega arith) all))
+    subst (λ k. (bit_at (mark_of m (suc (suc size)) page).full (page / 8 ^ k % 8) ≡ 1) ↔ AllPopulated m k page) (sym less) (
+      λ bit. all_pages m marks (suc size) page (omega arith) (omega arith) (says.0 bit),
+      λ all. says.1 (pages_all m marks (suc size) page (omega arith) (omega arith) all),
+    )

@@ -22,12 +22,14 @@ way_written m a b n page small middle large first second third splits = record {
   splits = splits;
   roots = third.roots ∙ (second.roots ∙ first.roots);
   room = third.room ∙ (second.room ∙ first.room);
-  of_8 = λ other same. third.others 1 other (omega arith) (λ e _. absurd (omega (arith, e))) ∙ (second.others 1 other (omega arith) (λ e _. absurd (omega (arith, e))) ∙ first.changed other same);
+  of_8 = λ other same. third.others 1 other (omega arith) (λ e _. absurd (omega (arith, e)))
+      ∙ (second.others 1 other (omega arith) (λ e _. absurd (omega (arith, e))) ∙ first.changed other same);
   of_64 = λ other same. third.others 2 other (omega arith) (λ e _. absurd (omega (arith, e))) ∙ second.changed other same;
   of_512 = third.changed;
   others = λ size other less apart.
       third.others size other less (λ e same. apart (omega (arith, e)) same)
-      ∙ (second.others size other less (λ e same. apart (omega (arith, e)) same) ∙ first.others size other less (λ e same. apart (omega (arith, e)) same));
+      ∙ (second.others size other less (λ e same. apart (omega (arith, e)) same)
+      ∙ first.others size other less (λ e same. apart (omega (arith, e)) same));
 }
 
 -- each tree on the way has its rows round pages that pass
@@ -51,15 +53,18 @@ kept_mark mark = elim (cases_Bool (is_none mark.id && mark.some == 0 && mark.ful
   | inl nothing ↦
       let parts = and_parts (is_none mark.id && mark.some == 0) (mark.full == 0) nothing in
       let more = and_parts (is_none mark.id) (mark.some == 0) parts.0 in
-      ap (λ b. unwrap_or (cond b None (Some mark)) unmarked) nothing ∙ sym (all_none mark (none_from_is_none mark.id more.0) (eqb-true _ _ more.1) (eqb-true _ _ parts.1))
+      ap (λ b. unwrap_or (cond b None (Some mark)) unmarked) nothing ∙ sym
+      (all_none mark (none_from_is_none mark.id more.0) (eqb-true _ _ more.1) (eqb-true _ _ parts.1))
 ]
   where
     all_none : (v : Mark) → v.id ≡ None → v.some ≡ 0 → v.full ≡ 0 → v ≡ unmarked
     all_none v a b c =
-        ap (λ i. record { id = i; some = v.some; full = v.full }) a ∙ (ap (λ s. record { id = None; some = s; full = v.full }) b ∙ ap (λ f. record { id = None; some = 0; full = f }) c)
+        ap (λ i. record { id = i; some = v.some; full = v.full }) a ∙ (ap (λ s. record { id = None; some = s; full = v.full }) b
+        ∙ ap (λ f. record { id = None; some = 0; full = f }) c)
 
 -- a mark that is kept says something
-kept_says : (mark : Mark) → mark.some < 256 → mark.full < 256 → is_some (kept mark) ≡ true → (is_some mark.id ≡ true) ⊎ (HasBit mark.some ⊎ HasBit mark.full)
+kept_says : (mark : Mark) → mark.some < 256 → mark.full < 256 → is_some (kept mark) ≡ true
+    → (is_some mark.id ≡ true) ⊎ (HasBit mark.some ⊎ HasBit mark.full)
 kept_says mark a b is = elim (cases_eq mark.some 0) [
   | inr some ↦ inr (inl (has_bit mark.some a some))
   | inl zero_some ↦ elim (cases_eq mark.full 0) [
@@ -68,7 +73,8 @@ kept_says mark a b is = elim (cases_eq mark.some 0) [
   ]
 ]
   where
-    of_id : (o : Option ℕ) (s f : ℕ) → s ≡ 0 → f ≡ 0 → is_some (let v : Option Mark = cond (is_none o && s == 0 && f == 0) None (Some mark) in v) ≡ true → is_some o ≡ true
+    of_id : (o : Option ℕ) (s f : ℕ) → s ≡ 0 → f ≡ 0 → is_some (let v : Option Mark = cond (is_none o && s == 0 && f == 0) None
+        (Some mark) in v) ≡ true → is_some o ≡ true
     of_id (Some n) s f x y h = refl
     of_id None s f x y h =
         let e = ap (λ b. is_some (let v : Option Mark = cond (true && b && f == 0) None (Some mark) in v)) (sym (eq-eqb s 0 x)) in
@@ -114,22 +120,27 @@ elsewhere m n page small middle large writes size other less apart = ap (λ v. u
 pub same_ids : (m n : Arena Mark) (page : ℕ) (is_in : Bool) (small middle large : Mark) → ChangesPage m n page is_in small middle large
     → (size other : ℕ) → size ≤ 3 → id_of n size other ≡ id_of m size other
 unfolding id_of
-same_ids m n page is_in small middle large c zero other less = ap (λ v. v.id) (elsewhere m n page small middle large c.writes 0 other less (λ low _. omega (arith, low)))
+same_ids m n page is_in small middle large c zero other less = ap (λ v. v.id)
+    (elsewhere m n page small middle large c.writes 0 other less (λ low _. omega (arith, low)))
 same_ids m n page is_in small middle large c (suc zero) other less = elim (cases_eq (other / 8) (page / 8)) [
-  | inl same ↦ ap (λ v. v.id) (here_8 m n page small middle large c.writes other same) ∙ (c.asks.small_id ∙ ap (λ v. v.id) (mark_alike m 1 page other (omega arith) (sym same)))
+  | inl same ↦ ap (λ v. v.id) (here_8 m n page small middle large c.writes other same)
+      ∙ (c.asks.small_id ∙ ap (λ v. v.id) (mark_alike m 1 page other (omega arith) (sym same)))
   | inr apart ↦ ap (λ v. v.id) (elsewhere m n page small middle large c.writes 1 other less (λ _ same. apart same))
 ]
 same_ids m n page is_in small middle large c (suc (suc zero)) other less = elim (cases_eq (other / 64) (page / 64)) [
-  | inl same ↦ ap (λ v. v.id) (here_64 m n page small middle large c.writes other same) ∙ (c.asks.middle_is.id ∙ ap (λ v. v.id) (mark_alike m 2 page other (omega arith) (sym same)))
+  | inl same ↦ ap (λ v. v.id) (here_64 m n page small middle large c.writes other same)
+      ∙ (c.asks.middle_is.id ∙ ap (λ v. v.id) (mark_alike m 2 page other (omega arith) (sym same)))
   | inr apart ↦ ap (λ v. v.id) (elsewhere m n page small middle large c.writes 2 other less (λ _ same. apart same))
 ]
 same_ids m n page is_in small middle large c (suc (suc (suc zero))) other less = elim (cases_eq (other / 512) (page / 512)) [
-  | inl same ↦ ap (λ v. v.id) (here_512 m n page small middle large c.writes other same) ∙ (c.asks.large_is.id ∙ ap (λ v. v.id) (mark_alike m 3 page other (omega arith) (sym same)))
+  | inl same ↦ ap (λ v. v.id) (here_512 m n page small middle large c.writes other same)
+      ∙ (c.asks.large_is.id ∙ ap (λ v. v.id) (mark_alike m 3 page other (omega arith) (sym same)))
   | inr apart ↦ ap (λ v. v.id) (elsewhere m n page small middle large c.writes 3 other less (λ _ same. apart same))
 ]
 same_ids m n page is_in small middle large c (suc (suc (suc (suc size)))) other less = absurd (omega arith)
 
-pub placed_alike : (m n : Arena Mark) (other : ℕ) → ((size : ℕ) → size ≤ 3 → id_of n size other ≡ id_of m size other) → is_placed n other ≡ is_placed m other
+pub placed_alike : (m n : Arena Mark) (other : ℕ) → ((size : ℕ) → size ≤ 3 → id_of n size other ≡ id_of m size other)
+    → is_placed n other ≡ is_placed m other
 unfolding is_placed
 placed_alike m n other ids =
     ap (λ o. is_some o || is_some (id_of n 1 other) || is_some (id_of n 2 other) || is_some (id_of n 3 other)) (ids 0 (omega arith))
@@ -142,13 +153,16 @@ pub populates : (m n : Arena Mark) (page : ℕ) (is_in : Bool) (small middle lar
     → PopulatesOnly m n page is_in
 unfolding is_populated
 populates m n page is_in small middle large c = record {
-  changed = ap (λ v. bit_at v.some (page % 8) == 1) (here_8 m n page small middle large c.writes page refl) ∙ (ap (λ b. b == 1) c.asks.small_some.same ∙ bit_of_test is_in);
+  changed = ap (λ v. bit_at v.some (page % 8) == 1) (here_8 m n page small middle large c.writes page refl)
+      ∙ (ap (λ b. b == 1) c.asks.small_some.same ∙ bit_of_test is_in);
   others = λ other apart. elim (cases_eq (other / 8) (page / 8)) [
-    | inr elsewhere' ↦ ap (λ v. bit_at v.some (other % 8) == 1) (elsewhere m n page small middle large c.writes 1 other (omega arith) (λ _ same. elsewhere' same))
+    | inr elsewhere' ↦ ap (λ v. bit_at v.some (other % 8) == 1) (elsewhere m n page small middle large c.writes 1 other (omega arith)
+        (λ _ same. elsewhere' same))
     | inl same ↦
         let part : other % 8 ≢ page % 8 = omega arith in
         ap (λ v. bit_at v.some (other % 8) == 1) (here_8 m n page small middle large c.writes other same)
-        ∙ (ap (λ b. b == 1) (c.asks.small_some.others (other % 8) (omega arith) part) ∙ ap (λ v. bit_at v.some (other % 8) == 1) (mark_alike m 1 page other (omega arith) (sym same)))
+        ∙ (ap (λ b. b == 1) (c.asks.small_some.others (other % 8) (omega arith) part)
+        ∙ ap (λ v. bit_at v.some (other % 8) == 1) (mark_alike m 1 page other (omega arith) (sym same)))
   ];
   ids = same_ids m n page is_in small middle large c;
 }
@@ -160,7 +174,8 @@ record StepOver (m n : Arena Mark) (page size : ℕ) : Type 0 where
   other_wholes : (other : ℕ) → other / 8 ^ suc size ≢ page / 8 ^ suc size → mark_of n (suc size) other ≡ mark_of m (suc size) other
 
 -- pages of one extent whose parts have one number are of one part
-same_part : (size p q : ℕ) → size < 3 → p / 8 ^ suc size ≡ q / 8 ^ suc size → p / 8 ^ size % 8 ≡ q / 8 ^ size % 8 → p / 8 ^ size ≡ q / 8 ^ size
+same_part : (size p q : ℕ) → size < 3 → p / 8 ^ suc size ≡ q / 8 ^ suc size → p / 8 ^ size % 8 ≡ q / 8 ^ size % 8
+    → p / 8 ^ size ≡ q / 8 ^ size
 same_part zero p q low whole part = omega (arith, whole, part)
 same_part (suc zero) p q low whole part = omega (arith, whole, part)
 same_part (suc (suc zero)) p q low whole part = omega (arith, whole, part)
@@ -178,7 +193,8 @@ some_after m n page size other low small marks step = elim (cases_eq (other / 8 
     | inl same ↦
         let number : other / 8 ^ size % 8 ≢ page / 8 ^ size % 8 = λ e. apart (same_part size other page small same e) in
         let bit = ap (λ v. bit_at v.some (other / 8 ^ size % 8)) (mark_alike n (suc size) other page (omega arith) same)
-        ∙ ((step.carried.others (other / 8 ^ size % 8) (omega arith) number).0 ∙ ap (λ v. bit_at v.some (other / 8 ^ size % 8)) (mark_alike m (suc size) page other (omega arith) (sym same))) in
+        ∙ ((step.carried.others (other / 8 ^ size % 8) (omega arith) number).0
+        ∙ ap (λ v. bit_at v.some (other / 8 ^ size % 8)) (mark_alike m (suc size) page other (omega arith) (sym same))) in
         rw (bit, step.other_parts other apart) (marks.some size other low small)
   ]
 ]
@@ -195,7 +211,8 @@ full_after m n page size other low small marks step = elim (cases_eq (other / 8 
     | inl same ↦
         let number : other / 8 ^ size % 8 ≢ page / 8 ^ size % 8 = λ e. apart (same_part size other page small same e) in
         let bit = ap (λ v. bit_at v.full (other / 8 ^ size % 8)) (mark_alike n (suc size) other page (omega arith) same)
-        ∙ ((step.carried.others (other / 8 ^ size % 8) (omega arith) number).1 ∙ ap (λ v. bit_at v.full (other / 8 ^ size % 8)) (mark_alike m (suc size) page other (omega arith) (sym same))) in
+        ∙ ((step.carried.others (other / 8 ^ size % 8) (omega arith) number).1
+        ∙ ap (λ v. bit_at v.full (other / 8 ^ size % 8)) (mark_alike m (suc size) page other (omega arith) (sym same))) in
         rw (bit, step.other_parts other apart) (marks.full size other low small)
   ]
 ]
@@ -205,12 +222,18 @@ step_over : (m n : Arena Mark) (page : ℕ) (is_in : Bool) (small middle large :
     → (size : ℕ) → 0 < size → size < 3 → StepOver m n page size
 step_over m n page is_in small middle large c zero low less = absurd (omega arith)
 step_over m n page is_in small middle large c (suc zero) low less = record {
-  carried = rw (here_8 m n page small middle large c.writes page refl, here_64 m n page small middle large c.writes page refl) c.asks.middle_is;
+  carried = rw (
+    here_8 m n page small middle large c.writes page refl,
+    here_64 m n page small middle large c.writes page refl,
+  ) c.asks.middle_is;
   other_parts = λ other apart. elsewhere m n page small middle large c.writes 1 other (omega arith) (λ _ same. apart same);
   other_wholes = λ other apart. elsewhere m n page small middle large c.writes 2 other (omega arith) (λ _ same. apart same);
 }
 step_over m n page is_in small middle large c (suc (suc zero)) low less = record {
-  carried = rw (here_64 m n page small middle large c.writes page refl, here_512 m n page small middle large c.writes page refl) c.asks.large_is;
+  carried = rw (
+    here_64 m n page small middle large c.writes page refl,
+    here_512 m n page small middle large c.writes page refl,
+  ) c.asks.large_is;
   other_parts = λ other apart. elsewhere m n page small middle large c.writes 2 other (omega arith) (λ _ same. apart same);
   other_wholes = λ other apart. elsewhere m n page small middle large c.writes 3 other (omega arith) (λ _ same. apart same);
 }
@@ -227,19 +250,26 @@ says : (m n : Arena Mark) (page : ℕ) (is_in : Bool) (small middle large : Mark
 unfolding id_of
 says m n page is_in small middle large marks c size other less has = elim (cases_eq (other / 8 ^ size) (page / 8 ^ size)) [
   | inr apart ↦
-      subst Says (sym (elsewhere m n page small middle large c.writes size other less (λ _ same. apart same))) (marks.in_use size other less (ap is_some (sym (c.writes.others size other less (λ _ same. apart same))) ∙ has))
+      subst Says (sym (elsewhere m n page small middle large c.writes size other less (λ _ same. apart same)))
+      (marks.in_use size other less (ap is_some (sym (c.writes.others size other less (λ _ same. apart same))) ∙ has))
   | inl same ↦ at size same less has
 ]
   where
-    at : (size : ℕ) → other / 8 ^ size ≡ page / 8 ^ size → size ≤ 3 → is_some (row n size other) ≡ true → (is_some (mark_of n size other).id ≡ true) ⊎ (HasBit (mark_of n size other).some ⊎ HasBit (mark_of n size other).full)
+    at : (size : ℕ) → other / 8 ^ size ≡ page / 8 ^ size → size ≤ 3 → is_some (row n size other) ≡ true
+        → (is_some (mark_of n size other).id ≡ true) ⊎ (HasBit (mark_of n size other).some ⊎ HasBit (mark_of n size other).full)
     at zero same less has =
-        subst Says (sym (elsewhere m n page small middle large c.writes 0 other less (λ low _. omega (arith, low)))) (marks.in_use 0 other less (ap is_some (sym (c.writes.others 0 other less (λ low _. omega (arith, low)))) ∙ has))
+        subst Says (sym (elsewhere m n page small middle large c.writes 0 other less (λ low _. omega (arith, low))))
+        (marks.in_use 0 other less (ap is_some (sym (c.writes.others 0 other less (λ low _. omega (arith, low)))) ∙ has))
     at (suc zero) same less has =
-        subst Says (sym (here_8 m n page small middle large c.writes other same)) (kept_says small c.asks.small_some.small (omega (arith, c.asks.small_some.small, c.asks.small_full)) (ap is_some (sym (c.writes.of_8 other same)) ∙ has))
+        subst Says (sym (here_8 m n page small middle large c.writes other same))
+        (kept_says small c.asks.small_some.small (omega (arith, c.asks.small_some.small, c.asks.small_full))
+        (ap is_some (sym (c.writes.of_8 other same)) ∙ has))
     at (suc (suc zero)) same less has =
-        subst Says (sym (here_64 m n page small middle large c.writes other same)) (kept_says middle c.asks.middle_is.small.0 c.asks.middle_is.small.1 (ap is_some (sym (c.writes.of_64 other same)) ∙ has))
+        subst Says (sym (here_64 m n page small middle large c.writes other same))
+        (kept_says middle c.asks.middle_is.small.0 c.asks.middle_is.small.1 (ap is_some (sym (c.writes.of_64 other same)) ∙ has))
     at (suc (suc (suc zero))) same less has =
-        subst Says (sym (here_512 m n page small middle large c.writes other same)) (kept_says large c.asks.large_is.small.0 c.asks.large_is.small.1 (ap is_some (sym (c.writes.of_512 other same)) ∙ has))
+        subst Says (sym (here_512 m n page small middle large c.writes other same))
+        (kept_says large c.asks.large_is.small.0 c.asks.large_is.small.1 (ap is_some (sym (c.writes.of_512 other same)) ∙ has))
     at (suc (suc (suc (suc size)))) same less has = absurd (omega arith)
 
 pub marks_after : (m n : Arena Mark) (page : ℕ) (is_in : Bool) (small middle large : Mark) → AreMarks m → is_placed m page ≡ true
@@ -247,7 +277,8 @@ pub marks_after : (m n : Arena Mark) (page : ℕ) (is_in : Bool) (small middle l
 marks_after m n page is_in small middle large marks placed c = record {
   splits = c.writes.splits;
   in_use = says m n page is_in small middle large marks c;
-  no_parts = λ other. rw (elsewhere m n page small middle large c.writes 0 other (omega arith) (λ low _. omega (arith, low))) (marks.no_parts other);
+  no_parts = λ other. rw (elsewhere m n page small middle large c.writes 0 other (omega arith) (λ low _. omega (arith, low)))
+      (marks.no_parts other);
   pages_full = λ other. elim (cases_eq (other / 8) (page / 8)) [
     | inl same ↦ rw (here_8 m n page small middle large c.writes other same) c.asks.small_full
     | inr apart ↦ rw (elsewhere m n page small middle large c.writes 1 other (omega arith) (λ _ same. apart same)) (marks.pages_full other)
@@ -284,9 +315,13 @@ kept_bit v has none = elim (cases_Bool (is_none v.id && v.some == 0 && v.full ==
 -- A mark goes only where it was: a page is populated that wasn't, or evicted that was.
 pub may_go : (m : Arena Mark) (page : ℕ) (is_in : Bool) (small middle large : Mark) → AreMarks m → is_populated m page ≡ not is_in
     → Asks m page is_in small middle large
-    → (kept small ≡ None → is_some (row m 1 page) ≡ true) × (kept middle ≡ None → is_some (row m 2 page) ≡ true) × (kept large ≡ None → is_some (row m 3 page) ≡ true)
-may_go m page false small middle large marks before asks =
-    (λ _. row_if_bit m 1 page (bits_over m marks 1 page (omega arith) (omega arith) before), λ _. row_if_bit m 2 page (bits_over m marks 2 page (omega arith) (omega arith) before), λ _. row_if_bit m 3 page (bits_over m marks 3 page (omega arith) (omega arith) before))
+    → (kept small ≡ None → is_some (row m 1 page) ≡ true) × (kept middle ≡ None → is_some (row m 2 page) ≡ true)
+    × (kept large ≡ None → is_some (row m 3 page) ≡ true)
+may_go m page false small middle large marks before asks = (
+  λ _. row_if_bit m 1 page (bits_over m marks 1 page (omega arith) (omega arith) before),
+  λ _. row_if_bit m 2 page (bits_over m marks 2 page (omega arith) (omega arith) before),
+  λ _. row_if_bit m 3 page (bits_over m marks 3 page (omega arith) (omega arith) before),
+)
 may_go m page true small middle large marks before asks =
     let low : HasBit small.some = (page % 8, omega arith, asks.small_some.same) in
     let mid : HasBit middle.some = (page / 8 % 8, omega arith, asks.middle_is.some.1 low) in

@@ -49,4 +49,5 @@ pub record IsCarried (old new : Mark) (part : ℕ) (below : Mark) : Type 0 where
   pub small : (new.some < 256) × (new.full < 256)
   pub some : (bit_at new.some part ≡ 1) ↔ HasBit below.some
   pub full : (bit_at new.full part ≡ 1) ↔ HasAllBits below.full
-  pub others : (other : ℕ) → other < 8 → (other ≡ part → ⊥) → (bit_at new.some other ≡ bit_at old.some other) × (bit_at new.full other ≡ bit_at old.full other)
+  pub others : (other : ℕ) → other < 8 → (other ≡ part → ⊥) → (bit_at new.some other ≡ bit_at old.some other)
+      × (bit_at new.full other ≡ bit_at old.full other)

@@ -9,8 +9,8 @@ use Rattle.std.proofs.lemmas.Bool.{eqb-true, ne_eqb, eq-eqb, or_parts, or_from, 
 use Rattle.std.proofs.lemmas.Map.Keys.{IsDistinct-from_apart}
 use Rattle.std.proofs.lemmas.Map.Views.{any-filter_same}
 use Rattle.std.proofs.lemmas.Map.Steps.{length-le_from_distinct_below}
-use Rattle.pager_model.specs.Ages.{Member, Lists, is_before, same_member, with_member, without_member}
-use Rattle.reservation_lists.specs.Kept.{HasRoom, IsInOrder, has_member_of, is_listed, without_member_of, without_frame}
+use Rattle.pager_model.specs.Ages.{Member, Lists, is_before, with_member}
+use Rattle.reservation_lists.specs.Kept.{HasRoom, IsInOrder, has_member_of, is_listed, without_member_of, without_frame, same_member, without_member}
 use Rattle.reservation_lists.proofs.StampOrder.{is_before-apart, IsInOrder-tail, all_behind, all_later}
 use Rattle.pager_model.proofs.AgeOrder.{All-with_member}
 
@@ -33,7 +33,8 @@ Differ-with_member new (m ∷ ms) other differ =
     ]
 
 -- a new member is before those behind the first one that it is before
-IsInOrder-with_member : (new : Member) (ms : List Member) → All (λ m. m.frame ≢ new.frame) ms → IsInOrder ms → IsInOrder (with_member new ms)
+IsInOrder-with_member : (new : Member) (ms : List Member) → All (λ m. m.frame ≢ new.frame) ms → IsInOrder ms
+    → IsInOrder (with_member new ms)
 IsInOrder-with_member new [] other ordered = λ i j d lt below. absurd (omega arith)
 IsInOrder-with_member new (m ∷ ms) other ordered =
     let before : Member → Member → Type 0 = λ a b. is_before a b ≡ true in
@@ -41,7 +42,8 @@ IsInOrder-with_member new (m ∷ ms) other ordered =
     let apart = is_before-apart new m (All-head (λ n. n.frame ≢ new.frame) m ms other) in
     elim (is_before new m) as (λ b. is_before new m ≡ b → IsInOrder (cond b (new ∷ (m ∷ ms)) (m ∷ with_member new ms))) [
       | true ↦ λ first. AllPairs-cons before new (m ∷ ms) (all_later new m ms first ordered) ordered
-      | false ↦ λ later. AllPairs-cons before m (with_member new ms) (All-with_member (before m) new ms (grind (arith, apart, later)) (all_behind m ms ordered)) rest
+      | false ↦ λ later. AllPairs-cons before m (with_member new ms) (All-with_member (before m) new ms (grind (arith, apart, later))
+          (all_behind m ms ordered)) rest
     ] refl
 
 frames_apart : (frame : ℕ) (ms : List Member) → All (λ m. m.frame ≢ frame) ms → Differ ms → (i j d : ℕ) → i < j → j < suc (length ms)
@@ -63,7 +65,8 @@ pub room_for_one : (frames capacity frame : ℕ) (ms : List Member) → HasRoom 
 room_for_one frames capacity frame ms has known other =
     let all : List ℕ = frame ∷ map (λ (m : Member). m.frame) ms in
     let below : All (λ n. n < frames) all =
-    All-cons (λ n. n < frames) frame (map (λ (m : Member). m.frame) ms) known (All-map (λ n. n < frames) (λ (m : Member). m.frame) ms has.known) in
+    All-cons (λ n. n < frames) frame (map (λ (m : Member). m.frame) ms) known
+    (All-map (λ n. n < frames) (λ (m : Member). m.frame) ms has.known) in
     let long = length-map ms (λ (m : Member). m.frame) in
     let distinct = IsDistinct-from_apart eqb all (λ i j d lt within. frames_apart frame ms other has.differ i j d lt (omega arith)) in
     let most = length-le_from_distinct_below all frames distinct (λ q h.

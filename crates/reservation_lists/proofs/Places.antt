@@ -7,8 +7,8 @@ use Rattle.std.proofs.lemmas.Bool.{cases_eq, cond-true, cond-false}
 use Rattle.std.proofs.lemmas.List.Elements.{All-head, All-tail}
 use Rattle.std.proofs.lemmas.List.Sums.{prefix_len_is}
 use Rattle.std.proofs.lemmas.Option.{slice_get_within, get_or_from_slice_get}
-use Rattle.pager_model.specs.Ages.{Member, is_before, with_member, without_member}
-use Rattle.reservation_lists.specs.Kept.{IsInOrder}
+use Rattle.pager_model.specs.Ages.{Member, is_before, with_member}
+use Rattle.reservation_lists.specs.Kept.{IsInOrder, without_member}
 use Rattle.pager_model.proofs.AgeOrder.{is_before-later, is_before-same}
 use Rattle.reservation_lists.proofs.StampOrder.{is_before-apart, Decides-same_member, same_member-before, same_member-after, IsInOrder-tail, all_behind, all_later}
 
@@ -34,13 +34,15 @@ place_at_end member last ms ordered at before =
     (λ k below. IsPartitionedBy-before member ms ordered k (length ms - 1) last (omega arith) within ends) (λ beyond. absurd (omega arith))
 
 -- a new member goes in at its place
-pub with_member_at_place : (new : Member) (ms : List Member) → All (λ m. m.frame ≢ new.frame) ms → with_member new ms ≡ insert ms (place_in new ms) new
+pub with_member_at_place : (new : Member) (ms : List Member) → All (λ m. m.frame ≢ new.frame) ms
+    → with_member new ms ≡ insert ms (place_in new ms) new
 with_member_at_place new [] others = refl
 with_member_at_place new (m ∷ ms) others =
     let later : (n : ℕ) → m ∷ insert ms n new ≡ insert (m ∷ ms) (1 + n) new = λ n. rw one-add refl in
     let rest = with_member_at_place new ms (All-tail (λ n. n.frame ≢ new.frame) m ms others) in
     rw (is_before-apart new m (All-head (λ n. n.frame ≢ new.frame) m ms others))
-    (elim (is_before m new) as (λ b. cond (not b) (new ∷ (m ∷ ms)) (m ∷ with_member new ms) ≡ insert (m ∷ ms) (cond b (1 + place_in new ms) 0) new) [
+    (elim (is_before m new) as (λ b. cond (not b) (new ∷ (m ∷ ms)) (m ∷ with_member new ms) ≡ insert (m ∷ ms)
+    (cond b (1 + place_in new ms) 0) new) [
       | true ↦ ap (λ tail. m ∷ tail) rest ∙ later (place_in new ms)
       | false ↦ refl
     ])
@@ -57,7 +59,8 @@ pub without_member_at_place : (gone : Member) (ms : List Member) → IsInOrder m
     → without_member gone ms ≡ remove ms (place_in gone ms)
 without_member_at_place gone [] ordered there = absurd (cc)
 without_member_at_place gone (m ∷ ms) ordered there =
-    elim (is_before m gone) as (λ b. is_before m gone ≡ b → slice_get (m ∷ ms) (cond b (1 + place_in gone ms) 0) ≡ Some gone → without_member gone (m ∷ ms) ≡ remove (m ∷ ms) (cond b (1 + place_in gone ms) 0)) [
+    elim (is_before m gone) as (λ b. is_before m gone ≡ b → slice_get (m ∷ ms) (cond b (1 + place_in gone ms) 0) ≡ Some gone
+    → without_member gone (m ∷ ms) ≡ remove (m ∷ ms) (cond b (1 + place_in gone ms) 0)) [
       | true ↦ λ before there.
           let rest = without_member_at_place gone ms (IsInOrder-tail m ms ordered) (rw one-add at there) in
           cond-true _ _ _ (ap not (same_member-before gone m before)) ∙ ap (λ tail. m ∷ tail) rest ∙ rw one-add refl
@@ -68,10 +71,12 @@ without_member_at_place gone (m ∷ ms) ordered there =
     ] refl there
 
 -- a list with another member at the place, or none, is without the member
-pub without_member_elsewhere : (gone : Member) (ms : List Member) → IsInOrder ms → slice_get ms (place_in gone ms) ≢ Some gone → without_member gone ms ≡ ms
+pub without_member_elsewhere : (gone : Member) (ms : List Member) → IsInOrder ms → slice_get ms (place_in gone ms) ≢ Some gone
+    → without_member gone ms ≡ ms
 without_member_elsewhere gone [] ordered other = refl
 without_member_elsewhere gone (m ∷ ms) ordered other =
-    elim (is_before m gone) as (λ b. is_before m gone ≡ b → slice_get (m ∷ ms) (cond b (1 + place_in gone ms) 0) ≢ Some gone → without_member gone (m ∷ ms) ≡ m ∷ ms) [
+    elim (is_before m gone) as (λ b. is_before m gone ≡ b → slice_get (m ∷ ms) (cond b (1 + place_in gone ms) 0) ≢ Some gone
+    → without_member gone (m ∷ ms) ≡ m ∷ ms) [
       | true ↦ λ before other.
           cond-true _ _ _ (ap not (same_member-before gone m before))
           ∙ ap (λ tail. m ∷ tail) (without_member_elsewhere gone ms (IsInOrder-tail m ms ordered) (rw one-add at other))

@@ -4,8 +4,8 @@ use Rattle.std.specs.Bool.{Decides}
 use Rattle.std.specs.List.{All}
 use Rattle.std.proofs.lemmas.Bool.Decides.{nat_tests}
 use Rattle.std.proofs.lemmas.List.Elements.{All-cons, All-weaker}
-use Rattle.pager_model.specs.Ages.{Member, is_before, same_member}
-use Rattle.reservation_lists.specs.Kept.{IsInOrder}
+use Rattle.pager_model.specs.Ages.{Member, is_before}
+use Rattle.reservation_lists.specs.Kept.{IsInOrder, same_member}
 use Rattle.pager_model.proofs.AgeOrder.{is_before-same, is_before-later}
 
 -- of two members with frames that differ exactly one is before the other
@@ -32,7 +32,9 @@ IsInOrder-tail m ms ordered = λ i j d lt below. ordered (suc i) (suc j) d (omeg
 pub all_behind : (m : Member) (ms : List Member) → IsInOrder (m ∷ ms) → All (λ n. is_before m n ≡ true) ms
 all_behind m ms ordered = λ k d below. ordered 0 (suc k) d (omega arith) (omega arith)
 
-pub all_later : (first m : Member) (ms : List Member) → is_before first m ≡ true → IsInOrder (m ∷ ms) → All (λ n. is_before first n ≡ true) (m ∷ ms)
+pub all_later : (first m : Member) (ms : List Member) → is_before first m ≡ true → IsInOrder (m ∷ ms)
+    → All (λ n. is_before first n ≡ true) (m ∷ ms)
 all_later first m ms before ordered =
     All-cons (λ n. is_before first n ≡ true) m ms before
-    (All-weaker (λ n. is_before m n ≡ true) (λ n. is_before first n ≡ true) (λ n behind. is_before-later first m n before behind) ms (all_behind m ms ordered))
+    (All-weaker (λ n. is_before m n ≡ true) (λ n. is_before first n ≡ true) (λ n behind. is_before-later first m n before behind) ms
+    (all_behind m ms ordered))

@@ -8,11 +8,11 @@ use Rattle.std.proofs.lemmas.List.{get_or-set_same, get_or-set_other, length-set
 use Rattle.std.proofs.lemmas.List.Elements.{All-head, All-tail}
 use Rattle.std.proofs.lemmas.List.Folds.{list_any_at, list_any_none}
 use Rattle.std.proofs.lemmas.Map.Views.{any-filter_same}
-use Rattle.pager_model.specs.Ages.{Member, Lists, is_before, same_member, list_at, with_list, with_member, without_member}
+use Rattle.pager_model.specs.Ages.{Member, Lists, is_before, list_at, with_list, with_member}
 use Rattle.pager_model.proofs.Lists.{get_or-alike, get_or-set_default, set_cases}
 use Rattle.pager_model.proofs.Options.{in_some, IfSome-from}
 use Rattle.reservation_lists.specs.declared.Listed.{Listed}
-use Rattle.reservation_lists.specs.Kept.{AreTold, IsTold, tells, without_member_of, without_frame, no_members}
+use Rattle.reservation_lists.specs.Kept.{AreTold, IsTold, tells, without_member_of, without_frame, no_members, same_member, without_member}
 use Rattle.reservation_lists.proofs.StampOrder.{Decides-same_member}
 use Rattle.reservation_lists.proofs.Members.{IsUnlisted, without_member_of-none}
 
@@ -41,12 +41,15 @@ or_swap true false c = refl
 or_swap false b c = refl
 
 -- a list with a member more has that one too
-with_member-has : (m new : Member) (ms : List Member) → list_any (same_member m) (with_member new ms) ≡ (same_member m new || list_any (same_member m) ms)
+with_member-has : (m new : Member) (ms : List Member) → list_any (same_member m) (with_member new ms) ≡
+    (same_member m new || list_any (same_member m) ms)
 with_member-has m new [] = refl
 with_member-has m new (n ∷ ms) =
-    elim (is_before new n) as (λ b. list_any (same_member m) (cond b (new ∷ (n ∷ ms)) (n ∷ with_member new ms)) ≡ (same_member m new || (same_member m n || list_any (same_member m) ms))) [
+    elim (is_before new n) as (λ b. list_any (same_member m) (cond b (new ∷ (n ∷ ms)) (n ∷ with_member new ms)) ≡
+    (same_member m new || (same_member m n || list_any (same_member m) ms))) [
       | true ↦ refl
-      | false ↦ ap (λ b. same_member m n || b) (with_member-has m new ms) ∙ or_swap (same_member m n) (same_member m new) (list_any (same_member m) ms)
+      | false ↦ ap (λ b. same_member m n || b) (with_member-has m new ms)
+          ∙ or_swap (same_member m n) (same_member m new) (list_any (same_member m) ms)
     ]
 
 -- nothing is told at first
@@ -67,14 +70,18 @@ module _ (listed : List (Option Listed)) (size : ℕ) (new : Member) (known : ne
   abbrev note : List (Option Listed)
   note = set listed new.frame (Some (record { size = size; stamp = new.stamp }))
 
-  told_here : (m : Member) (k : ℕ) → m.frame ≡ new.frame → tells k m.stamp (get_or note m.frame None) ≡ ((size == k) && (new.stamp == m.stamp))
+  told_here : (m : Member) (k : ℕ) → m.frame ≡ new.frame → tells k m.stamp (get_or note m.frame None) ≡
+      ((size == k) && (new.stamp == m.stamp))
   told_here m k same = ap (tells k m.stamp) (ap (λ f. get_or note f None) same ∙ get_or-set_same listed new.frame _ None known)
 
-  told_there : (m : Member) (k : ℕ) → m.frame ≢ new.frame → tells k m.stamp (get_or note m.frame None) ≡ tells k m.stamp (get_or listed m.frame None)
+  told_there : (m : Member) (k : ℕ) → m.frame ≢ new.frame → tells k m.stamp (get_or note m.frame None) ≡ tells k m.stamp
+      (get_or listed m.frame None)
   told_there m k other = ap (tells k m.stamp) (get_or-set_other listed new.frame m.frame _ None other)
 
-  none_here : (m : Member) (ms : List Member) → All (λ n. n.frame ≢ new.frame) ms → m.frame ≡ new.frame → list_any (same_member m) ms ≡ false
-  none_here m ms others same = list_any_none (same_member m) ms (λ k d within. false_from_ne_true _ (λ is. others k d within (same_member-frame m (get_or ms k d) is ∙ same)))
+  none_here : (m : Member) (ms : List Member) → All (λ n. n.frame ≢ new.frame) ms → m.frame ≡ new.frame
+      → list_any (same_member m) ms ≡ false
+  none_here m ms others same = list_any_none (same_member m) ms (λ k d within. false_from_ne_true _
+      (λ is. others k d within (same_member-frame m (get_or ms k d) is ∙ same)))
 
   -- it is in the list of the size, and the others are as before
   IsTold-with : (k : ℕ) (ms : List Member) → All (λ n. n.frame ≢ new.frame) ms → IsTold listed k ms
@@ -108,10 +115,12 @@ with_list-changed change (suc (suc n)) lists below = (let two : suc (suc n) ≡ 
 -- a member went into the list of the size
 pub AreTold-with : (frames : ℕ) (listed : List (Option Listed)) (lists : Lists) (size : ℕ) (new : Member) → AreTold frames listed lists
     → size < 3 → new.frame < frames → IsUnlisted new.frame lists
-    → AreTold frames (set listed new.frame (Some (record { size = size; stamp = new.stamp }))) (with_list lists size (with_member new (list_at lists size)))
+    → AreTold frames (set listed new.frame (Some (record { size = size; stamp = new.stamp })))
+    (with_list lists size (with_member new (list_at lists size)))
 AreTold-with frames listed lists size new told below known none =
     let within : new.frame < length listed = omega (arith, told.long) in
-    subst (AreTold frames (set listed new.frame (Some (record { size = size; stamp = new.stamp })))) (sym (with_list-changed (with_member new) size lists below)) (record {
+    subst (AreTold frames (set listed new.frame (Some (record { size = size; stamp = new.stamp }))))
+    (sym (with_list-changed (with_member new) size lists below)) (record {
       long = length-set listed new.frame _ ∙ told.long;
       known = IfSome-set (λ (l : Listed). l.size < 3) listed new.frame _ below told.known;
       base = IsTold-with listed size new within 0 lists.base none.base told.base;
@@ -123,7 +132,8 @@ AreTold-with frames listed lists size new told below known none =
 IsTold-without : (listed : List (Option Listed)) (frame size : ℕ) (ms : List Member) → IsTold listed size ms
     → IsTold (set listed frame None) size (without_member_of frame ms)
 IsTold-without listed frame size ms told m =
-    any-filter_same (same_member m) (λ n. not (n.frame == frame)) (not (m.frame == frame)) (λ n same. ap (λ f. not (f == frame)) (same_member-frame m n same)) ms
+    any-filter_same (same_member m) (λ n. not (n.frame == frame)) (not (m.frame == frame))
+    (λ n same. ap (λ f. not (f == frame)) (same_member-frame m n same)) ms
     ∙ elim (cases_eq m.frame frame) [
       | inl same ↦
           ap (λ b. not b && list_any (same_member m) ms) (eq-eqb m.frame frame same)
@@ -177,11 +187,14 @@ gone_told : (listed : List (Option Listed)) (gone : Member) (size k : ℕ) (ms :
     → get_or listed gone.frame None ≡ Some (record { size = size; stamp = gone.stamp })
     → (if size == k then without_member gone ms else ms) ≡ without_member_of gone.frame ms
 gone_told listed gone size k ms told is =
-    let tell : (stamp : ℕ) → tells k stamp (get_or listed gone.frame None) ≡ ((size == k) && (gone.stamp == stamp)) = λ stamp. ap (tells k stamp) is in
-    elim (size == k) as (λ b. ((stamp : ℕ) → tells k stamp (get_or listed gone.frame None) ≡ (b && (gone.stamp == stamp))) → cond b (without_member gone ms) ms ≡ without_member_of gone.frame ms) [
+    let tell : (stamp : ℕ) → tells k stamp (get_or listed gone.frame None) ≡ ((size == k) && (gone.stamp == stamp)) =
+    λ stamp. ap (tells k stamp) is in
+    elim (size == k) as (λ b. ((stamp : ℕ) → tells k stamp (get_or listed gone.frame None) ≡ (b && (gone.stamp == stamp)))
+    → cond b (without_member gone ms) ms ≡ without_member_of gone.frame ms) [
       | true ↦ λ at. without_told gone ms
           (All-told (λ m. m.frame ≡ gone.frame → m.stamp ≡ gone.stamp) listed k ms told
-          (λ m has same. sym (eqb-true gone.stamp m.stamp (sym (ap (λ f. tells k m.stamp (get_or listed f None)) same ∙ at m.stamp) ∙ has))))
+          (λ m has same. sym (eqb-true gone.stamp m.stamp (sym (ap (λ f. tells k m.stamp (get_or listed f None)) same ∙ at m.stamp)
+          ∙ has))))
       | false ↦ λ at. sym (without-untold listed gone.frame k ms told at)
     ] tell
 

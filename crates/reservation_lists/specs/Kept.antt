@@ -1,7 +1,7 @@
 -- The lists of reservations as they are kept in memory that is taken once.
 use Rattle.std.specs.Prelude.{ℕ, true, false, ◌≡◌, ◌≢◌, ◌<◌, ◌≤◌, Bool, ◌&&◌, ◌||◌, ◌==◌, not, filter, length, List, [], All, AllPairs, Option, Some, None, IfSome, slice_index_or}
 use Rattle.std.specs.List.{list_any}
-use Rattle.pager_model.specs.Ages.{Member, Lists, is_before, same_member}
+use Rattle.pager_model.specs.Ages.{Member, Lists, is_before}
 use Rattle.reservation_lists.specs.declared.Listed.{Listed}
 use Rattle.reservation_lists.specs.declared.Lists.TheInside.{Inside}
 
@@ -16,6 +16,13 @@ lists_in l = record { base = l.base.items; small = l.small.items; middle = l.mid
 
 abbrev pub no_members : Lists
 no_members = record { base = []; small = []; middle = [] }
+
+abbrev pub same_member : Member → Member → Bool
+same_member a b = (a.stamp == b.stamp) && (a.frame == b.frame)
+
+-- a list without a member
+abbrev pub without_member : Member → List Member → List Member
+without_member gone ms = filter (λ m. not (same_member gone m)) ms
 
 abbrev pub has_member_of : ℕ → List Member → Bool
 has_member_of frame ms = list_any (λ m. m.frame == frame) ms

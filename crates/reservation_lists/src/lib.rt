@@ -8,9 +8,8 @@
 
 ghost use Rattle.std.specs.Prelude.{◌≡◌, ◌<◌, ◌≤◌, IfOk, vec_len, vec_capacity, false};
 ghost use Rattle.std.specs.List.{prefix_len};
-ghost use Rattle.pager_model.specs.Ages.{is_before, oldest_in};
-ghost use Rattle.pager_model.specs.Ages.{with_member, without_member, list_at, with_list};
-ghost use Rattle.reservation_lists.specs.Kept.{IsInOrder, no_members, has_member_of, is_listed, without_frame};
+ghost use Rattle.pager_model.specs.Ages.{is_before, list_at, oldest_in, with_list, with_member};
+ghost use Rattle.reservation_lists.specs.Kept.{IsInOrder, has_member_of, is_listed, no_members, without_frame, without_member};
 
 use pager_model::{NoMemory, Size};
 use std::alloc::Global;

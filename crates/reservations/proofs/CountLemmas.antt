@@ -44,7 +44,8 @@ module _ (used : List Bool) (w : ℕ) (counts : List ℕ) (f : ℕ) (width : 0 <
   AreCounts-set b c value = record {
     long = rw (length-set used f b, length-set counts (f / w) c) are.long;
     exact = λ i. elim (cases_eq i (f / w)) [
-      | inl here ↦ subst (λ j. get_or (set counts (f / w) c) j 0 ≡ used_in (set used f b) (j * w) w) (sym here) (get_or-set_same counts (f / w) c 0 in_counts ∙ value)
+      | inl here ↦ subst (λ j. get_or (set counts (f / w) c) j 0 ≡ used_in (set used f b) (j * w) w) (sym here)
+          (get_or-set_same counts (f / w) c 0 in_counts ∙ value)
       | inr other ↦
           get_or-set_other counts (f / w) i c 0 other ∙ are.exact i
           ∙ count-agree (is_used used) (is_used (set used f b)) (i * w) w
@@ -52,7 +53,8 @@ module _ (used : List Bool) (w : ℕ) (counts : List ℕ) (f : ℕ) (width : 0 <
     ];
   }
 
-  pub AreCounts-insert : (x : ℕ) → is_used used f ≡ false → x ≡ get_or counts (f / w) x → AreCounts (set used f true) w (set counts (f / w) (x + 1))
+  pub AreCounts-insert : (x : ℕ) → is_used used f ≡ false → x ≡ get_or counts (f / w) x
+      → AreCounts (set used f true) w (set counts (f / w) (x + 1))
   AreCounts-insert x unused read =
       let more = count-one_more (is_used used) (is_used (set used f true)) f unused (is_used-same used f true known)
       (λ g other. sym (is_used-other used f g true other)) (f / w * w) w (div-mul-le_self f w) (lt-div-mul-add width) in
@@ -69,7 +71,8 @@ module _ (used : List Bool) (w : ℕ) (counts : List ℕ) (f : ℕ) (width : 0 <
   pub some_used : (x : ℕ) → is_used used f ≡ true → x ≡ get_or counts (f / w) x → 0 < x
   some_used x is read = omega (arith, less is, get_or_read counts (f / w) x in_counts read 0, are.exact (f / w))
 
-  pub AreCounts-remove : (x : ℕ) → is_used used f ≡ true → x ≡ get_or counts (f / w) x → AreCounts (set used f false) w (set counts (f / w) (x - 1))
+  pub AreCounts-remove : (x : ℕ) → is_used used f ≡ true → x ≡ get_or counts (f / w) x
+      → AreCounts (set used f false) w (set counts (f / w) (x - 1))
   AreCounts-remove x is read =
       AreCounts-set false (x - 1) (omega (arith, less is, get_or_read counts (f / w) x in_counts read 0, are.exact (f / w)))
 
@@ -91,5 +94,6 @@ count_read used w counts first k n width are size aligned read =
     read ∙ are.exact (first / w) ∙ ap (λ a. used_in used a w) start ∙ ap (λ m. used_in used first m) (sym size)
 
 -- and the extent is in the list
-pub count_known : (used : List Bool) (w : ℕ) (counts : List ℕ) (first : ℕ) → 0 < w → AreCounts used w counts → first < length used → first / w < length counts
+pub count_known : (used : List Bool) (w : ℕ) (counts : List ℕ) (first : ℕ) → 0 < w → AreCounts used w counts → first < length used
+    → first / w < length counts
 count_known used w counts first width are known = div_below first w (length counts) width (omega (arith, are.long))

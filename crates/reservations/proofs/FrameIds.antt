@@ -77,7 +77,8 @@ abbrev pub Belongs : List Bool → ℕ → ℕ → Option Reservation → Type 0
 Belongs used low w None = (f : ℕ) → low ≤ f → f < low + w → is_used used f ≡ false
 Belongs used low w (Some r) = (r.frame ≡ low) × (8 ^ r.size ≡ w)
 
-pub own_bounds : (used : List Bool) (low w : ℕ) (o : Option Reservation) → Belongs used low w o → (f : ℕ) → has_frame f o ≡ true → (low ≤ f) × (f < low + w)
+pub own_bounds : (used : List Bool) (low w : ℕ) (o : Option Reservation) → Belongs used low w o → (f : ℕ) → has_frame f o ≡ true
+    → (low ≤ f) × (f < low + w)
 own_bounds used low w None belongs f has = absurd (false≢true has)
 own_bounds used low w (Some r) belongs f has =
     let bounds = has_frame_bounds f r has in
@@ -114,7 +115,8 @@ module _ (records : List (Option Reservation)) (ids after : List (Option ℕ)) (
       let bounds = own_bounds used low w o belongs f has in
       elim out [ inl below ↦ omega (arith, bounds.0) | inr past ↦ omega (arith, bounds.1) ]
 
-  pub noted_beside : (f j : ℕ) → (f < low) ⊎ (high ≤ f) → (get_or after f None ≡ Some j) ↔ (has_frame f (get_or (set records low o) j None) ≡ true)
+  pub noted_beside : (f j : ℕ) → (f < low) ⊎ (high ≤ f) → (get_or after f None ≡ Some j) ↔
+      (has_frame f (get_or (set records low o) j None) ≡ true)
   noted_beside f j out =
       let same = filled.outside f (beside f out) in
       let was = noted.exact f j out in
@@ -126,7 +128,8 @@ module _ (records : List (Option Reservation)) (ids after : List (Option ℕ)) (
         | inr other ↦ (λ e. same_at f j other ∙ was.0 (sym same ∙ e), λ has. same ∙ was.1 (sym (same_at f j other) ∙ has))
       ]
 
-  pub noted_inside : (f j : ℕ) → low ≤ f → f < low + w → (get_or after f None ≡ Some j) ↔ (has_frame f (get_or (set records low o) j None) ≡ true)
+  pub noted_inside : (f j : ℕ) → low ≤ f → f < low + w → (get_or after f None ≡ Some j) ↔
+      (has_frame f (get_or (set records low o) j None) ≡ true)
   noted_inside f j at_least below =
       let value = filled.inside f at_least below in
       let own = own_noted used low w o belongs f j at_least below in (
@@ -180,7 +183,8 @@ AreNoted-gap records ids used low high noted free = record {
 -- no reservation begins in a gap
 pub vacant_in_gap : (records : List (Option Reservation)) (ids : List (Option ℕ)) (used : List Bool) (low high : ℕ) → ArePlaced records
     → AreNoted records ids used low high → low < high → get_or records low None ≡ None
-vacant_in_gap records ids used low high are noted room = none_begins records low are (false_from_ne_true _ (noted.gap low low (omega arith) room))
+vacant_in_gap records ids used low high are noted room = none_begins records low are
+    (false_from_ne_true _ (noted.gap low low (omega arith) room))
 
 -- nothing is noted at first
 pub AreKept-none : (n : ℕ) → AreKept (replicate n None) (replicate n None) (replicate n false)
@@ -189,7 +193,10 @@ AreKept-none n = record {
   used_long = length-replicate n false ∙ sym (length-replicate n None);
   placed = λ id r is. absurd (none-some r (sym (get_or-alike n id None) ∙ is));
   noted = record {
-    exact = λ f j out. (λ e. absurd (none-some j (sym (get_or-alike n f None) ∙ e)), λ has. absurd (no_frame f _ (get_or-alike n j None) has));
+    exact = λ f j out. (
+      λ e. absurd (none-some j (sym (get_or-alike n f None) ∙ e)),
+      λ has. absurd (no_frame f _ (get_or-alike n j None) has),
+    );
     idle = λ f out none. is_used-replicate n f;
     gap = λ f j low high has. absurd (omega arith);
   };
@@ -220,7 +227,8 @@ module _ (records : List (Option Reservation)) (ids : List (Option ℕ)) (used :
       → has_frame f (get_or (set records id (Some new)) j None) ≡ has_frame f (get_or records j None)
   same_frames new frame size f j = elim (cases_eq j id) [
     | inl here ↦
-        ap (has_frame f) (ap (λ k. get_or (set records id (Some new)) k None) here ∙ get_or-set_same records id (Some new) None (get_or_within records id r is))
+        ap (has_frame f) (ap (λ k. get_or (set records id (Some new)) k None) here
+        ∙ get_or-set_same records id (Some new) None (get_or_within records id r is))
         ∙ rw (frame, size) refl ∙ sym (ap (has_frame f) (ap (λ k. get_or records k None) here ∙ is))
     | inr other ↦ ap (has_frame f) (get_or-set_other records id j (Some new) None other)
   ]
@@ -268,7 +276,8 @@ AreKept-dissolve records ids after used id r are is none filled long =
     let vacant : get_or (set records id None) id None ≡ None = get_or-set_same records id None None known in
     let belongs : Belongs used id (8 ^ r.size) None =
     λ f low high. unused_in (is_used used) r.frame (8 ^ r.size) none f (omega (arith, placed.named)) (omega (arith, placed.named)) in
-    let closed = AreNoted-place (set records id None) ids after used id (id + 8 ^ r.size) (8 ^ r.size) None open_gap vacant (omega (arith, known, length-set records id None)) (omega arith) belongs filled in
+    let closed = AreNoted-place (set records id None) ids after used id (id + 8 ^ r.size) (8 ^ r.size) None open_gap vacant
+    (omega (arith, known, length-set records id None)) (omega arith) belongs filled in
     record {
       ids_long = long ∙ are.ids_long ∙ sym (length-set records id None);
       used_long = are.used_long ∙ sym (length-set records id None);
@@ -295,7 +304,8 @@ AreKept-add records ids after used r f are placed apart has filled long =
     let before : AreKept (set records low (Some r)) after used = record {
       ids_long = long ∙ are.ids_long ∙ sym (length-set records low (Some r));
       used_long = are.used_long ∙ sym (length-set records low (Some r));
-      placed = ArePlaced-set records low (Some r) are.placed known (λ q e. subst (λ p. IsPlaced (length records) low p) (same_Some r q e) placed);
+      placed = ArePlaced-set records low (Some r) are.placed known (λ q e. subst (λ p. IsPlaced (length records) low p)
+          (same_Some r q e) placed);
       noted = AreNoted-close _ _ _ _ closed;
     } in
     record {

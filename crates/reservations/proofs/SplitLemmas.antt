@@ -32,7 +32,8 @@ pub split_records-open : (used : ℕ → Bool) (r : Reservation) (id : ℕ) (rec
     → split_records used r (set records id None) ≡ split_records used r records
 split_records-open used r id records named =
     let first : id ≡ (part_of r 0).frame = omega (arith, named) in
-    let same = ap (λ k. set (set records k None) (part_of r 0).frame (kept_part used r 0)) first ∙ set-set records (part_of r 0).frame None (kept_part used r 0) in
+    let same = ap (λ k. set (set records k None) (part_of r 0).frame (kept_part used r 0)) first
+    ∙ set-set records (part_of r 0).frame None (kept_part used r 0) in
     ap (λ rs. fold (split_step used r) rs (range_with_len 1 7)) same
 
 -- a part is the whole part, or it has no used place
@@ -83,7 +84,8 @@ module _ (records : List (Option Reservation)) (used : List Bool) (r : Reservati
   pub AreNoted-part : (ids after : List (Option ℕ)) → ArePlaced records
       → AreNoted records ids used (r.frame + i * 8 ^ (r.size - 1)) (r.frame + 8 ^ r.size)
       → IsFilled ids after (r.frame + i * 8 ^ (r.size - 1)) (8 ^ (r.size - 1)) (first_frame (kept_part (is_used used) r i))
-      → AreNoted (set records (r.frame + i * 8 ^ (r.size - 1)) (kept_part (is_used used) r i)) after used (r.frame + (i + 1) * 8 ^ (r.size - 1)) (r.frame + 8 ^ r.size)
+      → AreNoted (set records (r.frame + i * 8 ^ (r.size - 1)) (kept_part (is_used used) r i)) after used
+      (r.frame + (i + 1) * 8 ^ (r.size - 1)) (r.frame + 8 ^ r.size)
   AreNoted-part ids after are noted filled =
       let w = 8 ^ (r.size - 1) in
       let low = r.frame + i * w in
@@ -91,4 +93,5 @@ module _ (records : List (Option Reservation)) (used : List Bool) (r : Reservati
       let vacant = vacant_in_gap records ids used low (r.frame + 8 ^ r.size) are noted (omega (arith, ends, eight_pos (r.size - 1))) in
       let next : low + w ≡ r.frame + (i + 1) * w = omega arith in
       subst (λ n. AreNoted (set records low (kept_part (is_used used) r i)) after used n (r.frame + 8 ^ r.size)) next
-      (AreNoted-place records ids after used low (r.frame + 8 ^ r.size) w (kept_part (is_used used) r i) noted vacant part_known (omega (arith, ends)) part_belongs filled)
+      (AreNoted-place records ids after used low (r.frame + 8 ^ r.size) w (kept_part (is_used used) r i) noted vacant part_known
+      (omega (arith, ends)) part_belongs filled)

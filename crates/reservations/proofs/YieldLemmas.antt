@@ -26,7 +26,8 @@ pub found_at : (used : ℕ → Bool) (r : Reservation) (k : ℕ) → has_empty u
 found_at used r zero is = cond-true _ _ _ is
 found_at used r (suc k) is = cond-true _ _ _ is
 
-pub yield_below-found : (used : ℕ → Bool) (r : Reservation) (level k : ℕ) → level ≡ suc k → has_empty used r k ≡ true → yield_below used r level ≡ Some k
+pub yield_below-found : (used : ℕ → Bool) (r : Reservation) (level k : ℕ) → level ≡ suc k → has_empty used r k ≡ true
+    → yield_below used r level ≡ Some k
 yield_below-found used r level k at is = subst (λ n. yield_below used r n ≡ Some k) (sym at) (found_at used r k is)
 
 pub missed_at : (used : ℕ → Bool) (r : Reservation) (k : ℕ) → has_empty used r k ≡ false → yield_up_to used r k ≡ yield_below used r k
@@ -39,7 +40,8 @@ yield_below-missed used r level k at no_one = subst (λ n. yield_below used r n 
 
 -- an extent without a used place has the count 0
 none_counted : (p : ℕ → Bool) (a n : ℕ) → eqb (count_by p (range_with_len a n)) 0 ≡ none_used p a n
-none_counted p a n = sum_by-zero (λ x. cond (p x) 1 0) (range_with_len a n) ∙ ap (λ q. list_all q (range_with_len a n)) (λ i x. alone (p x) i)
+none_counted p a n = sum_by-zero (λ x. cond (p x) 1 0) (range_with_len a n)
+    ∙ ap (λ q. list_all q (range_with_len a n)) (λ i x. alone (p x) i)
   where
     alone : (b : Bool) → eqb (cond b 1 0) 0 ≡ not b
     alone true = refl
@@ -59,7 +61,8 @@ full_count used r n m count all =
     rw (count, all, at_zero) (grind (arith, nat_tests))
 
 -- where that is 0, the whole is empty
-pub whole_count : (used : List Bool) (r : Reservation) (n : ℕ) → n ≡ used_in used r.frame (8 ^ r.size) → eqb n 0 ≡ has_empty (is_used used) r r.size
+pub whole_count : (used : List Bool) (r : Reservation) (n : ℕ) → n ≡ used_in used r.frame (8 ^ r.size)
+    → eqb n 0 ≡ has_empty (is_used used) r r.size
 whole_count used r n count =
     let one : r.size - r.size ≡ 0 = omega arith in
     let start : r.frame + 0 * 8 ^ r.size ≡ r.frame = omega arith in
@@ -94,7 +97,13 @@ full_none used r k full le = elim (cases_Bool (has_empty used r k)) [
       let known : some.0 < parts = omega (arith, length-range_with_len 0 parts, some.2) in
       let within : i < parts = omega (arith, known, some.3, get_or-range_with_len 0 parts some.0 i known) in
       let unused = unused_in used (r.frame + i * 8 ^ k) (8 ^ k) some.4 (r.frame + i * 8 ^ k) (omega arith) (omega (arith, eight_pos k)) in
-      let inside : i * 8 ^ k < 8 ^ (r.size - 0) = omega (arith, part_inside i (8 ^ k) parts within, eight_split k r.size le, eight_pos k, size) in
+      let inside : i * 8 ^ k < 8 ^ (r.size - 0) = omega (
+        arith,
+        part_inside i (8 ^ k) parts within,
+        eight_split k r.size le,
+        eight_pos k,
+        size,
+      ) in
       let here : r.frame + i * 8 ^ k * 1 ≡ r.frame + i * 8 ^ k = omega arith in
       let alone : none_used used (r.frame + i * 8 ^ k * 1) 1 ≡ true = rw (here, unused) refl in
       absurd (false≢true (sym full ∙ has_empty-yes used r 0 (i * 8 ^ k) inside alone))
@@ -127,14 +136,17 @@ counts_known used r k counts are placed le =
 -- they stand together
 pub counts_inside : (used : List Bool) (r : Reservation) (k : ℕ) (counts : List ℕ) → AreCounts used (8 ^ k) counts
     → IsPlaced (length used) r.frame r → k ≤ r.size
-    → slice_range counts (r.frame / 8 ^ k) (r.frame / 8 ^ k + 8 ^ r.size / 8 ^ k) ≡ map (λ i. used_in used (r.frame + i * 8 ^ k) (8 ^ k)) (range_with_len 0 (8 ^ (r.size - k)))
+    → slice_range counts (r.frame / 8 ^ k) (r.frame / 8 ^ k + 8 ^ r.size / 8 ^ k) ≡ map (λ i. used_in used (r.frame + i * 8 ^ k) (8 ^ k))
+    (range_with_len 0 (8 ^ (r.size - k)))
 counts_inside used r k counts are placed le =
     let w = 8 ^ k in
     let first = r.frame / w in
     let many = 8 ^ r.size / w in
     let known = counts_known used r k counts are placed le in
-    let aligned : r.frame % w ≡ 0 = subst (λ n. n % w ≡ 0) {y = r.frame} (omega arith) (aligned_part k r.size r.frame 0 le placed.aligned.1) in
-    let long : length (slice_range counts first (first + many)) ≡ many = length-take-le (first + many - first) (drop first counts) (omega (arith, known, length-drop first counts)) ∙ omega arith in
+    let aligned : r.frame % w ≡ 0 = subst (λ n. n % w ≡ 0) {y = r.frame} (omega arith)
+    (aligned_part k r.size r.frame 0 le placed.aligned.1) in
+    let long : length (slice_range counts first (first + many)) ≡ many =
+    length-take-le (first + many - first) (drop first counts) (omega (arith, known, length-drop first counts)) ∙ omega arith in
     fill_by_all (λ i. used_in used (r.frame + i * w) w) (slice_range counts first (first + many)) many 0 long (λ i below.
     let at : (first + i) * w ≡ r.frame + i * w = omega (arith, aligned, div-add-mod' r.frame w) in
     get_or-take (first + many - first) (drop first counts) i 0 (omega arith)
@@ -149,6 +161,7 @@ pub has_empty-counted : (used : List Bool) (r : Reservation) (k : ℕ) (counts :
     → list_any (λ n. eqb n 0) counts ≡ has_empty (is_used used) r k
 has_empty-counted used r k counts are = ap (list_any (λ n. eqb n 0)) are ∙ each (range_with_len 0 (8 ^ (r.size - k)))
   where
-    each : (is : List ℕ) → list_any (λ n. eqb n 0) (map (λ i. used_in used (r.frame + i * 8 ^ k) (8 ^ k)) is) ≡ list_any (λ i. none_used (is_used used) (r.frame + i * 8 ^ k) (8 ^ k)) is
+    each : (is : List ℕ) → list_any (λ n. eqb n 0) (map (λ i. used_in used (r.frame + i * 8 ^ k) (8 ^ k)) is) ≡ list_any
+        (λ i. none_used (is_used used) (r.frame + i * 8 ^ k) (8 ^ k)) is
     each [] = refl
     each (i ∷ is) = rw (none_counted (is_used used) (r.frame + i * 8 ^ k) (8 ^ k), each is) refl

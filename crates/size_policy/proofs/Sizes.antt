@@ -10,7 +10,11 @@ abbrev largest_of : (ℕ → Bool) → ℕ
 largest_of p = cond (p 3) 3 (cond (p 2) 2 (cond (p 1) 1 0))
 
 largest_is : (p : ℕ → Bool) (k : ℕ) → k ≤ 3 → ((j : ℕ) → k < j → j ≤ 3 → p j ≡ false) → (0 < k → p k ≡ true) → largest_of p ≡ k
-largest_is p zero h above here = rw (above 3 (omega arith) (omega arith), above 2 (omega arith) (omega arith), above 1 (omega arith) (omega arith))
+largest_is p zero h above here = rw (
+  above 3 (omega arith) (omega arith),
+  above 2 (omega arith) (omega arith),
+  above 1 (omega arith) (omega arith),
+)
 largest_is p (suc zero) h above here = rw (above 3 (omega arith) (omega arith), above 2 (omega arith) (omega arith), here (omega arith))
 largest_is p (suc (suc zero)) h above here = rw (above 3 (omega arith) (omega arith), here (omega arith))
 largest_is p (suc (suc (suc zero))) h above here = rw (here (omega arith))
@@ -40,7 +44,8 @@ fits_from_Suits : (test : ℕ → ℕ → Bool) (page : ℕ) (want : Want) (k : 
 fits_from_Suits test page want k h =
     and_from _ _ (and_from _ _ (le-leb _ _ h.0.0) (le-leb _ _ h.0.1)) (and_from _ _ (le-leb _ _ h.0.2) (not_from_false _ h.1))
 
-alone_suits : (test : ℕ → ℕ → Bool) (page : ℕ) (want : Want) → want.low ≤ page → page < want.high → 1 ≤ want.cap → test 0 page ≡ false → Suits test page want 0
+alone_suits : (test : ℕ → ℕ → Bool) (page : ℕ) (want : Want) → want.low ≤ page → page < want.high → 1 ≤ want.cap → test 0 page ≡ false
+    → Suits test page want 0
 alone_suits test page want low high cap alone =
     let same : page / 1 * 1 ≡ page = omega arith in
     ((omega arith, omega arith, cap), rw same alone)
@@ -52,7 +57,8 @@ largest_passes p P passes base =
 pub Suits-preferred : (test : ℕ → ℕ → Bool) (page : ℕ) (want : Want) → want.low ≤ page → page < want.high → 1 ≤ want.cap
     → test 0 page ≡ false → Suits test page want (preferred_size test page want)
 Suits-preferred test page want low high cap alone =
-    largest_passes (fits test page want) (Suits test page want) (Suits-from_fits test page want) (alone_suits test page want low high cap alone)
+    largest_passes (fits test page want) (Suits test page want) (Suits-from_fits test page want)
+    (alone_suits test page want low high cap alone)
 
 largest_above : (p : ℕ → Bool) (k : ℕ) → k ≤ 3 → p k ≡ true → k ≤ largest_of p
 largest_above p zero h e = omega arith
@@ -62,5 +68,6 @@ largest_above p (suc (suc zero)) h e = cond_both (p 3) 3 _ (λ n. 2 ≤ n) (λ _
 largest_above p (suc (suc (suc zero))) h e = rw e (omega arith)
 largest_above p (suc (suc (suc (suc k)))) h e = absurd (omega arith)
 
-pub preferred_largest : (test : ℕ → ℕ → Bool) (page : ℕ) (want : Want) (k : ℕ) → k ≤ 3 → Suits test page want k → k ≤ preferred_size test page want
+pub preferred_largest : (test : ℕ → ℕ → Bool) (page : ℕ) (want : Want) (k : ℕ) → k ≤ 3 → Suits test page want k
+    → k ≤ preferred_size test page want
 preferred_largest test page want k h suits = largest_above (fits test page want) k h (fits_from_Suits test page want k suits)

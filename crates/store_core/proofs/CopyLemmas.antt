@@ -24,9 +24,11 @@ look es page = lookup (is_at (nat_cmp page)) es
 -- the words of a page are what the map has there, else zero
 pub copy_in_entries : (page : ℕ) (es : Entries) → copy_in (copies_of es) page ≡ unwrap_or (look es page) (Some zero_words)
 copy_in_entries page [] = refl
-copy_in_entries page (e ∷ es) = rw (copy_in_entries page es, unsigned_tied page e.0) (found (page == e.0) e.1 (look es page) (Some zero_words))
+copy_in_entries page (e ∷ es) = rw (copy_in_entries page es, unsigned_tied page e.0)
+    (found (page == e.0) e.1 (look es page) (Some zero_words))
   where
-    found : (b : Bool) (x : Option (List ℕ)) (rest : Option (Option (List ℕ))) (d : Option (List ℕ)) → cond b x (unwrap_or rest d) ≡ unwrap_or (cond b (Some x) rest) d
+    found : (b : Bool) (x : Option (List ℕ)) (rest : Option (Option (List ℕ))) (d : Option (List ℕ))
+        → cond b x (unwrap_or rest d) ≡ unwrap_or (cond b (Some x) rest) d
     found true x rest d = refl
     found false x rest d = refl
 
@@ -51,7 +53,8 @@ unfolding keeps_at
 keeps_at-look copies faults es is page = ap (λ cs. list_any (λ p. page == p) (map (λ c. c.page) cs)) (sym is) ∙ kept_entries page es
 
 -- a store with the same copies
-pub same_copies : (copies more : List Copy) (faults rose : ℕ) → more ≡ copies → SameCopies (stored_copies copies faults) (stored_copies more rose)
+pub same_copies : (copies more : List Copy) (faults rose : ℕ) → more ≡ copies
+    → SameCopies (stored_copies copies faults) (stored_copies more rose)
 unfolding copy_at keeps_at
 same_copies copies more faults rose is = record {
   tells = refl;
@@ -74,12 +77,14 @@ module _ (copies more : List Copy) (faults rose : ℕ) (es fs : Entries) (was : 
       at : (p : ℕ) → look fs p ≡ cond (p == page) (Some copy) (look es p)
       at p = updates p ∙ ap (λ b. cond b (Some copy) (look es p)) (unsigned_tied page p ∙ grind (arith, nat_tests))
 
-      chosen : (b : Bool) (rest : Option (Option (List ℕ))) (d : Option (List ℕ)) → unwrap_or (cond b (Some copy) rest) d ≡ cond b copy (unwrap_or rest d)
+      chosen : (b : Bool) (rest : Option (Option (List ℕ))) (d : Option (List ℕ))
+          → unwrap_or (cond b (Some copy) rest) d ≡ cond b copy (unwrap_or rest d)
       chosen true rest d = refl
       chosen false rest d = refl
 
       sets : (p : ℕ) → copy_at (stored_copies more rose) p ≡ cond (p == page) copy (copy_at (stored_copies copies faults) p)
-      sets p = rw (copy_at-look more rose fs is p, copy_at-look copies faults es was p, at p) (chosen (p == page) (look es p) (Some zero_words))
+      sets p = rw (copy_at-look more rose fs is p, copy_at-look copies faults es was p, at p)
+          (chosen (p == page) (look es p) (Some zero_words))
 
       kept : (b : Bool) (rest : Option (Option (List ℕ))) → is_some rest ≡ true → is_some (cond b (Some copy) rest) ≡ true
       kept true rest h = refl
@@ -107,12 +112,15 @@ module _ (copies more : List Copy) (faults rose : ℕ) (es fs : Entries) (was : 
           ∙ lookup-filter-keys (is_at (nat_cmp p)) (λ k. not (in_range first len k)) (not (in_range first len p))
           (λ k h. ap (λ q. not (in_range first len q)) (sym (eqb-true p k (sym (unsigned_tied p k) ∙ h)))) es
 
-      chosen : (b : Bool) (rest : Option (Option (List ℕ))) (d : Option (List ℕ)) → unwrap_or (cond (not b) rest None) d ≡ cond b d (unwrap_or rest d)
+      chosen : (b : Bool) (rest : Option (Option (List ℕ))) (d : Option (List ℕ))
+          → unwrap_or (cond (not b) rest None) d ≡ cond b d (unwrap_or rest d)
       chosen true rest d = refl
       chosen false rest d = refl
 
-      drops : (p : ℕ) → copy_at (stored_copies more rose) p ≡ cond (in_range first len p) (Some zero_words) (copy_at (stored_copies copies faults) p)
-      drops p = rw (copy_at-look more rose fs is p, copy_at-look copies faults es was p, at p) (chosen (in_range first len p) (look es p) (Some zero_words))
+      drops : (p : ℕ) → copy_at (stored_copies more rose) p ≡ cond (in_range first len p) (Some zero_words)
+          (copy_at (stored_copies copies faults) p)
+      drops p = rw (copy_at-look more rose fs is p, copy_at-look copies faults es was p, at p)
+          (chosen (in_range first len p) (look es p) (Some zero_words))
 
       keeps : (p : ℕ) → in_range first len p ≡ false → keeps_at (stored_copies more rose) p ≡ keeps_at (stored_copies copies faults) p
       keeps p off = rw (keeps_at-look more rose fs is p, keeps_at-look copies faults es was p, at p, off) refl
@@ -141,7 +149,8 @@ filter_without test p (e ∷ es) refused = without (test e.0) (remove_entry test
 -- where the map has no page that a test refuses, all entries pass it
 pub filter_whole : (p : ℕ → Bool) (es : Entries) → ((page : ℕ) → p page ≡ false → look es page ≡ None) → filter (λ e. p e.0) es ≡ es
 filter_whole p [] none = refl
-filter_whole p (e ∷ es) none = passes (p e.0) refl (filter_whole p es (λ page refused. later (is_at (nat_cmp page) e.0) (look es page) (none page refused)))
+filter_whole p (e ∷ es) none = passes (p e.0) refl (filter_whole p es
+    (λ page refused. later (is_at (nat_cmp page) e.0) (look es page) (none page refused)))
   where
     here : is_at (nat_cmp e.0) e.0 ≡ true
     here = unsigned_tied e.0 e.0 ∙ grind (arith, nat_tests)

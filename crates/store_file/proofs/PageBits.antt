@@ -42,7 +42,8 @@ tested true bit = refl
 tested false bit = refl
 
 -- a page of the word at this place is in the range where its bit is in what the range has of the word
-in_word : (p at first end : ℕ) → p / 64 ≡ at → (nat_le (first - at * 64) (p % 64) && nat_lt (p % 64) (end - at * 64)) ≡ (nat_le first p && nat_lt p end)
+in_word : (p at first end : ℕ) → p / 64 ≡ at → (nat_le (first - at * 64) (p % 64) && nat_lt (p % 64) (end - at * 64)) ≡
+    (nat_le first p && nat_lt p end)
 in_word p at first end place =
     let from : nat_le (first - at * 64) (p % 64) ≡ nat_le first p = grind (arith, nat_tests) in
     let to : nat_lt (p % 64) (end - at * 64) ≡ nat_lt p end = grind (arith, nat_tests) in
@@ -65,12 +66,15 @@ cleared_word start words at first end word there written before p =
 
     here : p / 64 ≡ at → nat_eq (bit_of (set words at word)) 1 ≡ cond (nat_lt p (64 * (at + 1)) && In) false (nat_eq (bit_of start) 1)
     here same =
-        let now : get_or (set words at word) (p / 64) 0 ≡ word = ap (λ i. get_or (set words at word) i 0) same ∙ get_or-set_same words at word 0 there in
+        let now : get_or (set words at word) (p / 64) 0 ≡ word = ap (λ i. get_or (set words at word) i 0) same
+        ∙ get_or-set_same words at word 0 there in
         let bit : bit_at word (p % 64) ≡ cond In 0 (bit_of words) =
-        written (p % 64) (omega arith) ∙ (ap (λ b. cond b 0 (bit_at (get_or words at 0) (p % 64))) (in_word p at first end same) ∙ ap (λ i. cond In 0 (bit_at (get_or words i 0) (p % 64))) (sym same)) in
+        written (p % 64) (omega arith) ∙ (ap (λ b. cond b 0 (bit_at (get_or words at 0) (p % 64))) (in_word p at first end same)
+        ∙ ap (λ i. cond In 0 (bit_at (get_or words i 0) (p % 64))) (sym same)) in
         let past : nat_lt p (64 * at) ≡ false = grind (arith, nat_tests) in
         let next : nat_lt p (64 * (at + 1)) ≡ true = grind (arith, nat_tests) in
-        let was : nat_eq (bit_of words) 1 ≡ nat_eq (bit_of start) 1 = before p ∙ ap (λ b. cond (b && In) false (nat_eq (bit_of start) 1)) past in
+        let was : nat_eq (bit_of words) 1 ≡ nat_eq (bit_of start) 1 = before p
+        ∙ ap (λ b. cond (b && In) false (nat_eq (bit_of start) 1)) past in
         ap (λ w. nat_eq (bit_at w (p % 64)) 1) now
         ∙ (ap (λ b. nat_eq b 1) bit
         ∙ (tested In (bit_of words)
@@ -102,13 +106,16 @@ pub removed : (words after : List ℕ) (pages : List Bool) (first len end : ℕ)
 removed words after pages first len end view long is_end cleared p =
     get_or-bits_of after p ∙ (cleared p ∙ (same ∙ ap (λ s. cond (in_range first len p) false (get_or s p false)) view))
   where
-    same : cond (nat_le first p && nat_lt p end) false (has_bit words p) ≡ cond (in_range first len p) false (get_or (bits_of words) p false)
+    same : cond (nat_le first p && nat_lt p end) false (has_bit words p) ≡ cond (in_range first len p) false
+        (get_or (bits_of words) p false)
     same =
         elim (cases_lt p 1048576) [
           | inl inside ↦
               let upto : nat_lt p end ≡ nat_lt p (first + len) = grind (arith, nat_tests) in
-              ap (λ b. cond (nat_le first p && b) false (has_bit words p)) upto ∙ ap (λ b. cond (in_range first len p) false b) (sym (get_or-bits_of words p))
+              ap (λ b. cond (nat_le first p && b) false (has_bit words p)) upto
+              ∙ ap (λ b. cond (in_range first len p) false b) (sym (get_or-bits_of words p))
           | inr past ↦
-              let none : get_or (bits_of words) p false ≡ false = get_or_past (bits_of words) p false (omega (arith, length-bits_of words)) in
+              let none : get_or (bits_of words) p false ≡ false = get_or_past (bits_of words) p false
+              (omega (arith, length-bits_of words)) in
               rw (← get_or-bits_of words p, none) (either (nat_le first p && nat_lt p end) ∙ sym (either (in_range first len p)))
         ]

@@ -21,7 +21,8 @@ moves_none page old = record {
   row = omega arith;
 }
 
-moves_begin : (page at n : ℕ) (old mid : Transferred) → at ≡ 0 → 0 < n → n ≤ 8192 → mid ≡ old → MovesFirst page (at + n) old (moved mid (8192 * page + at) n)
+moves_begin : (page at n : ℕ) (old mid : Transferred) → at ≡ 0 → 0 < n → n ≤ 8192 → mid ≡ old
+    → MovesFirst page (at + n) old (moved mid (8192 * page + at) n)
 moves_begin page at n old mid none some few same = record {
   start = λ none. absurd (omega arith);
   bytes = λ _. ap (λ t. min (t.bytes + n) last_count) same ∙ ap (λ k. min (old.bytes + k) last_count) (omega arith);

@@ -1,5 +1,6 @@
 -- What a store over a file is to a caller.
 use Rattle.std.specs.Prelude.{ℕ, ◌≡◌, ◌+◌, ◌*◌, ◌≤◌, min, Bool, false, ◌&&◌, ◌==◌, if◌then◌else◌, List, [], replicate, slice_index_or, None}
+use Rattle.pager_model.specs.Bounds.{space_pages}
 use Rattle.pager_model.specs.SpaceStates.{last_count}
 use Rattle.pager_model.specs.Stored.{Stored}
 use Rattle.store_file.specs.declared.page_file.Transferred.{Transferred}
@@ -25,7 +26,7 @@ pub record FileState : Type 0 where
 
 -- no page of a space
 unfoldable pub no_pages : List Bool
-no_pages = replicate 1048576 false
+no_pages = replicate space_pages false
 
 -- no bytes so far
 abbrev pub none_yet : Transferred

@@ -1,6 +1,7 @@
 //! A store over a file.
 
 ghost use Rattle.std.specs.Prelude.{◌≡◌, ◌≢◌, ℕ, ◌-◌, ◌^◌, ◌≤◌, true, false, length, None, Some, is_some, is_ok, if◌then◌else◌, slice_set, Ok, Err, IfOk, IfSome, OnOk, OnErr};
+ghost use Rattle.pager_model.specs.Bounds.{space_pages};
 ghost use Rattle.pager_model.specs.Regions.{in_range};
 ghost use Rattle.pager_model.specs.SpaceStates.{Rises};
 ghost use Rattle.pager_model.specs.Stored.{copy_at, DropsCopies, SameCopies, SetsCopy, keeps_at};
@@ -176,7 +177,7 @@ impl<F: FileExt + Drop> Store for FileStore<F> {
 
         // A store without its file refuses each write, and any store one past the pages of a space, but none for want of memory.
         ensures closed { self.old.file.opened ≡ false → result ≡ Err WriteRefused.Failed }
-        ensures past { 1048576 ≤ page → result ≡ Err WriteRefused.Failed }
+        ensures past { space_pages ≤ page → result ≡ Err WriteRefused.Failed }
         ensures no_memory { result ≢ Err WriteRefused.NoMemory }
 
         // It reads nothing.

@@ -7,7 +7,7 @@ use crate::page_file::PageFile;
 use std::os::unix::fs::FileExt;
 
 /// How many bytes a page has.
-pub(crate) const PAGE_BYTES: usize = 8192;
+pub(crate) const PAGE_BYTES: usize = pager_model::PAGE_BYTES as usize;
 
 /// Puts the bytes of words into a page's, each word's lowest byte first.
 pub(crate) fn put_words(words: &[u64], bytes: &mut [u8; PAGE_BYTES]) {

@@ -2,6 +2,7 @@
 
 ghost use Rattle.std.specs.Prelude.{◌≡◌, ℕ, ◌*◌, ◌/◌, ◌<◌, ◌≤◌, ◌&&◌, nat_le, nat_lt, true, false, length, slice_index, slice_index_or, slice_set, if◌then◌else◌, IfOk};
 ghost use Rattle.std.specs.Int.{bit_at};
+ghost use Rattle.pager_model.specs.Bounds.{space_pages};
 ghost use Rattle.bit_set.specs.Bits.{has_bit};
 ghost use Rattle.pager_model.specs.Regions.{in_range};
 ghost use Rattle.store_file.specs.FileState.{no_pages};
@@ -50,7 +51,7 @@ impl PageSet {
 
     /// Puts a page of the space in.
     pub(crate) fn insert(&mut self, page: u32)
-        requires { page < 1048576 }
+        requires { page < space_pages }
         ensures { self.new ≡ slice_set self.old page true }
     {
         self.words[(page / 64) as usize] |= 1 << (page % 64);

@@ -10,7 +10,7 @@ use Rattle.pager_model.specs.Stored.{copy_in, copy_at, keeps_at, zero_words, Sam
 use Rattle.swap_slots.specs.declared.table.PageCopy.{PageCopy}
 use Rattle.swap_slots.specs.declared.table.PageCopy.TheVariants.{Zero, Lost, Slot}
 use Rattle.swap_slots.specs.Devices.{Device, words_at, SameWords, SetsWords}
-use Rattle.swap_slots.specs.SlotState.{SlotState, words_of, copies_from, is_zero, page_count, space_pages, stored_slots, WritesTo}
+use Rattle.swap_slots.specs.SlotState.{SlotState, words_of, copies_from, is_zero, page_count, all_pages, stored_slots, WritesTo}
 use Rattle.swap_slots.specs.Slots.{copy_of, slot_in, HaveOwnSlots, IsSlotFor, SetsPage}
 use Rattle.swap_slots.proofs.SlotTables.{of_slot, page_cases, slot_apart}
 
@@ -22,7 +22,8 @@ copy_in-from device first [] i page at = refl
 copy_in-from device first (c ∷ cs) zero page at =
     ap (λ b. cond b (words_of device c) (copy_in (copies_from device (first + 1) cs) page)) (eq-eqb page first (omega (arith, at)))
 copy_in-from device first (c ∷ cs) (suc i) page at =
-    ap (λ b. cond b (words_of device c) (copy_in (copies_from device (first + 1) cs) page)) (ne_eqb page first (λ same. omega (arith, at, same)))
+    ap (λ b. cond b (words_of device c) (copy_in (copies_from device (first + 1) cs) page))
+    (ne_eqb page first (λ same. omega (arith, at, same)))
     ∙ copy_in-from device (first + 1) cs i page (omega (arith, at))
 
 -- the copy of a page is what its place says
@@ -36,8 +37,8 @@ list_any-range : (n first page : ℕ) → list_any (λ p. page == p) (range_with
 list_any-range zero first page = grind (arith, nat_tests)
 list_any-range (suc n) first page = rw (list_any-range n (first + 1) page) (grind (arith, nat_tests))
 
-among_space : (page : ℕ) → list_any (λ p. page == p) space_pages ≡ nat_lt page page_count
-unfolding space_pages
+among_space : (page : ℕ) → list_any (λ p. page == p) all_pages ≡ nat_lt page page_count
+unfolding all_pages
 among_space page = list_any-range page_count 0 page ∙ grind (arith, nat_tests)
 
 counted : page_count ≡ 1048576
@@ -52,7 +53,8 @@ keeps_at-slots s page = among_space page ∙ ap (nat_lt page) counted
 -- ---- what a read gives
 
 -- the copy of a page without a slot is zero or unknown
-pub reads_zero : (s : SlotState) (page : ℕ) → slot_in (copy_of s.slots page) ≡ None → IfSome (copy_at (stored_slots s) page) (λ copy. zero_words ≡ copy)
+pub reads_zero : (s : SlotState) (page : ℕ) → slot_in (copy_of s.slots page) ≡ None
+    → IfSome (copy_at (stored_slots s) page) (λ copy. zero_words ≡ copy)
 reads_zero s page none =
     let P : Option (List ℕ) → Type 0 = λ o. IfSome o (λ copy. zero_words ≡ copy) in
     subst P (sym (copy_at-slots s page)) (by_copy (copy_of s.slots page) none)
@@ -74,7 +76,8 @@ reads_slot s page slot words has known =
 pub unchanged : (s : SlotState) → SameCopies (stored_slots s) (stored_slots s)
 unchanged s = record { tells = refl; copies = λ _ p. refl; keeps = λ p. refl }
 
-pub same_copies : (old new : SlotState) → new.slots ≡ old.slots → SameWords old.device new.device → SameCopies (stored_slots old) (stored_slots new)
+pub same_copies : (old new : SlotState) → new.slots ≡ old.slots → SameWords old.device new.device
+    → SameCopies (stored_slots old) (stored_slots new)
 unfolding keeps_at
 same_copies old new slots words = record {
   tells = words.tells;
@@ -96,7 +99,8 @@ pub sets_copy : (old new : SlotState) (page : ℕ) (copy : PageCopy) (words : Op
     → (old.device.tells ≡ true → (q : ℕ) → q ≢ page → words_of new.device (copy_of old.slots q) ≡ words_of old.device (copy_of old.slots q))
     → SetsCopy page words (stored_slots old) (stored_slots new)
 unfolding keeps_at
-sets_copy old new page copy words sets tells here there = record { tells = tells; copies = copies; keeps = λ p kept. kept; others = λ p other. refl }
+sets_copy old new page copy words sets tells here there =
+    record { tells = tells; copies = copies; keeps = λ p kept. kept; others = λ p other. refl }
   where
     copies : old.device.tells ≡ true → (p : ℕ) → copy_at (stored_slots new) p ≡ cond (p == page) words (copy_at (stored_slots old) p)
     copies told p = elim (page_cases page copy old.slots new.slots sets p) [
@@ -134,13 +138,15 @@ sets_written old new page s words own writes =
 pub sets_failed : (old new : SlotState) (page s : ℕ) → HaveOwnSlots old.slots → WritesTo page s Lost None old new
     → SetsCopy page None (stored_slots old) (stored_slots new)
 sets_failed old new page s own writes =
-    sets_copy old new page Lost None writes.set writes.wrote.tells (λ told. refl) (others_same old new page s None own writes.slot writes.wrote)
+    sets_copy old new page Lost None writes.set writes.wrote.tells (λ told. refl)
+    (others_same old new page s None own writes.slot writes.wrote)
 
 -- a page without a slot is lost, and its device is as before
 pub sets_lost : (old new : SlotState) (page : ℕ) → new.device ≡ old.device → SetsPage page Lost old.slots new.slots
     → SetsCopy page None (stored_slots old) (stored_slots new)
 sets_lost old new page same sets =
-    sets_copy old new page Lost None sets (ap (λ d. d.tells) same) (λ told. refl) (λ told q other. ap (λ d. words_of d (copy_of old.slots q)) same)
+    sets_copy old new page Lost None sets (ap (λ d. d.tells) same) (λ told. refl)
+    (λ told q other. ap (λ d. words_of d (copy_of old.slots q)) same)
 
 -- the pages of a range are zero
 pub drops_copies : (old new : SlotState) (first len : ℕ) → new.device ≡ old.device → new.refused ≡ old.refused
@@ -153,7 +159,8 @@ drops_copies old new first len same refused zeroed = record {
       copy_at-slots new p
       ∙ (ap (λ d. words_of d (copy_of new.slots p)) same
       ∙ (ap (words_of old.device) (zeroed p)
-      ∙ (chosen (in_range first len p) (copy_of old.slots p) ∙ ap (λ w. cond (in_range first len p) (Some zero_words) w) (sym (copy_at-slots old p)))));
+      ∙ (chosen (in_range first len p) (copy_of old.slots p) ∙ ap (λ w. cond (in_range first len p) (Some zero_words) w)
+      (sym (copy_at-slots old p)))));
   keeps = λ p out. refl;
   faults = ap (λ d. min (d.faults + new.refused) last_count) same ∙ ap (λ n. min (old.device.faults + n) last_count) refused;
 }
@@ -175,7 +182,8 @@ pub tells_zero : (s : SlotState) → (s.device.tells && list_all is_zero s.slots
 tells_zero s told = both s.device.tells (list_all is_zero s.slots.pages) refl refl told
   where
     both : (t z : Bool) → s.device.tells ≡ t → list_all is_zero s.slots.pages ≡ z → (t && z) ≡ true → TellsZero (stored_slots s)
-    both true z at all h = record { tells = at; zero = λ p. copy_at-slots s p ∙ ap (words_of s.device) (all_zero s.slots.pages p (all ∙ h)) }
+    both true z at all h =
+        record { tells = at; zero = λ p. copy_at-slots s p ∙ ap (words_of s.device) (all_zero s.slots.pages p (all ∙ h)) }
     both false z at all h = absurd (false≢true h)
 
 -- ---- its faults
@@ -194,6 +202,10 @@ pub rises_refused : (old new : SlotState) → new.device ≡ old.device → new.
 rises_refused old new same more =
     let faults : new.device.faults ≡ old.device.faults = ap (λ d. d.faults) same in
     elim (cases_lt (old.device.faults + old.refused) last_count) [
-      | inl low ↦ elim (cases_lt (new.device.faults + new.refused) last_count) [ inl below ↦ inl (omega arith) | inr past ↦ inr (omega arith) ]
+      | inl low ↦ elim (cases_lt (new.device.faults + new.refused) last_count) [
+        | inl below ↦ inl (omega arith)
+        | inr past ↦
+            inr (omega arith)
+      ]
       | inr high ↦ inr (omega arith)
     ]

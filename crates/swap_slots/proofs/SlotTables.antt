@@ -97,7 +97,8 @@ module _ (count page : ℕ) (copy before : PageCopy) (xs ys : List PageCopy) (bi
       ]
 
       taken : (p s : ℕ) → p ≢ page → get_or xs p Zero ≡ Slot s → copy ≡ Slot s → ⊥
-      taken p s other had at = at_slot (λ t. (q : ℕ) → q ≢ page → slot_in (get_or xs q Zero) ≢ Some t) copy s apart at p other (ap slot_in had)
+      taken p s other had at = at_slot (λ t. (q : ℕ) → q ≢ page → slot_in (get_or xs q Zero) ≢ Some t) copy s apart at p other
+          (ap slot_in had)
 
       distinct : (p q s : ℕ) → get_or ys p Zero ≡ Slot s → get_or ys q Zero ≡ Slot s → p ≡ q
       distinct p q s one two = elim (page_cases page copy (slots count xs) (slots count ys) sets p) [
@@ -115,14 +116,16 @@ module _ (count page : ℕ) (copy before : PageCopy) (xs ys : List PageCopy) (bi
   any_new : (s : ℕ) → is_in s copy ≡ true → list_any (is_in s) ys ≡ true
   any_new s at =
       ap (list_any (is_in s)) is
-      ∙ list_any_at (is_in s) (set (grown xs page) page copy) page Zero (rw (length-set (grown xs page) page copy) (in_grown xs page)) (ap (is_in s) (get_or-set_same (grown xs page) page copy Zero (in_grown xs page)) ∙ at)
+      ∙ list_any_at (is_in s) (set (grown xs page) page copy) page Zero (rw (length-set (grown xs page) page copy) (in_grown xs page))
+      (ap (is_in s) (get_or-set_same (grown xs page) page copy Zero (in_grown xs page)) ∙ at)
 
   -- a slot that the page had and has no longer is free
   any_old : (s : ℕ) → is_in s copy ≡ false → is_in s before ≡ true → list_any (is_in s) ys ≡ false
   any_old s lacks had = list_any-none (is_in s) ys Zero (λ p. elim (page_cases page copy (slots count xs) (slots count ys) sets p) [
     | inl same ↦ ap (is_in s) same.1 ∙ lacks
     | inr other ↦ elim (cases_Bool (is_in s (get_or ys p Zero))) [
-      | inl held ↦ absurd (other.0 (are.own.apart p page s (sym other.1 ∙ in_slot s (get_or ys p Zero) held) (sym was ∙ in_slot s before had)))
+      | inl held ↦ absurd (other.0 (are.own.apart p page s (sym other.1 ∙ in_slot s (get_or ys p Zero) held)
+          (sym was ∙ in_slot s before had)))
       | inr none ↦ none
     ]
   ])
@@ -223,7 +226,8 @@ slot_apart all page s p own for other has = by_copy (copy_of all page) refl for
     at = of_slot (copy_of all p) s has
 
     by_copy : (c : PageCopy) → copy_of all page ≡ c → IsSlotFor (slots all.count all.pages) page s → ⊥
-    by_copy c here goes = by_slot c here (let P : PageCopy → Type 0 = λ d. MatchOption (slot_in d) (IsLowestFree all s) (λ mine. s ≡ mine) in subst P here goes)
+    by_copy c here goes = by_slot c here (let P : PageCopy → Type 0 = λ d. MatchOption (slot_in d) (IsLowestFree all s)
+        (λ mine. s ≡ mine) in subst P here goes)
       where
         by_slot : (c : PageCopy) → copy_of all page ≡ c → MatchOption (slot_in c) (IsLowestFree all s) (λ mine. s ≡ mine) → ⊥
         by_slot Zero here lowest = free_apart all s p lowest.0 at
@@ -240,7 +244,8 @@ none_free all bits are none s = sym (are.free s) ∙ none s (omega arith)
 
 -- a page without a slot takes the lowest free one, else its own
 pub for_unplaced : (all : Slots) (page s : ℕ) → slot_in (copy_of all page) ≡ None → IsLowestFree all s → IsSlotFor all page s
-for_unplaced all page s none lowest = let P : Option ℕ → Type 0 = λ o. MatchOption o (IsLowestFree all s) (λ mine. s ≡ mine) in subst P (sym none) lowest
+for_unplaced all page s none lowest = let P : Option ℕ → Type 0 = λ o. MatchOption o (IsLowestFree all s) (λ mine. s ≡ mine) in
+    subst P (sym none) lowest
 
 -- ---- how many slots are free
 
@@ -249,8 +254,18 @@ bit b = cond b 1 0
 
 pub count_by-free : (p : ℕ → Bool) (n : ℕ) → p n ≡ true → count_by p (range_with_len 0 (n + 1)) ≡ count_by p (range_with_len 0 n) + 1
 count_by-free p n free =
-    let one = ap bit free in omega (arith, ap (count_by p) (range_with_len-more n), sum_by-append (λ x. bit (p x)) (range_with_len 0 n) (n ∷ []), one)
+    let one = ap bit free in omega (
+      arith,
+      ap (count_by p) (range_with_len-more n),
+      sum_by-append (λ x. bit (p x)) (range_with_len 0 n) (n ∷ []),
+      one,
+    )
 
 pub count_by-taken : (p : ℕ → Bool) (n : ℕ) → p n ≡ false → count_by p (range_with_len 0 (n + 1)) ≡ count_by p (range_with_len 0 n)
 count_by-taken p n taken =
-    let none = ap bit taken in omega (arith, ap (count_by p) (range_with_len-more n), sum_by-append (λ x. bit (p x)) (range_with_len 0 n) (n ∷ []), none)
+    let none = ap bit taken in omega (
+      arith,
+      ap (count_by p) (range_with_len-more n),
+      sum_by-append (λ x. bit (p x)) (range_with_len 0 n) (n ∷ []),
+      none,
+    )

@@ -1,6 +1,7 @@
 -- What a `SlotStore` is to a caller, and as a backing store.
 use Rattle.std.specs.Prelude.{ℕ, ◌+◌, Bool, true, false, ◌&&◌, min, List, [], ◌∷◌, Option, Some, None}
 use Rattle.std.specs.List.{list_all, range_with_len}
+use Rattle.pager_model.specs.Bounds.{space_pages}
 use Rattle.pager_model.specs.SpaceStates.{last_count}
 use Rattle.pager_model.specs.Stored.{Copy, Stored, zero_words}
 use Rattle.swap_slots.specs.declared.table.PageCopy.{PageCopy}
@@ -34,13 +35,13 @@ is_zero Zero = true
 is_zero Lost = false
 is_zero (Slot s) = false
 
--- how many pages a space has
+-- how many pages a space has, which doesn't unfold by itself
 unfoldable pub page_count : ℕ
-page_count = 1048576
+page_count = space_pages
 
 -- the pages of a space
-unfoldable pub space_pages : List ℕ
-space_pages = range_with_len 0 page_count
+unfoldable pub all_pages : List ℕ
+all_pages = range_with_len 0 page_count
 
 -- a slot store as a backing store: it keeps the pages of a space, and its faults are those of its device and the writes that it refused
 abbrev pub stored_slots : SlotState → Stored
@@ -49,7 +50,7 @@ stored_slots s =
       tells = s.device.tells;
       told = s.device.tells && list_all is_zero s.slots.pages;
       copies = copies_from s.device 0 s.slots.pages;
-      kept = Some space_pages;
+      kept = Some all_pages;
       faults = min (s.device.faults + s.refused) last_count;
     }
 

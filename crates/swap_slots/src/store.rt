@@ -1,6 +1,7 @@
 //! A store over slots.
 
 ghost use Rattle.std.specs.Prelude.{◌≡◌, ℕ, ◌-◌, ◌^◌, ◌<◌, ◌≤◌, ◌⊎◌, ◌↔◌, true, false, [], length, min, Some, None, IfOk, IfErr, IfSome, OnOk, OnErr, if◌then◌else◌};
+ghost use Rattle.pager_model.specs.Bounds.{space_pages};
 ghost use Rattle.pager_model.specs.SpaceStates.{Rises};
 ghost use Rattle.pager_model.specs.Stored.{copy_at, keeps_at, SameCopies, SetsCopy, DropsCopies, TellsZero};
 ghost use Rattle.pager_model.specs.Regions.{in_range};
@@ -95,7 +96,7 @@ impl<B: Blocks> SlotStore<B> {
 
     /// Writes the words of a page to its slot, or to the lowest free one, which it has from then on.
     pub fn put(&mut self, page: u32, words: &[u64]) -> Result<(), PutRefused>
-        requires page { page < 1048576 }
+        requires page { page < space_pages }
         requires count { length words.now ≡ 1024 }
         ensures ok { OnOk result ((s : ℕ) × WritesTo page s (PageCopy.Slot s) (Some words.now) self.old self.new) }
         ensures failed { result ≡ Err PutRefused.Failed → ((s : ℕ) × WritesTo page s PageCopy.Lost None self.old self.new) }
@@ -174,10 +175,10 @@ impl<B: Blocks> Store for SlotStore<B> {
 
         // A page of a space goes to its slot, or to the lowest free one.
         ensures placed { OnOk result ((s : ℕ) × WritesTo page s (PageCopy.Slot s) (Some words.now) self.old self.new) }
-        ensures past { (result ≡ Err WriteRefused.NoMemory) ↔ (1048576 ≤ page) }
+        ensures past { (result ≡ Err WriteRefused.NoMemory) ↔ (space_pages ≤ page) }
 
         // Where there is neither, the page is lost, and it counts one more refusal. Else it fails only where its device does.
-        ensures full { page < 1048576 → LacksSlot self.old.slots page
+        ensures full { page < space_pages → LacksSlot self.old.slots page
             → (result ≡ Err WriteRefused.Failed) × SetsPage page PageCopy.Lost self.old.slots self.new.slots
             × (self.new.device ≡ self.old.device) × (self.new.refused ≡ one_more self.old.refused) }
         ensures not_full { ¬ LacksSlot self.old.slots page → self.new.refused ≡ self.old.refused }

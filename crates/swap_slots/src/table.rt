@@ -2,6 +2,7 @@
 
 ghost use Rattle.std.specs.Prelude.{◌≡◌, ◌≢◌, ℕ, ◌+◌, ◌-◌, ◌<◌, ◌≤◌, false, true, [], ◌++◌, length, replicate, slice_set, if◌then◌else◌, vec_capacity, IfOk, IfSome, IfNone};
 ghost use Rattle.std.specs.List.{list_all};
+ghost use Rattle.pager_model.specs.Bounds.{space_pages};
 ghost use Rattle.pager_model.specs.Regions.{in_range};
 ghost use Rattle.swap_slots.specs.SlotState.{is_zero};
 ghost use Rattle.swap_slots.specs.Slots.{Slots, copy_of, slot_in, free_count, HaveOwnSlots, IsSlotFor, LacksSlot, SetsPage};
@@ -35,6 +36,7 @@ pub(crate) struct SlotTable {
 
 impl Model for SlotTable {
     ghost use Rattle.std.specs.Prelude.{◌≤◌, length, vec_capacity};
+    ghost use Rattle.pager_model.specs.Bounds.{space_pages};
     ghost use Rattle.swap_slots.specs.FreeSlots.{AreSlots};
     ghost use Rattle.swap_slots.specs.Slots.{Slots};
 
@@ -43,7 +45,7 @@ impl Model for SlotTable {
     ghost view = { λ t. record { count = t.count; pages = t.pages.items } };
 
     ghost invariant = { λ t. AreSlots (record { count = t.count; pages = t.pages.items }) t.free
-        × (1048576 ≤ vec_capacity t.pages) × (length t.pages.items ≤ 1048576) };
+        × (space_pages ≤ vec_capacity t.pages) × (length t.pages.items ≤ space_pages) };
 }
 
 impl SlotTable {
@@ -104,7 +106,7 @@ impl SlotTable {
 
     /// Says where the copy of a page is now. A slot that it had before is free then, unless it has it still.
     pub(crate) fn set(&mut self, page: u32, copy: PageCopy)
-        requires page { page < 1048576 }
+        requires page { page < space_pages }
         requires there { IfSome (slot_in copy) (λ s. s < self.old.count) }
         requires apart { IfSome (slot_in copy) (λ s. (p : ℕ) → p ≢ page → slot_in (copy_of self.old p) ≢ Some s) }
         ensures set { SetsPage page copy self.old self.new }
@@ -131,7 +133,7 @@ impl SlotTable {
     /// How many pages it lists.
     fn len(&self) -> u32
         ensures count { result ≡ length self.now.pages }
-        ensures most { result ≤ 1048576 }
+        ensures most { result ≤ space_pages }
         ensures own { HaveOwnSlots self.now }
     {
         self.pages.len() as u32
@@ -140,13 +142,13 @@ impl SlotTable {
 
 /// Writes where the copy of a page is, over a list with room for all pages.
 fn set_copy(pages: &mut Vec<PageCopy>, page: u32, copy: PageCopy)
-    requires page { page < 1048576 }
-    requires room { 1048576 ≤ vec_capacity pages.old }
-    requires few { length pages.old.items ≤ 1048576 }
+    requires page { page < space_pages }
+    requires room { space_pages ≤ vec_capacity pages.old }
+    requires few { length pages.old.items ≤ space_pages }
     ensures set { pages.new.items
         ≡ slice_set (pages.old.items ++ replicate (page + 1 - length pages.old.items) PageCopy.Zero) page copy }
-    ensures still_room { 1048576 ≤ vec_capacity pages.new }
-    ensures still_few { length pages.new.items ≤ 1048576 }
+    ensures still_room { space_pages ≤ vec_capacity pages.new }
+    ensures still_few { length pages.new.items ≤ space_pages }
 {
     let at = page as usize;
     if pages.len() <= at {
@@ -157,11 +159,11 @@ fn set_copy(pages: &mut Vec<PageCopy>, page: u32, copy: PageCopy)
 
 /// Lists the pages below this one, with those that are new zero.
 fn grow(pages: &mut Vec<PageCopy>, end: usize)
-    requires end { end ≤ 1048576 }
+    requires end { end ≤ space_pages }
     requires longer { length pages.old.items ≤ end }
-    requires room { 1048576 ≤ vec_capacity pages.old }
+    requires room { space_pages ≤ vec_capacity pages.old }
     ensures grown { pages.new.items ≡ pages.old.items ++ replicate (end - length pages.old.items) PageCopy.Zero }
-    ensures still_room { 1048576 ≤ vec_capacity pages.new }
+    ensures still_room { space_pages ≤ vec_capacity pages.new }
 {
     let Ok(()) = pages.resize(end, PageCopy::Zero) else {
         unreachable!()

@@ -30,8 +30,13 @@ next_multiple (suc (suc zero)) n low = grind (arith, nat_tests)
 next_multiple (suc (suc (suc zero))) n low = grind (arith, nat_tests)
 next_multiple (suc (suc (suc (suc size)))) n low = absurd (omega arith)
 
-pub count_multiples : (size from many : ℕ) → size ≤ 3 → count (is_multiple size) from many + div_ceil from (8 ^ size) ≡ div_ceil (from + many) (8 ^ size)
-count_multiples size from zero low = omega (arith, count-zero (is_multiple size) from, ap (λ n. div_ceil n (8 ^ size)) {x = from + 0} {y = from} (omega arith))
+pub count_multiples : (size from many : ℕ) → size ≤ 3 → count (is_multiple size) from many + div_ceil from (8 ^ size) ≡ div_ceil
+    (from + many) (8 ^ size)
+count_multiples size from zero low = omega (
+  arith,
+  count-zero (is_multiple size) from,
+  ap (λ n. div_ceil n (8 ^ size)) {x = from + 0} {y = from} (omega arith),
+)
 count_multiples size from (suc many) low =
     omega (
       arith,
@@ -45,7 +50,12 @@ count_multiples size from (suc many) low =
 -- no fewer come before a later number
 pub multiples_grow : (size from end : ℕ) → size ≤ 3 → from ≤ end → div_ceil from (8 ^ size) ≤ div_ceil end (8 ^ size)
 multiples_grow size from end low on =
-    omega (arith, count_multiples size from (end - from) low, ap (λ n. div_ceil n (8 ^ size)) {x = from + (end - from)} {y = end} (omega arith))
+    omega (
+      arith,
+      count_multiples size from (end - from) low,
+      ap (λ n. div_ceil n (8 ^ size)) {x = from + (end - from)} {y = end}
+          (omega arith),
+    )
 
 -- ---- large tiles
 
@@ -71,7 +81,8 @@ module _ (z : SizeSet) (pages : ℕ → Option Mapping) where
         let own : k ≡ t.extent.size = ap size_in is in
         let first : extent_start k page ≡ t.extent.first = ap (λ n. extent_start n page) own ∙ (tile_largest pages page t is).1 in
         let starts = starts_below k page (size_small pages page) in
-        let joined : p / 8 ^ k ≡ page / 8 ^ k = extent_of_frame (page / 8 ^ k) (8 ^ k) p (omega (arith, starts.first)) (omega (arith, first, within, high, ap (λ n. 8 ^ n) own)) in
+        let joined : p / 8 ^ k ≡ page / 8 ^ k = extent_of_frame (page / 8 ^ k) (8 ^ k) p (omega (arith, starts.first))
+        (omega (arith, first, within, high, ap (λ n. 8 ^ n) own)) in
         ap (size_within z) (size_alike pages page p joined ∙ own)
 
     -- and begins one where it is a multiple
@@ -79,28 +90,38 @@ module _ (z : SizeSet) (pages : ℕ → Option Mapping) where
     begins_there p low high = large_test z pages p ∙ ap (λ n. nat_lt 0 n && eqb (p % 8 ^ n) 0) (size_there p low (omega arith))
 
     small_begun : size ≡ 0 → count begins page (end - page) ≡ 0
-    small_begun none = count-none begins page (end - page) (λ p low high. begins_there p low high ∙ ap (λ n. nat_lt 0 n && eqb (p % 8 ^ n) 0) none)
+    small_begun none = count-none begins page (end - page) (λ p low high. begins_there p low high
+        ∙ ap (λ n. nat_lt 0 n && eqb (p % 8 ^ n) 0) none)
 
     large_begun : t.extent.size ≤ 3 → 0 < size → count begins page (end - page) + div_ceil page (8 ^ size) ≡ div_ceil end (8 ^ size)
     large_begun low large =
         omega (
           arith,
-          count-same begins (is_multiple size) page (end - page) (λ p from to. begins_there p from to ∙ ap (λ b. b && is_multiple size p) (lt-ltb 0 size large)),
+          count-same begins (is_multiple size) page (end - page) (λ p from to. begins_there p from to
+              ∙ ap (λ b. b && is_multiple size p) (lt-ltb 0 size large)),
           count_multiples size page (end - page) (within_small z t.extent.size low),
           ap (λ n. div_ceil n (8 ^ size)) {x = page + (end - page)} {y = end} (omega arith),
         )
 
     -- so many as are counted by the size
-    begun_is : (k many : ℕ) → k ≡ size → (k ≡ 0 → many ≡ 0) → (0 < k → many + div_ceil page (8 ^ k) ≡ div_ceil end (8 ^ k)) → t.extent.size ≤ 3 → many ≡ count begins page (end - page)
+    begun_is : (k many : ℕ) → k ≡ size → (k ≡ 0 → many ≡ 0) → (0 < k → many + div_ceil page (8 ^ k) ≡ div_ceil end (8 ^ k))
+        → t.extent.size ≤ 3 → many ≡ count begins page (end - page)
     begun_is k many own none some low = elim (cases_lt 0 k) [
       | inl large ↦
-          omega (arith, some large, large_begun low (omega (arith, own, large)), ap (λ n. div_ceil page (8 ^ n)) own, ap (λ n. div_ceil end (8 ^ n)) own)
+          omega (
+            arith,
+            some large,
+            large_begun low (omega (arith, own, large)),
+            ap (λ n. div_ceil page (8 ^ n)) own,
+            ap (λ n. div_ceil end (8 ^ n)) own,
+          )
       | inr small ↦ omega (arith, none (omega arith), small_begun (omega (arith, own, small)))
     ]
 
     -- beside those before
     pub begun_on : (first from k many : ℕ) → first ≤ from → from ≤ page → NoneResident pages from page → k ≡ size → (k ≡ 0 → many ≡ 0)
-        → (0 < k → many + div_ceil page (8 ^ k) ≡ div_ceil end (8 ^ k)) → t.extent.size ≤ 3 → count begins first (end - first) ≡ count begins first (from - first) + many
+        → (0 < k → many + div_ceil page (8 ^ k) ≡ div_ceil end (8 ^ k)) → t.extent.size ≤ 3
+        → count begins first (end - first) ≡ count begins first (from - first) + many
     begun_on first from k many after before bare own none some low =
         omega (
           arith,

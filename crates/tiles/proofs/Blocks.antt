@@ -32,7 +32,8 @@ protected b rights m = if b then option_map (with_rights rights) m else m
 outside_same : (block first len : ℕ) (rights : Rights) (r s : Resident) → ProtectsInBlock block first len rights r s
     → OutsideSame block (mapping_at r) (mapping_at s)
 outside_same block first len rights r s protects p apart =
-    protects.at p ∙ ap (λ b. protected b rights (mapping_at r p)) (no_right (in_range first len p) (eqb (p / 512) block) (ne_eqb (p / 512) block apart))
+    protects.at p ∙ ap (λ b. protected b rights (mapping_at r p)) (no_right (in_range first len p) (eqb (p / 512) block)
+    (ne_eqb (p / 512) block apart))
   where
     no_right : (a b : Bool) → b ≡ false → (a && b) ≡ false
     no_right true b h = h
@@ -51,12 +52,16 @@ pub protects_bare : (first from end : ℕ) (rights : Rights) (r s : Resident) �
 protects_bare first from end rights r s on none so_far = record {
   frames = so_far.frames;
   at = λ p. elim (cases_lt p from) [
-    | inl before ↦ so_far.at p ∙ ap (λ b. protected b rights (mapping_at r p)) (right_alike (nat_le first p) (nat_lt p from) (nat_lt p end) (lt_alike p before))
+    | inl before ↦ so_far.at p ∙ ap (λ b. protected b rights (mapping_at r p))
+        (right_alike (nat_le first p) (nat_lt p from) (nat_lt p end) (lt_alike p before))
     | inr after ↦ elim (cases_lt p end) [
       | inl within ↦
-          let bare : mapping_at r p ≡ None = sym (so_far.at p ∙ ap (λ b. protected b rights (mapping_at r p)) (right_past (nat_le first p) p from after)) ∙ none p after within in
-          none p after within ∙ sym (ap (λ m. protected (nat_le first p && nat_lt p end) rights m) bare ∙ protects_none (nat_le first p && nat_lt p end) rights)
-      | inr past ↦ so_far.at p ∙ ap (λ b. protected b rights (mapping_at r p)) (right_past (nat_le first p) p from after ∙ sym (right_past (nat_le first p) p end past))
+          let bare : mapping_at r p ≡ None = sym (so_far.at p ∙ ap (λ b. protected b rights (mapping_at r p))
+          (right_past (nat_le first p) p from after)) ∙ none p after within in
+          none p after within ∙ sym (ap (λ m. protected (nat_le first p && nat_lt p end) rights m) bare
+          ∙ protects_none (nat_le first p && nat_lt p end) rights)
+      | inr past ↦ so_far.at p ∙ ap (λ b. protected b rights (mapping_at r p))
+          (right_past (nat_le first p) p from after ∙ sym (right_past (nat_le first p) p end past))
     ]
   ];
 }
@@ -79,14 +84,17 @@ protects_part size page rights given e r s fits small aligned is maps = record {
       | inl joined ↦
           let low : size ≤ 3 = omega (arith, small, fits.low) in
           let range = of_extent size page p low aligned joined in
-          let whole = range_of_extent (page / 8 ^ e.extent.size) (8 ^ e.extent.size) p (eight_pos e.extent.size) (coarser size e.extent.size p page small fits.low joined) in
+          let whole = range_of_extent (page / 8 ^ e.extent.size) (8 ^ e.extent.size) p (eight_pos e.extent.size)
+          (coarser size e.extent.size p page small fits.low joined) in
           let said = fits.says p (omega (arith, fits.starts, whole)) (omega (arith, fits.starts, whole)) in
-          let in_it : (nat_le page p && nat_lt p (page + 8 ^ size)) ≡ true = and_from _ _ (le-leb page p range.0) (lt-ltb p (page + 8 ^ size) range.1) in
+          let in_it : (nat_le page p && nat_lt p (page + 8 ^ size)) ≡ true =
+          and_from _ _ (le-leb page p range.0) (lt-ltb p (page + 8 ^ size) range.1) in
           maps.at p
           ∙ ap (λ (b : Bool). if b then Some (moved_by (p - page) given) else mapping_at r p) (eq-eqb _ _ joined)
           ∙ ap (λ m. Some (moved_by (p - page) m)) is
           ∙ ap (λ (f : ℕ). Some (record { frame = f; region = e.mapping.region; rights = rights; dirty = e.mapping.dirty }))
-          {x = e.mapping.frame + (page - e.extent.first) + (p - page)} {y = e.mapping.frame + (p - e.extent.first)} (omega (arith, range, fits.from))
+          {x = e.mapping.frame + (page - e.extent.first) + (p - page)} {y = e.mapping.frame + (p - e.extent.first)}
+          (omega (arith, range, fits.from))
           ∙ sym (ap (λ b. protected b rights (mapping_at r p)) in_it ∙ ap (option_map (with_rights rights)) said)
       | inr apart ↦
           let out : (nat_le page p && nat_lt p (page + 8 ^ size)) ≡ false = elim (cases_lt p page) [
@@ -109,12 +117,14 @@ protects_on first page end rights r s t from on so_far more = record {
   at = λ p. elim (cases_lt p page) [
     | inl before ↦
         let out : (nat_le page p && nat_lt p end) ≡ false = grind (arith, nat_tests) in
-        let same : (nat_le first p && nat_lt p page) ≡ (nat_le first p && nat_lt p end) = alike (nat_le first p) (nat_lt p page) (nat_lt p end) (both p before) in
+        let same : (nat_le first p && nat_lt p page) ≡ (nat_le first p && nat_lt p end) =
+        alike (nat_le first p) (nat_lt p page) (nat_lt p end) (both p before) in
         more.at p ∙ ap (λ b. protected b rights (mapping_at s p)) out ∙ so_far.at p ∙ ap (λ b. protected b rights (mapping_at r p)) same
     | inr after ↦
         let out : (nat_le first p && nat_lt p page) ≡ false = past (nat_le first p) p page after in
         let same : (nat_le page p && nat_lt p end) ≡ (nat_le first p && nat_lt p end) = grind (arith, nat_tests) in
-        more.at p ∙ ap (λ m. protected (nat_le page p && nat_lt p end) rights m) (so_far.at p ∙ ap (λ b. protected b rights (mapping_at r p)) out) ∙ ap (λ b. protected b rights (mapping_at r p)) same
+        more.at p ∙ ap (λ m. protected (nat_le page p && nat_lt p end) rights m)
+        (so_far.at p ∙ ap (λ b. protected b rights (mapping_at r p)) out) ∙ ap (λ b. protected b rights (mapping_at r p)) same
   ];
 }
   where
@@ -161,11 +171,15 @@ blocks_more to first len rights r s t so_far protects = record {
   at = λ p. elim (cases_eq (p / 512) to) [
     | inl e ↦
         let before : (in_range first len p && nat_lt (p / 512) to) ≡ false = right_no (in_range first len p) (p / 512) to (omega arith) in
-        let after : (in_range first len p && eqb (p / 512) to) ≡ (in_range first len p && nat_lt (p / 512) (to + 1)) = right_same (in_range first len p) (eqb (p / 512) to) (nat_lt (p / 512) (to + 1)) (eq-eqb (p / 512) to e ∙ sym (lt_yes (p / 512) (to + 1) (omega arith))) in
+        let after : (in_range first len p && eqb (p / 512) to) ≡ (in_range first len p && nat_lt (p / 512) (to + 1)) =
+        right_same (in_range first len p) (eqb (p / 512) to) (nat_lt (p / 512) (to + 1))
+        (eq-eqb (p / 512) to e ∙ sym (lt_yes (p / 512) (to + 1) (omega arith))) in
         let here : mapping_at s p ≡ mapping_at r p = so_far.at p ∙ ap (λ b. protected b rights (mapping_at r p)) before in
-        protects.at p ∙ ap (λ m. protected (in_range first len p && eqb (p / 512) to) rights m) here ∙ ap (λ b. protected b rights (mapping_at r p)) after
+        protects.at p ∙ ap (λ m. protected (in_range first len p && eqb (p / 512) to) rights m) here
+        ∙ ap (λ b. protected b rights (mapping_at r p)) after
     | inr apart ↦
-        let same : (in_range first len p && nat_lt (p / 512) to) ≡ (in_range first len p && nat_lt (p / 512) (to + 1)) = right_same (in_range first len p) (nat_lt (p / 512) to) (nat_lt (p / 512) (to + 1)) (lt_more (p / 512) to apart) in
+        let same : (in_range first len p && nat_lt (p / 512) to) ≡ (in_range first len p && nat_lt (p / 512) (to + 1)) =
+        right_same (in_range first len p) (nat_lt (p / 512) to) (nat_lt (p / 512) (to + 1)) (lt_more (p / 512) to apart) in
         outside_same to first len rights s t protects p apart ∙ so_far.at p ∙ ap (λ b. protected b rights (mapping_at r p)) same
   ];
 }
@@ -186,7 +200,8 @@ blocks_more to first len rights r s t so_far protects = record {
 -- the pages in the blocks before that one are as before in it
 block_untouched : (to first len : ℕ) (rights : Rights) (r s : Resident) → ProtectsBlocks to first len rights r s → (p : ℕ) → p / 512 ≡ to
     → mapping_at s p ≡ mapping_at r p
-block_untouched to first len rights r s so_far p e = so_far.at p ∙ ap (λ b. protected b rights (mapping_at r p)) (right_no (in_range first len p) (p / 512) to (omega arith))
+block_untouched to first len rights r s so_far p e = so_far.at p ∙ ap (λ b. protected b rights (mapping_at r p))
+    (right_no (in_range first len p) (p / 512) to (omega arith))
   where
     right_no : (a : Bool) (m n : ℕ) → n ≤ m → (a && nat_lt m n) ≡ false
     right_no true m n h = grind (arith, nat_tests)
@@ -194,7 +209,8 @@ block_untouched to first len rights r s so_far p e = so_far.at p ∙ ap (λ b. p
 
 pub blocks_all : (to first len : ℕ) (rights : Rights) (r s : Resident) → first + len ≤ to * 512 → ProtectsBlocks to first len rights r s
     → Protects first len rights r s
-blocks_all to first len rights r s past so_far = record { frames = so_far.frames; at = λ p. so_far.at p ∙ ap (λ b. protected b rights (mapping_at r p)) (all p) }
+blocks_all to first len rights r s past so_far =
+    record { frames = so_far.frames; at = λ p. so_far.at p ∙ ap (λ b. protected b rights (mapping_at r p)) (all p) }
   where
     all : (p : ℕ) → (in_range first len p && nat_lt (p / 512) to) ≡ in_range first len p
     all p = elim (cases_lt p (first + len)) [
@@ -215,17 +231,21 @@ pub blocks_skip : (from to first len : ℕ) (rights : Rights) (r s : Resident) �
     → ProtectsBlocks from first len rights r s → ProtectsBlocks to first len rights r s
 blocks_skip from to first len rights r s on bare so_far = record { frames = so_far.frames; at = at }
   where
-    alike : (p : ℕ) → nat_lt (p / 512) from ≡ nat_lt (p / 512) to → mapping_at s p ≡ protected (in_range first len p && nat_lt (p / 512) to) rights (mapping_at r p)
+    alike : (p : ℕ) → nat_lt (p / 512) from ≡ nat_lt (p / 512) to → mapping_at s p ≡ protected
+        (in_range first len p && nat_lt (p / 512) to) rights (mapping_at r p)
     alike p same = so_far.at p ∙ ap (λ b. protected (in_range first len p && b) rights (mapping_at r p)) same
 
-    skipped : (p : ℕ) (inside : Bool) → in_range first len p ≡ inside → from ≤ p / 512 → p / 512 < to → mapping_at s p ≡ protected (in_range first len p && nat_lt (p / 512) to) rights (mapping_at r p)
-    skipped p false out past before = so_far.at p ∙ ap (λ b. protected (b && nat_lt (p / 512) from) rights (mapping_at r p)) out ∙ sym (ap (λ b. protected (b && nat_lt (p / 512) to) rights (mapping_at r p)) out)
+    skipped : (p : ℕ) (inside : Bool) → in_range first len p ≡ inside → from ≤ p / 512 → p / 512 < to
+        → mapping_at s p ≡ protected (in_range first len p && nat_lt (p / 512) to) rights (mapping_at r p)
+    skipped p false out past before = so_far.at p ∙ ap (λ b. protected (b && nat_lt (p / 512) from) rights (mapping_at r p)) out
+        ∙ sym (ap (λ b. protected (b && nat_lt (p / 512) to) rights (mapping_at r p)) out)
     skipped p true is past before =
         let bounds = in_bounds first len p is in
         let none = bare p bounds.0 bounds.1 past before in
         let unmarked : nat_lt (p / 512) from ≡ false = grind (arith, nat_tests) in
         let was : mapping_at r p ≡ None = sym (so_far.at p ∙ ap₂ (λ a b. protected (a && b) rights (mapping_at r p)) is unmarked) ∙ none in
-        none ∙ sym (ap (protected (in_range first len p && nat_lt (p / 512) to) rights) was ∙ protects_none (in_range first len p && nat_lt (p / 512) to) rights)
+        none ∙ sym (ap (protected (in_range first len p && nat_lt (p / 512) to) rights) was
+        ∙ protects_none (in_range first len p && nat_lt (p / 512) to) rights)
 
     at : (p : ℕ) → mapping_at s p ≡ protected (in_range first len p && nat_lt (p / 512) to) rights (mapping_at r p)
     at p = elim (cases_lt (p / 512) from) [
@@ -240,39 +260,68 @@ blocks_skip from to first len rights r s on bare so_far = record { frames = so_f
 pub blocks_to_next : (from first len page : ℕ) (rights : Rights) (r s : Resident)
     → IsNextResident (mapping_at s) (max first (from * 512)) (first + len) page → ProtectsBlocks from first len rights r s
     → ProtectsBlocks (page / 512) first len rights r s
-blocks_to_next from first len page rights r s next = blocks_skip from (page / 512) first len rights r s (omega (arith, next.from_on)) (λ p low high past before. next.lowest p (omega arith) (omega arith))
+blocks_to_next from first len page rights r s next = blocks_skip from (page / 512) first len rights r s (omega (arith, next.from_on))
+    (λ p low high past before. next.lowest p (omega arith) (omega arith))
 
 -- and all where none is behind one
 pub blocks_end : (from first len : ℕ) (rights : Rights) (r s : Resident) → from ≤ 2048 → first + len ≤ 1048576
     → NoneResident (mapping_at s) (max first (from * 512)) (first + len) → ProtectsBlocks from first len rights r s
     → Protects first len rights r s
 blocks_end from first len rights r s few known none so_far =
-    blocks_all 2048 first len rights r s known (blocks_skip from 2048 first len rights r s few (λ p low high past before. none p (omega arith) high) so_far)
+    blocks_all 2048 first len rights r s known (blocks_skip from 2048 first len rights r s few
+    (λ p low high past before. none p (omega arith) high) so_far)
 
 -- ---- the moves
 
 pub moves_more : (z : SizeSet) (to first len : ℕ) (rights : Rights) (r s t : Resident) (so_far more all : Moves)
     → ProtectsBlocks to first len rights r s → ProtectsInBlock to first len rights s t → AreMovesIn z (mapping_at r) (mapping_at s) so_far
-    → AreMovesIn z (mapping_at s) (mapping_at t) more → all.promotions ≡ so_far.promotions + more.promotions → all.demotions ≡ so_far.demotions + more.demotions → IsInSpace all.touched
-    → ((p : ℕ) → is_touched all.touched p ≡ false → (is_touched so_far.touched p ≡ false) × (is_touched more.touched p ≡ false)) → AreMovesIn z (mapping_at r) (mapping_at t) all
+    → AreMovesIn z (mapping_at s) (mapping_at t) more → all.promotions ≡ so_far.promotions + more.promotions
+    → all.demotions ≡ so_far.demotions + more.demotions → IsInSpace all.touched
+    → ((p : ℕ) → is_touched all.touched p ≡ false → (is_touched so_far.touched p ≡ false) × (is_touched more.touched p ≡ false))
+    → AreMovesIn z (mapping_at r) (mapping_at t) all
 moves_more z to first len rights r s t so_far more all before protects moved moves promoted demoted in_range touched =
     let untouched = block_untouched to first len rights r s before in
     let outside = outside_same to first len rights s t protects in
     record {
-      promotions = omega (arith, promotions_add z (mapping_at r) (mapping_at s) (mapping_at t) to untouched outside, promoted, moved.promotions, moves.promotions);
-      demotions = omega (arith, demotions_add z (mapping_at r) (mapping_at s) (mapping_at t) to untouched outside, demoted, moved.demotions, moves.demotions);
+      promotions = omega (
+        arith,
+        promotions_add z (mapping_at r) (mapping_at s) (mapping_at t) to untouched outside,
+        promoted,
+        moved.promotions,
+        moves.promotions,
+      );
+      demotions = omega (
+        arith,
+        demotions_add z (mapping_at r) (mapping_at s) (mapping_at t) to untouched outside,
+        demoted,
+        moved.demotions,
+        moves.demotions,
+      );
       in_space = in_range;
       outside = λ u is out. let neither = touched u.extent.first out in moves.outside u (moved.outside u is neither.0) neither.1;
     }
 
 pub moves_fit : (z : SizeSet) (to first len : ℕ) (rights : Rights) (r s t : Resident) (so_far more : Moves)
     → ProtectsBlocks to first len rights r s → ProtectsInBlock to first len rights s t → AreMovesIn z (mapping_at r) (mapping_at s) so_far
-    → AreMovesIn z (mapping_at s) (mapping_at t) more → (so_far.promotions + more.promotions ≤ 1048576) × (so_far.demotions + more.demotions ≤ 1048576)
+    → AreMovesIn z (mapping_at s) (mapping_at t) more → (so_far.promotions + more.promotions ≤ 1048576)
+    × (so_far.demotions + more.demotions ≤ 1048576)
 moves_fit z to first len rights r s t so_far more before protects moved moves =
     let untouched = block_untouched to first len rights r s before in
     let outside = outside_same to first len rights s t protects in (
-      omega (arith, promotions_add z (mapping_at r) (mapping_at s) (mapping_at t) to untouched outside, moved.promotions, moves.promotions, count_pages_most (is_promoted_in z (mapping_at r) (mapping_at t))),
-      omega (arith, demotions_add z (mapping_at r) (mapping_at s) (mapping_at t) to untouched outside, moved.demotions, moves.demotions, count_pages_most (is_promoted_in z (mapping_at t) (mapping_at r))),
+      omega (
+        arith,
+        promotions_add z (mapping_at r) (mapping_at s) (mapping_at t) to untouched outside,
+        moved.promotions,
+        moves.promotions,
+        count_pages_most (is_promoted_in z (mapping_at r) (mapping_at t)),
+      ),
+      omega (
+        arith,
+        demotions_add z (mapping_at r) (mapping_at s) (mapping_at t) to untouched outside,
+        moved.demotions,
+        moves.demotions,
+        count_pages_most (is_promoted_in z (mapping_at t) (mapping_at r)),
+      ),
     )
 
 -- ---- moves counted at the first of each eight pages
@@ -301,7 +350,8 @@ eighth_alone z old new q apart = promoted_test z old new q ∙ not_eighth q (siz
 
 -- eight pages more
 count_eight : (z : SizeSet) (old new : ℕ → Option Mapping) (from i : ℕ) → from % 8 ≡ 0
-    → count (is_promoted_in z old new) from (8 * (i + 1)) ≡ count (is_promoted_in z old new) from (8 * i) + weight (is_grown_at (from + 8 * i) (size_by z old (from + 8 * i)) (size_by z new (from + 8 * i)))
+    → count (is_promoted_in z old new) from (8 * (i + 1)) ≡ count (is_promoted_in z old new) from (8 * i) + weight
+    (is_grown_at (from + 8 * i) (size_by z old (from + 8 * i)) (size_by z new (from + 8 * i)))
 count_eight z old new from i whole =
     let f = is_promoted_in z old new in
     let q = from + 8 * i in
@@ -349,19 +399,25 @@ pub record CountsTo (z : SizeSet) (block i : ℕ) (old new : ℕ → Option Mapp
 pub counts_none : (z : SizeSet) (block : ℕ) (old new : ℕ → Option Mapping) (moves : Moves) → moves.promotions ≡ 0 → moves.demotions ≡ 0
     → CountsTo z block 0 old new moves
 counts_none z block old new moves p d = record {
-  promotions = p ∙ sym (ap (count (is_promoted_in z old new) (block * 512)) {x = 8 * 0} {y = 0} refl ∙ count-zero (is_promoted_in z old new) (block * 512));
-  demotions = d ∙ sym (ap (count (is_promoted_in z new old) (block * 512)) {x = 8 * 0} {y = 0} refl ∙ count-zero (is_promoted_in z new old) (block * 512));
+  promotions = p ∙ sym (ap (count (is_promoted_in z old new) (block * 512)) {x = 8 * 0} {y = 0} refl
+      ∙ count-zero (is_promoted_in z old new) (block * 512));
+  demotions = d ∙ sym (ap (count (is_promoted_in z new old) (block * 512)) {x = 8 * 0} {y = 0} refl
+      ∙ count-zero (is_promoted_in z new old) (block * 512));
 }
 
 pub counts_more : (z : SizeSet) (block i had has : ℕ) (old new : ℕ → Option Mapping) (so_far at all : Moves)
     → CountsTo z block i old new so_far → had ≡ size_by z old (block * 512 + 8 * i) → has ≡ size_by z new (block * 512 + 8 * i)
-    → at.promotions ≡ (if is_grown_at (block * 512 + 8 * i) had has then 1 else 0) → at.demotions ≡ (if is_grown_at (block * 512 + 8 * i) has had then 1 else 0)
-    → all.promotions ≡ so_far.promotions + at.promotions → all.demotions ≡ so_far.demotions + at.demotions → CountsTo z block (i + 1) old new all
+    → at.promotions ≡ (if is_grown_at (block * 512 + 8 * i) had has then 1 else 0)
+    → at.demotions ≡ (if is_grown_at (block * 512 + 8 * i) has had then 1 else 0)
+    → all.promotions ≡ so_far.promotions + at.promotions → all.demotions ≡ so_far.demotions + at.demotions
+    → CountsTo z block (i + 1) old new all
 counts_more z block i had has old new so_far at all counts before after promoted demoted p d =
     let q = block * 512 + 8 * i in
     let whole : block * 512 % 8 ≡ 0 = omega arith in
-    let up : at.promotions ≡ weight (is_grown_at q (size_by z old q) (size_by z new q)) = promoted ∙ ap (λ n. weight (is_grown_at q n has)) before ∙ ap (λ n. weight (is_grown_at q (size_by z old q) n)) after in
-    let down : at.demotions ≡ weight (is_grown_at q (size_by z new q) (size_by z old q)) = demoted ∙ ap (λ n. weight (is_grown_at q n had)) after ∙ ap (λ n. weight (is_grown_at q (size_by z new q) n)) before in
+    let up : at.promotions ≡ weight (is_grown_at q (size_by z old q) (size_by z new q)) = promoted
+    ∙ ap (λ n. weight (is_grown_at q n has)) before ∙ ap (λ n. weight (is_grown_at q (size_by z old q) n)) after in
+    let down : at.demotions ≡ weight (is_grown_at q (size_by z new q) (size_by z old q)) = demoted
+    ∙ ap (λ n. weight (is_grown_at q n had)) after ∙ ap (λ n. weight (is_grown_at q (size_by z new q) n)) before in
     record {
       promotions = omega (arith, p, counts.promotions, up, count_eight z old new (block * 512) i whole);
       demotions = omega (arith, d, counts.demotions, down, count_eight z new old (block * 512) i whole);
@@ -382,7 +438,8 @@ one_most true = omega arith
 one_most false = omega arith
 
 -- a count of the pages of a range
-pub count_in_range : (f : ℕ → Bool) (first len : ℕ) → first + len ≤ 1048576 → count_pages (λ p. in_range first len p && f p) ≡ count f first len
+pub count_in_range : (f : ℕ → Bool) (first len : ℕ) → first + len ≤ 1048576
+    → count_pages (λ p. in_range first len p && f p) ≡ count f first len
 count_in_range f first len known = at 1048576 refl
   where
     g : ℕ → Bool

@@ -28,7 +28,8 @@ pub record IsPartStart (level page part : ℕ) : Type 0 where
 pub part_starts : (level page part : ℕ) → suc level ≤ 3 → part < 8 → IsPartStart level page part
 part_starts zero page part low few = record { starts = omega arith; joined = omega arith; apart = λ other same. other (omega arith) }
 part_starts (suc zero) page part low few = record { starts = omega arith; joined = omega arith; apart = λ other same. other (omega arith) }
-part_starts (suc (suc zero)) page part low few = record { starts = omega arith; joined = omega arith; apart = λ other same. other (omega arith) }
+part_starts (suc (suc zero)) page part low few =
+    record { starts = omega arith; joined = omega arith; apart = λ other same. other (omega arith) }
 part_starts (suc (suc (suc level))) page part low few = absurd (omega arith)
 
 -- an extent in the one of the next size round a page, without the page, is one of the parts
@@ -41,7 +42,8 @@ other_part : (level page first : ℕ) → suc level ≤ 3 → extent_start level
     → first / 8 ^ level ≢ page / 8 ^ level → IsOtherPart level page first (first / 8 ^ level % 8)
 other_part zero page first low starts joined apart = record { few = omega arith; other = λ e. apart (omega arith); is = omega arith }
 other_part (suc zero) page first low starts joined apart = record { few = omega arith; other = λ e. apart (omega arith); is = omega arith }
-other_part (suc (suc zero)) page first low starts joined apart = record { few = omega arith; other = λ e. apart (omega arith); is = omega arith }
+other_part (suc (suc zero)) page first low starts joined apart =
+    record { few = omega arith; other = λ e. apart (omega arith); is = omega arith }
 other_part (suc (suc (suc level))) page first low starts joined apart = absurd (omega arith)
 
 -- ---- tests of tiles
@@ -85,7 +87,8 @@ part_is level s page m large below low starts from_frame is =
     let first : page - page % 8 ^ level ≡ page = omega (arith, rest) in
     let had : large.frame ≡ m.frame - page % 8 ^ s = ap (λ (t : Tile). t.frame) is in
     let from : large.extent.first ≡ page - page % 8 ^ s = ap (λ (t : Tile). t.extent.first) is in
-    let frame : m.frame - page % 8 ^ level ≡ large.frame + (page - large.extent.first) = omega (arith, rest, had, from, from_frame, big.within) in
+    let frame : m.frame - page % 8 ^ level ≡ large.frame + (page - large.extent.first) =
+    omega (arith, rest, had, from, from_frame, big.within) in
     let rights : m.rights ≡ large.rights = sym (ap (λ (t : Tile). t.rights) is) in
     let dirty : m.dirty ≡ large.dirty = sym (ap (λ (t : Tile). t.dirty) is) in
     λ i. record { extent = record { size = level; first = first i }; frame = frame i; rights = rights i; dirty = dirty i }
@@ -141,8 +144,10 @@ module _ (old new : ℕ → Option Mapping) (page : ℕ) (others : OthersSame pa
     size_new : size_at new start ≡ level
     size_new =
         size_is new start level (omega (arith, low))
-        (λ positive. sym (whole_other old new page level start others (omega (arith, low)) (at.apart other)) ∙ whole_within old start level positive (omega (arith, size_there)))
-        (λ k more small. whole_alike new k page start (coarser (suc level) k start page (omega arith) small at.joined) ∙ whole_beyond new page k (omega (arith, from)) small)
+        (λ positive. sym (whole_other old new page level start others (omega (arith, low)) (at.apart other))
+        ∙ whole_within old start level positive (omega (arith, size_there)))
+        (λ k more small. whole_alike new k page start (coarser (suc level) k start page (omega arith) small at.joined)
+        ∙ whole_beyond new page k (omega (arith, from)) small)
 
     tile_there : (o : Option Mapping) → old start ≡ o → tile_of new start ≡ Some piece
     tile_there None gone = absurd (none-some large (sym (tile_absent old start gone) ∙ had_there))
@@ -150,7 +155,8 @@ module _ (old new : ℕ → Option Mapping) (page : ℕ) (others : OthersSame pa
         let now : new start ≡ Some m = others start (λ e. at.apart other (ap (λ n. n / 8 ^ level) e)) ∙ is in
         let before = tile_by_own old start m is in
         let size : size_at old start ≡ large.extent.size = size_there in
-        let was : large ≡ tile_by large.extent.size start m = same_Some large (tile_by large.extent.size start m) (sym had_there ∙ before.is ∙ ap (λ k. Some (tile_by k start m)) size) in
+        let was : large ≡ tile_by large.extent.size start m = same_Some large (tile_by large.extent.size start m)
+        (sym had_there ∙ before.is ∙ ap (λ k. Some (tile_by k start m)) size) in
         let frames : start % 8 ^ large.extent.size ≤ m.frame = omega (arith, before.from_frame, ap (λ k. start % 8 ^ k) size) in
         (tile_by_own new start m now).is ∙ ap (λ k. Some (tile_by k start m)) size_new
         ∙ ap Some (part_is level large.extent.size start m large (omega arith) low at.starts frames was)
@@ -159,7 +165,9 @@ module _ (old new : ℕ → Option Mapping) (page : ℕ) (others : OthersSame pa
     part_new =
         record {
           after = of-is_tile new piece (tile_there (old start) refl);
-          before = ap (is_that_tile piece) had_there ∙ false_from_ne_true (same_tile piece large) (λ same. absurd (let e : level ≡ large.extent.size = ap (λ (u : Tile). u.extent.size) (same_tile-true piece large same) in omega (arith, below)));
+          before = ap (is_that_tile piece) had_there ∙ false_from_ne_true (same_tile piece large)
+              (λ same. absurd (let e : level ≡ large.extent.size = ap (λ (u : Tile). u.extent.size) (same_tile-true piece large same) in
+              omega (arith, below)));
         }
 
   -- and there are no others
@@ -196,25 +204,36 @@ module _ (old new : ℕ → Option Mapping) (page : ℕ) (others : OthersSame pa
         with_mapping (Some m) at =
             let low : k ≤ 3 = tile.0.extent.0 in
             let at_least : k ≤ size_at old first = elim (cases_lt 0 k) [
-              | inl positive ↦ within_size old first k low (whole_other old new page k first others low apart ∙ whole_within new first k positive (omega (arith, size)))
+              | inl positive ↦ within_size old first k low (whole_other old new page k first others low apart
+                  ∙ whole_within new first k positive (omega (arith, size)))
               | inr none ↦ omega arith
             ] in
-            let more : k < size_at old first = elim (cases_eq (size_at old first) k) [ inl e ↦ absurd (differs e) | inr n ↦ omega (arith, at_least) ] in
+            let more : k < size_at old first = elim (cases_eq (size_at old first) k) [
+              | inl e ↦ absurd (differs e)
+              | inr n ↦
+                  omega (arith, at_least)
+            ] in
             let old_low = size_small old first in
             let joined : first / 8 ^ suc k ≡ page / 8 ^ suc k = elim (cases_eq (first / 8 ^ suc k) (page / 8 ^ suc k)) [
               | inl e ↦ e
-              | inr n ↦ absurd (true≢false (sym (whole_within old first (suc k) (omega arith) (omega (arith, more))) ∙ whole_other old new page (suc k) first others (omega (arith, more, old_low)) n ∙ whole_beyond new first (suc k) (omega (arith, size)) (omega (arith, more, old_low))))
+              | inr n ↦ absurd (true≢false (sym (whole_within old first (suc k) (omega arith) (omega (arith, more)))
+                  ∙ whole_other old new page (suc k) first others (omega (arith, more, old_low)) n
+                  ∙ whole_beyond new first (suc k) (omega (arith, size)) (omega (arith, more, old_low))))
             ] in
             let before = tile_by_own old first m (sym same ∙ at) in
             let s = size_at old first in
             let large = tile_by s first m in
-            let had : tile_of old page ≡ Some large = tile_at old first page large before.is (sym (coarser (suc k) s first page (omega (arith, more)) old_low joined)) in
+            let had : tile_of old page ≡ Some large = tile_at old first page large before.is
+            (sym (coarser (suc k) s first page (omega (arith, more)) old_low joined)) in
             let from : size_at new page ≤ k = elim (cases_lt k (size_at new page)) [
               | inr within ↦ within
-              | inl above ↦ absurd (true≢false (sym (whole_within new page (suc k) (omega arith) (omega (arith, above))) ∙ sym (whole_alike new (suc k) page first joined) ∙ whole_beyond new first (suc k) (omega (arith, size)) (omega (arith, more, old_low))))
+              | inl above ↦ absurd (true≢false (sym (whole_within new page (suc k) (omega arith) (omega (arith, above)))
+                  ∙ sym (whole_alike new (suc k) page first joined) ∙ whole_beyond new first (suc k) (omega (arith, size))
+                  (omega (arith, more, old_low))))
             ] in
             let other = other_part k page first (omega (arith, more, old_low)) tile.1 joined apart in
-            let own : t ≡ tile_by k first m = same_Some t (tile_by k first m) (sym now ∙ (tile_by_own new first m at).is ∙ ap (λ j. Some (tile_by j first m)) size) in
+            let own : t ≡ tile_by k first m = same_Some t (tile_by k first m)
+            (sym now ∙ (tile_by_own new first m at).is ∙ ap (λ j. Some (tile_by j first m)) size) in
             record {
               large = large;
               at = had;
@@ -223,7 +242,8 @@ module _ (old new : ℕ → Option Mapping) (page : ℕ) (others : OthersSame pa
               part = first / 8 ^ k % 8;
               few = other.few;
               other = other.other;
-              is = own ∙ part_is k s first m large (omega (arith, more)) old_low tile.1 before.from_frame refl ∙ ap (λ n. part_from k n large) other.is;
+              is = own ∙ part_is k s first m large (omega (arith, more)) old_low tile.1 before.from_frame refl
+                  ∙ ap (λ n. part_from k n large) other.is;
             }
 
     pub new_is : (tile_of new page ≡ Some t) ⊎ IsCut old new page t

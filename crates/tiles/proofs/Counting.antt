@@ -28,7 +28,8 @@ pub count_pages-is : (f : ℕ → Bool) (many : ℕ) → many ≡ 1048576 → co
 unfolding count_pages count
 count_pages-is f many e = ap (λ n. count_by f (range_with_len 0 n)) (sym e)
 
-pub count-same : (f g : ℕ → Bool) (from many : ℕ) → ((n : ℕ) → from ≤ n → n < from + many → f n ≡ g n) → count f from many ≡ count g from many
+pub count-same : (f g : ℕ → Bool) (from many : ℕ) → ((n : ℕ) → from ≤ n → n < from + many → f n ≡ g n)
+    → count f from many ≡ count g from many
 unfolding count
 count-same f g from many h = count-agree f g from many h
 
@@ -39,11 +40,25 @@ count-none f from many h = general.count-none f from many h
 -- one more
 pub count-more : (f : ℕ → Bool) (from many n : ℕ) → from + many ≡ n → count f from (many + 1) ≡ count f from many + weight (f n)
 count-more f from zero n e =
-    omega (arith, ap (count f from) {x = 0 + 1} {y = suc 0} (omega arith), count-suc f from 0, count-zero f (from + 1), count-zero f from, ap (λ x. weight (f x)) {x = from} {y = n} (omega arith))
+    omega (
+      arith,
+      ap (count f from) {x = 0 + 1} {y = suc 0} (omega arith),
+      count-suc f from 0,
+      count-zero f (from + 1),
+      count-zero f from,
+      ap (λ x. weight (f x)) {x = from} {y = n} (omega arith),
+    )
 count-more f from (suc many) n e =
-    omega (arith, ap (count f from) {x = suc many + 1} {y = suc (many + 1)} (omega arith), count-suc f from (many + 1), count-more f (from + 1) many n (omega arith), count-suc f from many)
+    omega (
+      arith,
+      ap (count f from) {x = suc many + 1} {y = suc (many + 1)} (omega arith),
+      count-suc f from (many + 1),
+      count-more f (from + 1) many n (omega arith),
+      count-suc f from many,
+    )
 
-pub count-apart : (f : ℕ → Bool) (from first rest next : ℕ) → from + first ≡ next → count f from (first + rest) ≡ count f from first + count f next rest
+pub count-apart : (f : ℕ → Bool) (from first rest next : ℕ) → from + first ≡ next
+    → count f from (first + rest) ≡ count f from first + count f next rest
 unfolding count
 count-apart f from first rest next e = general.count-apart f from first rest next e
 
@@ -57,8 +72,18 @@ count-at a flag from zero low high = absurd (omega arith)
 count-at a flag from (suc many) low high = elim (cases_eq from a) [
   | inl here ↦
       let first : (eqb from a && flag) ≡ flag = let t : eqb from a ≡ true = grind (arith, nat_tests) in ap (λ b. b && flag) t in
-      omega (arith, count-suc (λ q. eqb q a && flag) from many, ap weight first, count-none (λ q. eqb q a && flag) (from + 1) many (λ n above below. other n (omega arith)))
-  | inr apart ↦ omega (arith, count-suc (λ q. eqb q a && flag) from many, ap weight (other from apart), count-at a flag (from + 1) many (omega arith) (omega arith))
+      omega (
+        arith,
+        count-suc (λ q. eqb q a && flag) from many,
+        ap weight first,
+        count-none (λ q. eqb q a && flag) (from + 1) many (λ n above below. other n (omega arith)),
+      )
+  | inr apart ↦ omega (
+    arith,
+    count-suc (λ q. eqb q a && flag) from many,
+    ap weight (other from apart),
+    count-at a flag (from + 1) many (omega arith) (omega arith),
+  )
 ]
   where
     other : (n : ℕ) → n ≢ a → (eqb n a && flag) ≡ false

@@ -18,7 +18,8 @@ use Rattle.tiles.proofs.SizedTiles.{begins_own, tile_absent_in, tile_size, withi
 
 -- the page is the first of a tile of this size by some sizes, in one of a size below another by all four
 abbrev pub begins_below : SizeSet → (ℕ → Option Mapping) → ℕ → ℕ → ℕ → Bool
-begins_below z pages size below page = (begins_at page (tile_in z pages page) && eqb (tile_size_in z pages page) size) && ltb (size_at pages page) below
+begins_below z pages size below page = (begins_at page (tile_in z pages page) && eqb (tile_size_in z pages page) size) && ltb
+    (size_at pages page) below
 
 abbrev pub counted_below : SizeSet → (ℕ → Option Mapping) → ℕ → ℕ → ℕ
 counted_below z pages size below = count_pages (begins_below z pages size below)
@@ -67,8 +68,10 @@ module _ (z : SizeSet) (pages : ℕ → Option Mapping) (level : ℕ) (low : lev
           let there : first / width ≡ page / width = mul-div_cancel block (eight_pos level) ∙ sym joined in
           let own = subst (λ k. HasTile pages page k) same tile in
           let has = resident_tile pages first _ (page_in pages level page first own.has low there) in
-          let size_there : size_at pages first ≡ level = size_alike pages page first (subst (λ k. first / 8 ^ k ≡ page / 8 ^ k) (sym same) there) ∙ same in
-          absurd (true≢false (sym (both (begins_at first (tile_in all_sizes pages first)) (eqb (size_at pages first) level) (begins_first first (mul-mod_left block width) has size_there) (eq-eqb _ _ size_there)) ∙ fails))
+          let size_there : size_at pages first ≡ level = size_alike pages page first
+          (subst (λ k. first / 8 ^ k ≡ page / 8 ^ k) (sym same) there) ∙ same in
+          absurd (true≢false (sym (both (begins_at first (tile_in all_sizes pages first)) (eqb (size_at pages first) level)
+          (begins_first first (mul-mod_left block width) has size_there) (eq-eqb _ _ size_there)) ∙ fails))
     ]
   ]
     where
@@ -79,12 +82,15 @@ module _ (z : SizeSet) (pages : ℕ → Option Mapping) (level : ℕ) (low : lev
       both : (a b : Bool) → a ≡ true → b ≡ true → (a && b) ≡ true
       both a b e f = ap (λ x. x && b) e ∙ f
 
-      begins_first : (first : ℕ) → first % width ≡ 0 → HasTile pages first (size_at pages first) → size_at pages first ≡ level → begins_at first (tile_in all_sizes pages first) ≡ true
+      begins_first : (first : ℕ) → first % width ≡ 0 → HasTile pages first (size_at pages first) → size_at pages first ≡ level
+          → begins_at first (tile_in all_sizes pages first) ≡ true
       begins_first first whole has same =
-          begins_own all_sizes pages first has ∙ ap (λ k. eqb (first % 8 ^ size_within all_sizes k) 0) same ∙ ap (λ k. eqb (first % 8 ^ k) 0) (within_all level low) ∙ eq-eqb _ _ whole
+          begins_own all_sizes pages first has ∙ ap (λ k. eqb (first % 8 ^ size_within all_sizes k) 0) same
+          ∙ ap (λ k. eqb (first % 8 ^ k) 0) (within_all level low) ∙ eq-eqb _ _ whole
 
   -- and where one does, each multiple begins a part
-  all_there : (block page : ℕ) → page / width ≡ block → begins_part all_sizes pages level (block * width) ≡ true → part page ≡ is_multiple size page
+  all_there : (block page : ℕ) → page / width ≡ block → begins_part all_sizes pages level (block * width) ≡ true
+      → part page ≡ is_multiple size page
   all_there block page joined begins =
       let first = block * width in
       let parts = and_parts (begins_at first (tile_in all_sizes pages first)) _ begins in
@@ -115,10 +121,12 @@ module _ (z : SizeSet) (pages : ℕ → Option Mapping) (level : ℕ) (low : lev
         let split : width ≡ many * w = eight_split size level (within_at_most z level) in
         omega (
           arith,
-          count-same part (is_multiple size) (block * width) width (λ p from before. all_there block p (extent_of_frame block width p from before) begins),
+          count-same part (is_multiple size) (block * width) width (λ p from before. all_there block p
+              (extent_of_frame block width p from before) begins),
           count_multiples size (block * width) width (within_small z level low),
           whole_ceil w (block * width) (block * many) (eight_pos size) (ap (λ n. block * n) split ∙ sym (mul_assoc block many w)),
-          whole_ceil w (block * width + width) (block * many + many) (eight_pos size) (further (block * many) many w (block * width) width (ap (λ n. block * n) split ∙ sym (mul_assoc block many w)) split),
+          whole_ceil w (block * width + width) (block * many + many) (eight_pos size)
+              (further (block * many) many w (block * width) width (ap (λ n. block * n) split ∙ sym (mul_assoc block many w)) split),
           ap (λ b. many * weight b) begins,
         )
   ]
@@ -144,13 +152,19 @@ module _ (z : SizeSet) (pages : ℕ → Option Mapping) (level : ℕ) (low : lev
         count-apart part 0 (blocks * width) width (blocks * width) (omega arith),
         blocks_parts blocks,
         block_parts blocks,
-        ap (λ n. many * n) (ap (count firsts 0) {x = suc blocks} {y = blocks + 1} (omega arith) ∙ count-more firsts 0 blocks blocks (omega arith)),
+        ap (λ n. many * n) (ap (count firsts 0) {x = suc blocks} {y = blocks + 1} (omega arith)
+            ∙ count-more firsts 0 blocks blocks (omega arith)),
         mul-add many (count firsts 0 blocks) (weight (firsts blocks)),
       )
 
   space_parts : (all : ℕ) → all ≡ 1048576 → count_pages part ≡ many * count firsts 0 (all / width)
   space_parts all e =
-      omega (arith, count_pages-is part all e, ap (count part 0) {x = all} {y = all / width * width} (sym (whole_extents level all low e)), blocks_parts (all / width))
+      omega (
+        arith,
+        count_pages-is part all e,
+        ap (count part 0) {x = all} {y = all / width * width} (sym (whole_extents level all low e)),
+        blocks_parts (all / width),
+      )
     where
       whole_extents : (k n : ℕ) → k ≤ 3 → n ≡ 1048576 → n / 8 ^ k * 8 ^ k ≡ n
       whole_extents zero n low e = omega arith
@@ -169,7 +183,11 @@ parts_counted z pages level low = at 1048576 refl
         let many = 8 ^ (level - size_within z level) in
         let wholes = count (firsts all_sizes pages level low) 0 (all / 8 ^ level) in
         let none : level - size_within all_sizes level ≡ 0 = omega (arith, within_all level low) in
-        let own : tiles_of_size pages level ≡ wholes = omega (arith, space_parts all_sizes pages level low all e, ap (λ n. 8 ^ n * wholes) none) in
+        let own : tiles_of_size pages level ≡ wholes = omega (
+          arith,
+          space_parts all_sizes pages level low all e,
+          ap (λ n. 8 ^ n * wholes) none,
+        ) in
         space_parts z pages level low all e ∙ ap (λ n. many * n) (sym own)
 
 -- ---- one size more
@@ -178,32 +196,39 @@ module _ (z : SizeSet) (pages : ℕ → Option Mapping) (size level : ℕ) where
   abbrev is_first : ℕ → Bool
   is_first page = begins_at page (tile_in z pages page) && eqb (tile_size_in z pages page) size
 
-  step : counted_below z pages size (level + 1) ≡ counted_below z pages size level + count_pages (λ page. is_first page && eqb (size_at pages page) level)
+  step : counted_below z pages size (level + 1) ≡ counted_below z pages size level + count_pages
+      (λ page. is_first page && eqb (size_at pages page) level)
   step = at 1048576 refl
     where
       each : (b : Bool) (s : ℕ) → weight (b && ltb s (level + 1)) ≡ weight (b && ltb s level) + weight (b && eqb s level)
       each true s = grind (arith, nat_tests)
       each false s = refl
 
-      at : (all : ℕ) → all ≡ 1048576 → counted_below z pages size (level + 1) ≡ counted_below z pages size level + count_pages (λ page. is_first page && eqb (size_at pages page) level)
+      at : (all : ℕ) → all ≡ 1048576 → counted_below z pages size (level + 1) ≡ counted_below z pages size level + count_pages
+          (λ page. is_first page && eqb (size_at pages page) level)
       at all e =
           omega (
             arith,
             count_pages-is (begins_below z pages size (level + 1)) all e,
             count_pages-is (begins_below z pages size level) all e,
             count_pages-is (λ page. is_first page && eqb (size_at pages page) level) all e,
-            count-sum (begins_below z pages size (level + 1)) (begins_below z pages size level) (λ page. is_first page && eqb (size_at pages page) level) 0 all (λ page from before. each (is_first page) (size_at pages page)),
+            count-sum (begins_below z pages size (level + 1)) (begins_below z pages size level)
+                (λ page. is_first page && eqb (size_at pages page) level) 0 all
+                (λ page from before. each (is_first page) (size_at pages page)),
           )
 
   -- the tile of a page of one size by all four has the size within
-  sized : (page : ℕ) → (is_first page && eqb (size_at pages page) level) ≡ (eqb (size_within z level) size && begins_part z pages level page)
+  sized : (page : ℕ) → (is_first page && eqb (size_at pages page) level) ≡
+      (eqb (size_within z level) size && begins_part z pages level page)
   sized page = elim (cases_eq (size_at pages page) level) [
     | inl same ↦
-        ap (λ n. (begins_at page (tile_in z pages page) && eqb n size) && eqb (size_at pages page) level) (tile_size z pages page ∙ ap (size_within z) same)
+        ap (λ n. (begins_at page (tile_in z pages page) && eqb n size) && eqb (size_at pages page) level)
+        (tile_size z pages page ∙ ap (size_within z) same)
         ∙ turned (begins_at page (tile_in z pages page)) (eqb (size_within z level) size) (eqb (size_at pages page) level)
     | inr apart ↦
         let none = ne_eqb _ _ apart in
-        right_false (is_first page) _ none ∙ sym (right_false (eqb (size_within z level) size) _ (right_false (begins_at page (tile_in z pages page)) _ none))
+        right_false (is_first page) _ none ∙ sym (right_false (eqb (size_within z level) size) _
+        (right_false (begins_at page (tile_in z pages page)) _ none))
   ]
     where
       right_false : (a b : Bool) → b ≡ false → (a && b) ≡ false
@@ -223,7 +248,8 @@ module _ (z : SizeSet) (pages : ℕ → Option Mapping) (size level : ℕ) where
       omega (
         arith,
         step,
-        ap count_pages (let tests : (λ page. is_first page && eqb (size_at pages page) level) ≡ begins_part z pages level = λ i page. (sized page ∙ ap (λ b. b && begins_part z pages level page) (eq-eqb _ _ own)) i in tests),
+        ap count_pages (let tests : (λ page. is_first page && eqb (size_at pages page) level) ≡ begins_part z pages level = λ i page.
+            (sized page ∙ ap (λ b. b && begins_part z pages level page) (eq-eqb _ _ own)) i in tests),
         parts_counted z pages level low,
         ap (λ n. 8 ^ (level - n) * tiles_of_size pages level) own,
       )
@@ -233,20 +259,26 @@ module _ (z : SizeSet) (pages : ℕ → Option Mapping) (size level : ℕ) where
       omega (
         arith,
         step,
-        ap count_pages (let tests : (λ page. is_first page && eqb (size_at pages page) level) ≡ (λ page. false) = λ i page. (sized page ∙ ap (λ b. b && begins_part z pages level page) (ne_eqb _ _ apart)) i in tests),
+        ap count_pages (let tests : (λ page. is_first page && eqb (size_at pages page) level) ≡ (λ page. false) = λ i page.
+            (sized page ∙ ap (λ b. b && begins_part z pages level page) (ne_eqb _ _ apart)) i in tests),
         count_pages_none,
       )
 
 module _ (z : SizeSet) (pages : ℕ → Option Mapping) (size : ℕ) where
   pub counted_none : counted_below z pages size 0 ≡ 0
-  counted_none = ap count_pages (let tests : begins_below z pages size 0 ≡ (λ page. false) = λ i page. none (begins_at page (tile_in z pages page) && eqb (tile_size_in z pages page) size) (size_at pages page) i in tests) ∙ count_pages_none
+  counted_none = ap count_pages (let tests : begins_below z pages size 0 ≡ (λ page. false) = λ i page. none
+      (begins_at page (tile_in z pages page) && eqb (tile_size_in z pages page) size) (size_at pages page) i in tests)
+      ∙ count_pages_none
     where
       none : (b : Bool) (s : ℕ) → (b && ltb s 0) ≡ false
       none true s = grind (arith, nat_tests)
       none false s = refl
 
   pub counted_all : counted_below z pages size 4 ≡ tile_count_in z pages size
-  counted_all = ap count_pages (let tests : begins_below z pages size 4 ≡ (λ page. begins_at page (tile_in z pages page) && eqb (tile_size_in z pages page) size) = λ i page. all (begins_at page (tile_in z pages page) && eqb (tile_size_in z pages page) size) (size_at pages page) (size_small pages page) i in tests)
+  counted_all = ap count_pages (let tests : begins_below z pages size 4 ≡
+      (λ page. begins_at page (tile_in z pages page) && eqb (tile_size_in z pages page) size) =
+      λ i page. all (begins_at page (tile_in z pages page) && eqb (tile_size_in z pages page) size) (size_at pages page)
+      (size_small pages page) i in tests)
     where
       all : (b : Bool) (s : ℕ) → s ≤ 3 → (b && ltb s 4) ≡ b
       all true s low = grind (arith, nat_tests)
@@ -277,7 +309,10 @@ pub parts_more : (z : SizeSet) (pages : ℕ → Option Mapping) (whole : List �
     → whole ≡ tiles_of_size pages 0 ∷ tiles_of_size pages 1 ∷ tiles_of_size pages 2 ∷ tiles_of_size pages 3 ∷ []
     → counted_below z pages size (level + 1) ≡ counted_below z pages size level + wide / narrow * slice_index whole level
 parts_more z pages whole level size wide narrow low own long short is =
-    let parts : wide / narrow ≡ 8 ^ (level - size) = ap (λ n. n / narrow) long ∙ ap (λ n. 8 ^ level / n) short ∙ eight_quotient size level (omega (arith, own, within_at_most z level)) in
-    let there : slice_index whole level ≡ tiles_of_size pages level = ap (λ l. slice_index l level) is ∙ count_there (tiles_of_size pages) level low in
+    let parts : wide / narrow ≡ 8 ^ (level - size) = ap (λ n. n / narrow) long ∙ ap (λ n. 8 ^ level / n) short
+    ∙ eight_quotient size level (omega (arith, own, within_at_most z level)) in
+    let there : slice_index whole level ≡ tiles_of_size pages level = ap (λ l. slice_index l level) is
+    ∙ count_there (tiles_of_size pages) level low in
     counted_more z pages size level (omega (arith, low)) (sym own)
-    ∙ sym (ap (λ n. counted_below z pages size level + n) (ap (λ n. n * slice_index whole level) parts ∙ ap (λ n. 8 ^ (level - size) * n) there))
+    ∙ sym (ap (λ n. counted_below z pages size level + n) (ap (λ n. n * slice_index whole level) parts
+    ∙ ap (λ n. 8 ^ (level - size) * n) there))

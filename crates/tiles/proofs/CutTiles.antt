@@ -35,7 +35,8 @@ module _ (z : SizeSet) (pages : ℕ → Option Mapping) (page : ℕ) where
   passed_to size zero le fails = let same : 0 ≡ size = omega arith in ap among same
   passed_to size (suc k) le fails = elim (cases_eq (suc k) size) [
     | inl same ↦ ap among same
-    | inr other ↦ passed k (fails (suc k) (omega arith) (omega arith)) ∙ passed_to size k (omega arith) (λ j more low. fails j more (omega arith))
+    | inr other ↦ passed k (fails (suc k) (omega arith) (omega arith))
+        ∙ passed_to size k (omega arith) (λ j more low. fails j more (omega arith))
   ]
 
   -- where all sizes up to one are eligible, the largest of them is chosen
@@ -57,7 +58,8 @@ module _ (z : SizeSet) (pages : ℕ → Option Mapping) (page : ℕ) where
       let part = smaller pages k size page le low has in
       let first = extent_start k page in
       let joined : first / 8 ^ size ≡ page / 8 ^ size = coarser k size first page le low (first_of_extent k page) in
-      let head : part.head ≡ moved_by (first - extent_start size page) has.head = same_Some _ _ (sym part.begins ∙ page_in pages size page first has low joined) in
+      let head : part.head ≡ moved_by (first - extent_start size page) has.head =
+      same_Some _ _ (sym part.begins ∙ page_in pages size page first has low joined) in
       eligible_is pages k page part ∙ ap (λ m. Some (tile_with k first m)) head
 
   -- the law
@@ -75,7 +77,8 @@ module _ (z : SizeSet) (pages : ℕ → Option Mapping) (page : ℕ) where
 
 -- ---- so the tiles by some sizes are these parts
 
-whole_of : (z : SizeSet) (page : ℕ) (o : Option Tile) (t : Tile) → option_map (cut_to z page) o ≡ Some t → (u : Tile) × (o ≡ Some u) × (cut_to z page u ≡ t)
+whole_of : (z : SizeSet) (page : ℕ) (o : Option Tile) (t : Tile) → option_map (cut_to z page) o ≡ Some t
+    → (u : Tile) × (o ≡ Some u) × (cut_to z page u ≡ t)
 whole_of z page None t is = absurd (none-some t is)
 whole_of z page (Some u) t is = (u, refl, same_Some (cut_to z page u) t is)
 
@@ -93,10 +96,18 @@ tile_of_part z pages t part =
     let n = size_within z k in
     let first = extent_start n part.page in
     let begins : first ≡ t.extent.first = ap (λ (v : Tile). v.extent.first) part.is in
-    let joined : first / 8 ^ k ≡ part.page / 8 ^ k = coarser n k first part.page (within_at_most z k) part.tile.extent.0 (first_of_extent n part.page) in
+    let joined : first / 8 ^ k ≡ part.page / 8 ^ k = coarser n k first part.page (within_at_most z k) part.tile.extent.0
+    (first_of_extent n part.page) in
     let tile : tile_of pages first ≡ Some u = largest_tile pages first u part.tile (ap (λ q. q * 8 ^ k) joined ∙ part.has) in
     let own : extent_start n first ≡ first = ap (λ q. q * 8 ^ n) (first_of_extent n part.page) in
-    let same : part_round n first u ≡ part_round n part.page u = ap (λ (m : ℕ). let v : Tile = record { extent = record { size = n; first = m }; frame = u.frame + (m - u.extent.first); rights = u.rights; dirty = u.dirty } in v) own in
+    let same : part_round n first u ≡ part_round n part.page u = ap
+    (λ (m : ℕ). let v : Tile = record {
+      extent = record { size = n; first = m };
+      frame = u.frame + (m - u.extent.first);
+      rights = u.rights;
+      dirty = u.dirty;
+    } in
+    v) own in
     ap (tile_in z pages) (sym begins) ∙ tile_in-cut z pages first ∙ ap (option_map (cut_to z first)) tile ∙ ap Some (same ∙ part.is)
 
 pub part_is_tile : (z : SizeSet) (pages : ℕ → Option Mapping) (t : Tile) → IsPart z pages t → is_tile_in z pages t ≡ true

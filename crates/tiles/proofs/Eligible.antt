@@ -38,7 +38,8 @@ mapping_one m (Some n) h =
 
 mapping_same : (m : Mapping) → is_mapping m (Some m) ≡ true
 mapping_same m =
-    and_from _ _ (and_from _ _ (eq-eqb m.frame m.frame refl) (eq-eqb m.region m.region refl)) (and_from _ _ (same_rights-refl m.rights) (same_flag-refl m.dirty))
+    and_from _ _ (and_from _ _ (eq-eqb m.frame m.frame refl) (eq-eqb m.region m.region refl))
+    (and_from _ _ (same_rights-refl m.rights) (same_flag-refl m.dirty))
 
 -- ---- an eligible extent round a page
 
@@ -51,7 +52,8 @@ eligible_whole : (pages : ℕ → Option Mapping) (k first : ℕ) (m : Mapping) 
 eligible_whole pages k first m h = record {
   aligned = eqb-true _ _ (and_parts _ _ h).0;
   uniform = λ i low.
-      let all = (list_all-range (λ i. is_mapping (moved_by i m) (pages (first + i))) 0 (8 ^ k)).0 (and_parts (eqb (m.frame % 8 ^ k) 0) _ h).1 in
+      let all = (list_all-range (λ i. is_mapping (moved_by i m) (pages (first + i))) 0 (8 ^ k)).0
+      (and_parts (eqb (m.frame % 8 ^ k) 0) _ h).1 in
       mapping_one (moved_by i m) (pages (first + i)) (all i (omega arith) (omega arith));
 }
 
@@ -71,12 +73,14 @@ pub eligible_is : (pages : ℕ → Option Mapping) (k page : ℕ) (h : HasExtent
     → eligible_at pages k page ≡ Some (tile_with k (extent_start k page) h.head)
 eligible_is pages k page h =
     ap (eligible_with pages k (extent_start k page)) h.begins
-    ∙ ap (λ (b : Bool). cond b (Some (tile_with k (extent_start k page) h.head)) None) (whole_eligible pages k (extent_start k page) h.head h.is)
+    ∙ ap (λ (b : Bool). cond b (Some (tile_with k (extent_start k page) h.head)) None)
+    (whole_eligible pages k (extent_start k page) h.head h.is)
 
 has_with : (pages : ℕ → Option Mapping) (k first : ℕ) (o : Option Mapping) (t : Tile) → eligible_with pages k first o ≡ Some t
     → (m : Mapping) × (o ≡ Some m) × IsWhole pages k first m
 has_with pages k first None t h = absurd (none-some t h)
-has_with pages k first (Some m) t h = (m, refl, eligible_whole pages k first m (cond_some (is_eligible pages k first m) (tile_with k first m) t h).0)
+has_with pages k first (Some m) t h =
+    (m, refl, eligible_whole pages k first m (cond_some (is_eligible pages k first m) (tile_with k first m) t h).0)
 
 pub eligible_has : (pages : ℕ → Option Mapping) (k page : ℕ) (t : Tile) → eligible_at pages k page ≡ Some t → HasExtent pages k page
 eligible_has pages k page t h =
@@ -113,7 +117,9 @@ page_in pages k page other h low same =
     ap pages (sym e) ∙ h.is.uniform (other - extent_start k page) (omega (arith, at))
 
 moved_twice : (by i n : ℕ) (m : Mapping) → by + i ≡ n → moved_by n m ≡ moved_by i (moved_by by m)
-moved_twice by i n m e = ap (λ f. record { frame = f; region = m.region; rights = m.rights; dirty = m.dirty }) {x = m.frame + n} {y = m.frame + by + i} (omega arith)
+moved_twice by i n m e = ap
+    (λ f. record { frame = f; region = m.region; rights = m.rights; dirty = m.dirty }) {x = m.frame + n} {y = m.frame + by + i}
+    (omega arith)
 
 -- ---- smaller and larger extents
 
@@ -149,7 +155,9 @@ page_whole pages page m at = record {
   begins = ap pages {x = extent_start 0 page} {y = page} (omega arith) ∙ at;
   is = record {
     aligned = omega arith;
-    uniform = λ i within. ap pages {x = extent_start 0 page + i} {y = page} (omega arith) ∙ at ∙ ap (λ f. Some (record { frame = f; region = m.region; rights = m.rights; dirty = m.dirty })) {x = m.frame} {y = m.frame + i} (omega arith);
+    uniform = λ i within. ap pages {x = extent_start 0 page + i} {y = page} (omega arith) ∙ at
+        ∙ ap (λ f. Some (record { frame = f; region = m.region; rights = m.rights; dirty = m.dirty })) {x = m.frame} {y = m.frame + i}
+        (omega arith);
   };
 }
 
@@ -161,10 +169,16 @@ local_one old new k page low same is =
     has_whole new k page (record {
       head = h.head;
       begins = sym (same (extent_start k page) (first_of_extent k page)) ∙ h.begins;
-      is = record { aligned = h.is.aligned; uniform = λ i within. sym (same (extent_start k page + i) (extent_of_frame (page / 8 ^ k) (8 ^ k) (extent_start k page + i) (omega arith) (omega arith))) ∙ h.is.uniform i within };
+      is = record {
+        aligned = h.is.aligned;
+        uniform = λ i within. sym
+            (same (extent_start k page + i) (extent_of_frame (page / 8 ^ k) (8 ^ k) (extent_start k page + i) (omega arith) (omega arith)))
+            ∙ h.is.uniform i within;
+      };
     })
 
 pub whole_local : (old new : ℕ → Option Mapping) (k page : ℕ) → k ≤ 3 → ((other : ℕ) → other / 8 ^ k ≡ page / 8 ^ k → old other ≡ new other)
     → whole old k page ≡ whole new k page
 whole_local old new k page low same =
-    both_ways (whole old k page) (whole new k page) (local_one old new k page low same) (local_one new old k page low (λ other at. sym (same other at)))
+    both_ways (whole old k page) (whole new k page) (local_one old new k page low same)
+    (local_one new old k page low (λ other at. sym (same other at)))

@@ -34,7 +34,8 @@ record SaysSo (m : Resident) (p : ℕ) (n : Mapping) : Type 0 where
   pub at : entry_at m p ≡ Some entry
   pub is : mapping_of entry p ≡ n
 
-says_so : (m : Resident) (p : ℕ) (n : Mapping) (o : Option Entry) → entry_at m p ≡ o → option_map (λ (e : Entry). mapping_of e p) o ≡ Some n → SaysSo m p n
+says_so : (m : Resident) (p : ℕ) (n : Mapping) (o : Option Entry) → entry_at m p ≡ o
+    → option_map (λ (e : Entry). mapping_of e p) o ≡ Some n → SaysSo m p n
 says_so m p n None at is = absurd (none-some n is)
 says_so m p n (Some entry) at is = record { entry = entry; at = at; is = same_Some (mapping_of entry p) n is }
 
@@ -52,20 +53,24 @@ unmapped m p none = of (entry_at m p) refl
 -- ---- the entry of a page is its tile
 
 not_moved : (n : Mapping) → moved_by 0 n ≡ n
-not_moved n = ap (λ f. record { frame = f; region = n.region; rights = n.rights; dirty = n.dirty }) {x = n.frame + 0} {y = n.frame} (omega arith)
+not_moved n = ap (λ f. record { frame = f; region = n.region; rights = n.rights; dirty = n.dirty }) {x = n.frame + 0} {y = n.frame}
+    (omega arith)
 
 module _ (m : Resident) (entries : AreEntries m) where
   -- it is the entry of each page of its extent
-  pub same_entry : (p q : ℕ) (entry : Entry) → entry_at m p ≡ Some entry → q / 8 ^ entry.extent.size ≡ p / 8 ^ entry.extent.size → entry_at m q ≡ Some entry
+  pub same_entry : (p q : ℕ) (entry : Entry) → entry_at m p ≡ Some entry → q / 8 ^ entry.extent.size ≡ p / 8 ^ entry.extent.size
+      → entry_at m q ≡ Some entry
   same_entry p q entry at same =
       let begins : p / 8 ^ entry.extent.size ≡ entry.extent.first / 8 ^ entry.extent.size =
       sym (first_of_extent entry.extent.size p) ∙ ap (λ n. n / 8 ^ entry.extent.size) (first_is m p entry entries at) in
       entries.one p q entry at (eq-eqb _ _ (same ∙ begins))
 
-  entry_uniform : (p : ℕ) (entry : Entry) (i : ℕ) → entry_at m p ≡ Some entry → i < 8 ^ entry.extent.size → mapping_at m (extent_start entry.extent.size p + i) ≡ Some (moved_by i entry.mapping)
+  entry_uniform : (p : ℕ) (entry : Entry) (i : ℕ) → entry_at m p ≡ Some entry → i < 8 ^ entry.extent.size
+      → mapping_at m (extent_start entry.extent.size p + i) ≡ Some (moved_by i entry.mapping)
   entry_uniform p entry i at within =
       let q = extent_start entry.extent.size p + i in
-      let same : q / 8 ^ entry.extent.size ≡ p / 8 ^ entry.extent.size = extent_of_frame (p / 8 ^ entry.extent.size) (8 ^ entry.extent.size) q (omega arith) (omega arith) in
+      let same : q / 8 ^ entry.extent.size ≡ p / 8 ^ entry.extent.size =
+      extent_of_frame (p / 8 ^ entry.extent.size) (8 ^ entry.extent.size) q (omega arith) (omega arith) in
       let by : q - entry.extent.first ≡ i = omega (arith, first_is m p entry entries at) in
       entry_says m q entry (same_entry p q entry at same) ∙ ap (λ n. Some (moved_by n entry.mapping)) by
 
@@ -81,7 +86,11 @@ module _ (m : Resident) (entries : AreEntries m) where
   -- its extent is eligible
   pub entry_has : AreAligned m → (p : ℕ) (entry : Entry) → entry_at m p ≡ Some entry → HasExtent (mapping_at m) entry.extent.size p
   entry_has aligned p entry at =
-      record { head = entry.mapping; begins = entry_begins p entry at; is = record { aligned = aligned p entry at; uniform = λ i within. entry_uniform p entry i at within } }
+      record {
+        head = entry.mapping;
+        begins = entry_begins p entry at;
+        is = record { aligned = aligned p entry at; uniform = λ i within. entry_uniform p entry i at within };
+      }
 
 pub tile_is : (m : Resident) → AreTiles m → (p : ℕ) → tile_of (mapping_at m) p ≡ option_map tile_of_entry (entry_at m p)
 tile_is m tiles p = of (entry_at m p) refl
@@ -90,9 +99,12 @@ tile_is m tiles p = of (entry_at m p) refl
     of None at = tile_absent (mapping_at m) p (none_says m p at) ∙ ap (option_map tile_of_entry) (sym at)
     of (Some entry) at =
         let has = entry_has m tiles.entries tiles.aligned p entry at in
-        let size = size_is (mapping_at m) p entry.extent.size (tiles.entries.low p entry at) (λ _. has_whole (mapping_at m) entry.extent.size p has) (λ k more small. tiles.largest p k entry at more small) in
-        let tile = subst (λ (k : ℕ). HasTile (mapping_at m) p k) size (resident_tile (mapping_at m) p (mapping_of entry p) (entry_says m p entry at)) in
-        let head : tile.has.head ≡ entry.mapping = same_Some tile.has.head entry.mapping (sym tile.has.begins ∙ entry_begins m tiles.entries p entry at) in
+        let size = size_is (mapping_at m) p entry.extent.size (tiles.entries.low p entry at)
+        (λ _. has_whole (mapping_at m) entry.extent.size p has) (λ k more small. tiles.largest p k entry at more small) in
+        let tile = subst (λ (k : ℕ). HasTile (mapping_at m) p k) size
+        (resident_tile (mapping_at m) p (mapping_of entry p) (entry_says m p entry at)) in
+        let head : tile.has.head ≡ entry.mapping = same_Some tile.has.head entry.mapping
+        (sym tile.has.begins ∙ entry_begins m tiles.entries p entry at) in
         tile.is
         ∙ ap (λ (n : Mapping). Some (tile_with entry.extent.size (extent_start entry.extent.size p) n)) head
         ∙ ap (λ n. Some (tile_with entry.extent.size n entry.mapping)) (first_is m p entry tiles.entries at)
@@ -104,19 +116,26 @@ pub alike_all : (m : Resident) → MapsAlike m m
 alike_all m = record { frames = refl; count = refl; at = λ p. refl }
 
 pub alike_on : (l m n : Resident) → MapsAlike l m → MapsAlike m n → MapsAlike l n
-alike_on l m n first second = record { frames = second.frames ∙ first.frames; count = second.count ∙ first.count; at = λ p. second.at p ∙ first.at p }
+alike_on l m n first second =
+    record { frames = second.frames ∙ first.frames; count = second.count ∙ first.count; at = λ p. second.at p ∙ first.at p }
 
 -- ---- the entries that a change leaves are tiles
 
 pub tiles_but : (m : Resident) (page from : ℕ) → AreTiles m → AreTilesBut m page from
 tiles_but m page from tiles =
-    record { entries = tiles.entries; aligned = tiles.aligned; largest = λ p size entry at more small _. tiles.largest p size entry at more small }
+    record {
+      entries = tiles.entries;
+      aligned = tiles.aligned;
+      largest = λ p size entry at more small _. tiles.largest p size entry at more small;
+    }
 
 -- those round the page that were left out aren't eligible
-settled : (m : Resident) (page from : ℕ) → AreTilesBut m page from → ((size : ℕ) → from ≤ size → size ≤ 3 → whole (mapping_at m) size page ≡ false) → AreTiles m
+settled : (m : Resident) (page from : ℕ) → AreTilesBut m page from → ((size : ℕ) → from ≤ size → size ≤ 3
+    → whole (mapping_at m) size page ≡ false) → AreTiles m
 settled m page from tiles none = record { entries = tiles.entries; aligned = tiles.aligned; largest = largest }
   where
-    largest : (p size : ℕ) (entry : Entry) → entry_at m p ≡ Some entry → entry.extent.size < size → size ≤ 3 → whole (mapping_at m) size p ≡ false
+    largest : (p size : ℕ) (entry : Entry) → entry_at m p ≡ Some entry → entry.extent.size < size → size ≤ 3
+        → whole (mapping_at m) size p ≡ false
     largest p size entry at more small = elim (cases_eq (p / 8 ^ size) (page / 8 ^ size)) [
       | inr apart ↦ tiles.largest p size entry at more small (λ same. absurd (apart same))
       | inl same ↦ elim (cases_lt size from) [
@@ -134,7 +153,8 @@ unmapped_whole pages page size small none = elim (cases_Bool (whole pages size p
 
 -- An extent that has a page gets other entries.
 module _ (m n : Resident) (extent : Extent) (given : ℕ → Option Entry) (maps : Maps extent given m n) where
-  says_given : (p : ℕ) → p / 8 ^ extent.size ≡ extent.first / 8 ^ extent.size → mapping_at n p ≡ option_map (λ (e : Entry). mapping_of e p) (given p)
+  says_given : (p : ℕ) → p / 8 ^ extent.size ≡ extent.first / 8 ^ extent.size
+      → mapping_at n p ≡ option_map (λ (e : Entry). mapping_of e p) (given p)
   unfolding said_at
   says_given p same = ap (option_map (λ (e : Entry). mapping_of e p)) (maps_inside m n extent given p maps same)
 
@@ -143,8 +163,10 @@ module _ (m n : Resident) (extent : Extent) (given : ℕ → Option Entry) (maps
   says_same p apart = ap (option_map (λ (e : Entry). mapping_of e p)) (maps_outside m n extent given p maps apart)
 
   -- none of them lies in a larger eligible extent, but for those round the page
-  changed : (page before from : ℕ) → extent.first / 8 ^ extent.size ≡ page / 8 ^ extent.size → extent.size ≤ 3 → extent.size ≤ from → from ≤ suc extent.size → AreTilesBut m page before
-      → ((p : ℕ) (entry : Entry) → p / 8 ^ extent.size ≡ extent.first / 8 ^ extent.size → given p ≡ Some entry → (entry.mapping.frame % 8 ^ entry.extent.size ≡ 0) × (from ≤ suc entry.extent.size)) → AreTilesBut n page from
+  changed : (page before from : ℕ) → extent.first / 8 ^ extent.size ≡ page / 8 ^ extent.size → extent.size ≤ 3 → extent.size ≤ from
+      → from ≤ suc extent.size → AreTilesBut m page before
+      → ((p : ℕ) (entry : Entry) → p / 8 ^ extent.size ≡ extent.first / 8 ^ extent.size → given p ≡ Some entry
+      → (entry.mapping.frame % 8 ^ entry.extent.size ≡ 0) × (from ≤ suc entry.extent.size)) → AreTilesBut n page from
   changed page before from has low above most tiles each = record { entries = maps.entries; aligned = aligned; largest = largest }
     where
       aligned : AreAligned n
@@ -154,13 +176,15 @@ module _ (m n : Resident) (extent : Extent) (given : ℕ → Option Entry) (maps
       ]
 
       -- an extent that has none of the changed pages
-      outside : (p size : ℕ) → size ≤ 3 → (p / 8 ^ extent.size ≢ extent.first / 8 ^ extent.size) → (p / 8 ^ size ≢ page / 8 ^ size) → (q : ℕ) → q / 8 ^ size ≡ p / 8 ^ size → mapping_at n q ≡ mapping_at m q
+      outside : (p size : ℕ) → size ≤ 3 → (p / 8 ^ extent.size ≢ extent.first / 8 ^ extent.size) → (p / 8 ^ size ≢ page / 8 ^ size)
+          → (q : ℕ) → q / 8 ^ size ≡ p / 8 ^ size → mapping_at n q ≡ mapping_at m q
       outside p size small apart away q same = says_same q (λ here. elim (cases_lt size extent.size) [
         | inl less ↦ apart (sym (coarser size extent.size q p (omega arith) low same) ∙ here)
         | inr more ↦ away (sym same ∙ coarser extent.size size q page more small (here ∙ has))
       ])
 
-      largest : (p size : ℕ) (entry : Entry) → entry_at n p ≡ Some entry → entry.extent.size < size → size ≤ 3 → (p / 8 ^ size ≡ page / 8 ^ size → size < from) → whole (mapping_at n) size p ≡ false
+      largest : (p size : ℕ) (entry : Entry) → entry_at n p ≡ Some entry → entry.extent.size < size → size ≤ 3
+          → (p / 8 ^ size ≡ page / 8 ^ size → size < from) → whole (mapping_at n) size p ≡ false
       largest p size entry at more small but = elim (cases_eq (p / 8 ^ extent.size) (extent.first / 8 ^ extent.size)) [
         | inl here ↦
             let from_on = (each p entry here (sym (maps_inside m n extent given p maps here) ∙ at)).1 in
@@ -175,30 +199,37 @@ module _ (m n : Resident) (extent : Extent) (given : ℕ → Option Entry) (maps
       ]
 
 -- The extent round a page gets one entry.
-one_entry : (m n : Resident) (entry : Entry) (page before : ℕ) → entry.extent.first / 8 ^ entry.extent.size ≡ page / 8 ^ entry.extent.size → entry.extent.size ≤ 3 → entry.mapping.frame % 8 ^ entry.extent.size ≡ 0
+one_entry : (m n : Resident) (entry : Entry) (page before : ℕ) → entry.extent.first / 8 ^ entry.extent.size ≡ page / 8 ^ entry.extent.size
+    → entry.extent.size ≤ 3 → entry.mapping.frame % 8 ^ entry.extent.size ≡ 0
     → AreTilesBut m page before → Maps entry.extent (λ _. Some entry) m n → AreTilesBut n page (suc entry.extent.size)
 one_entry m n entry page before has low aligned tiles maps =
     changed m n entry.extent (λ _. Some entry) maps page before (suc entry.extent.size) has low (omega arith) (omega arith) tiles
-    (λ p e _ is. let same = same_Some entry e is in subst (λ (x : Entry). (x.mapping.frame % 8 ^ x.extent.size ≡ 0) × (suc entry.extent.size ≤ suc x.extent.size)) same (aligned, omega arith))
+    (λ p e _ is. let same = same_Some entry e is in subst (λ (x : Entry). (x.mapping.frame % 8 ^ x.extent.size ≡ 0)
+    × (suc entry.extent.size ≤ suc x.extent.size)) same (aligned, omega arith))
 
 -- ---- an entry of one page goes
 
-pub base_first : (m : Resident) (page : ℕ) (entry : Entry) → AreEntries m → entry_at m page ≡ Some entry → entry.extent.size ≡ 0 → entry.extent.first ≡ page
+pub base_first : (m : Resident) (page : ℕ) (entry : Entry) → AreEntries m → entry_at m page ≡ Some entry → entry.extent.size ≡ 0
+    → entry.extent.first ≡ page
 base_first m page entry entries at base =
     let begins : extent_start 0 page ≡ page = omega arith in
     sym (first_is m page entry entries at) ∙ (ap (λ s. extent_start s page) base ∙ begins)
 
-pub removed_tiles : (m n : Resident) (entry : Entry) (page before : ℕ) → entry_at m page ≡ Some entry → entry.extent.size ≡ 0 → AreTilesBut m page before → Maps entry.extent (λ _. None) m n → AreTiles n
+pub removed_tiles : (m n : Resident) (entry : Entry) (page before : ℕ) → entry_at m page ≡ Some entry → entry.extent.size ≡ 0
+    → AreTilesBut m page before → Maps entry.extent (λ _. None) m n → AreTiles n
 removed_tiles m n entry page before there base tiles maps =
-    let first : entry.extent.first / 8 ^ entry.extent.size ≡ page / 8 ^ entry.extent.size = ap (λ p. p / 8 ^ entry.extent.size) (base_first m page entry tiles.entries there base) in
+    let first : entry.extent.first / 8 ^ entry.extent.size ≡ page / 8 ^ entry.extent.size =
+    ap (λ p. p / 8 ^ entry.extent.size) (base_first m page entry tiles.entries there base) in
     settled n page 0
-    (changed m n entry.extent (λ _. None) maps page before 0 first (omega arith) (omega arith) (omega arith) tiles (λ p e _ is. absurd (none-some e is)))
+    (changed m n entry.extent (λ _. None) maps page before 0 first (omega arith) (omega arith) (omega arith) tiles
+    (λ p e _ is. absurd (none-some e is)))
     (λ size _ small. unmapped_whole (mapping_at n) page size small (says_given m n entry.extent (λ _. None) maps page (sym first)))
 
 -- ---- an entry breaks into its parts
 
 -- a part's frames are an extent
-part_aligned : (k p first frame : ℕ) → suc k ≤ 3 → extent_start (suc k) p ≡ first → frame % 8 ^ suc k ≡ 0 → (frame + (extent_start k p - first)) % 8 ^ k ≡ 0
+part_aligned : (k p first frame : ℕ) → suc k ≤ 3 → extent_start (suc k) p ≡ first → frame % 8 ^ suc k ≡ 0
+    → (frame + (extent_start k p - first)) % 8 ^ k ≡ 0
 part_aligned k p first frame low starts aligned =
     subst (λ x. (frame + (extent_start k p - x)) % 8 ^ k ≡ 0) starts ((lies_in k p low).aligned frame aligned)
 
@@ -209,11 +240,13 @@ module _ (m n : Resident) (entry : Entry) (page : ℕ) (entries : AreEntries m) 
   first_of_page : entry.extent.first / 8 ^ entry.extent.size ≡ page / 8 ^ entry.extent.size
   first_of_page = ap (λ q. q / 8 ^ entry.extent.size) (sym (first_is m page entry entries there)) ∙ first_of_extent entry.extent.size page
 
-  part_here : AreAligned m → (p : ℕ) → p / 8 ^ entry.extent.size ≡ entry.extent.first / 8 ^ entry.extent.size → (part_of entry p).mapping.frame % 8 ^ (part_of entry p).extent.size ≡ 0
+  part_here : AreAligned m → (p : ℕ) → p / 8 ^ entry.extent.size ≡ entry.extent.first / 8 ^ entry.extent.size
+      → (part_of entry p).mapping.frame % 8 ^ (part_of entry p).extent.size ≡ 0
   part_here aligned p here =
       let k = entry.extent.size - 1 in
       let e : entry.extent.size ≡ suc k = omega arith in
-      part_aligned k p entry.extent.first entry.mapping.frame (omega (arith, entries.low page entry there)) (ap (λ s. extent_start s p) (sym e) ∙ first_is m p entry entries (entry_here p here))
+      part_aligned k p entry.extent.first entry.mapping.frame (omega (arith, entries.low page entry there))
+      (ap (λ s. extent_start s p) (sym e) ∙ first_is m p entry entries (entry_here p here))
       (ap (λ s. entry.mapping.frame % 8 ^ s) (sym e) ∙ aligned page entry there)
 
   pub split_there : entry_at n page ≡ Some (part_of entry page)
@@ -221,26 +254,35 @@ module _ (m n : Resident) (entry : Entry) (page : ℕ) (entries : AreEntries m) 
 
   pub split_tiles : AreTilesBut m page (suc entry.extent.size) → AreTilesBut n page (suc (entry.extent.size - 1))
   split_tiles tiles =
-      changed m n entry.extent (λ p. Some (part_of entry p)) maps page (suc entry.extent.size) (suc (entry.extent.size - 1)) first_of_page (entries.low page entry there) (omega arith) (omega arith) tiles
+      changed m n entry.extent (λ p. Some (part_of entry p)) maps page (suc entry.extent.size) (suc (entry.extent.size - 1)) first_of_page
+      (entries.low page entry there) (omega arith) (omega arith) tiles
       (λ p e here is.
       let same = same_Some (part_of entry p) e is in
-      subst (λ (x : Entry). (x.mapping.frame % 8 ^ x.extent.size ≡ 0) × (suc (entry.extent.size - 1) ≤ suc x.extent.size)) same (part_here tiles.aligned p here, omega arith))
+      subst (λ (x : Entry). (x.mapping.frame % 8 ^ x.extent.size ≡ 0) × (suc (entry.extent.size - 1) ≤ suc x.extent.size)) same
+      (part_here tiles.aligned p here, omega arith))
 
   -- a part's frames are among the entry's
   pub split_fits : (part_of entry page).mapping.frame + 8 ^ (entry.extent.size - 1) ≤ entry.mapping.frame + 8 ^ entry.extent.size
   split_fits =
       let k = entry.extent.size - 1 in
       let e : entry.extent.size ≡ suc k = omega arith in
-      let begins : extent_start (suc k) page ≡ entry.extent.first = ap (λ s. extent_start s page) (sym e) ∙ first_is m page entry entries there in
+      let begins : extent_start (suc k) page ≡ entry.extent.first = ap (λ s. extent_start s page) (sym e)
+      ∙ first_is m page entry entries there in
       omega (arith, (lies_in k page (omega (arith, entries.low page entry there))).within, ap (λ s. 8 ^ s) e, begins)
 
   pub split_alike : pages_in n ≡ pages_in m → MapsAlike m n
-  split_alike count = record { frames = maps.frames; count = count; at = split_mapping m n entry entries (entry_here entry.extent.first refl) maps }
+  split_alike count = record {
+    frames = maps.frames;
+    count = count;
+    at = split_mapping m n entry entries
+        (entry_here entry.extent.first refl) maps;
+  }
 
 -- ---- eight parts join
 
 pub round_is_extent : (extent : Extent) (size page : ℕ) → size ≤ 3 → extent ≡ extent_round size page → IsExtent extent.size extent.first
-round_is_extent extent size page low is = subst (λ (x : Extent). IsExtent x.size x.first) (sym is) (low, mul-mod_left (page / 8 ^ size) (8 ^ size))
+round_is_extent extent size page low is = subst (λ (x : Extent). IsExtent x.size x.first) (sym is)
+    (low, mul-mod_left (page / 8 ^ size) (8 ^ size))
 
 module _ (m n : Resident) (w : Entry) (page : ℕ) (round : w.extent ≡ extent_round w.extent.size page) (low : w.extent.size ≤ 3) (parts : AreParts w m) (maps : Maps w.extent (λ _. Some w) m n) where
   whole_page : w.extent.first / 8 ^ w.extent.size ≡ page / 8 ^ w.extent.size
@@ -259,41 +301,54 @@ module _ (m n : Resident) (w : Entry) (page : ℕ) (round : w.extent ≡ extent_
 
 module _ (m : Resident) (page k : ℕ) (entry : Entry) (low : suc k ≤ 3) (there : entry_at m page ≡ Some entry) (size : entry.extent.size ≡ k) (tiles : AreTilesBut m page (suc k)) where
   -- the entry of a page of an eligible extent of the next size has the size of the page's own
-  size_in_it : HasExtent (mapping_at m) (suc k) page → (p : ℕ) → p / 8 ^ suc k ≡ page / 8 ^ suc k → (e : Entry) → entry_at m p ≡ Some e → e.extent.size ≡ k
+  size_in_it : HasExtent (mapping_at m) (suc k) page → (p : ℕ) → p / 8 ^ suc k ≡ page / 8 ^ suc k → (e : Entry) → entry_at m p ≡ Some e
+      → e.extent.size ≡ k
   size_in_it has p here e at = elim (cases_lt e.extent.size k) [
     | inl less ↦
-        let passes = has_whole (mapping_at m) k p (smaller (mapping_at m) k (suc k) p (omega arith) low (whole_has (mapping_at m) (suc k) p (whole_alike (mapping_at m) (suc k) page p here ∙ has_whole (mapping_at m) (suc k) page has))) in
+        let passes = has_whole (mapping_at m) k p (smaller (mapping_at m) k (suc k) p (omega arith) low
+        (whole_has (mapping_at m) (suc k) p (whole_alike (mapping_at m) (suc k) page p here
+        ∙ has_whole (mapping_at m) (suc k) page has))) in
         let fails = tiles.largest p k e at less (omega arith) (λ _. omega arith) in
         absurd (false≢true (sym fails ∙ passes))
     | inr more ↦ elim (cases_lt k e.extent.size) [
       | inr most ↦ omega arith
       | inl above ↦
-          let also = same_entry m tiles.entries p page e at (sym (coarser (suc k) e.extent.size p page above (tiles.entries.low p e at) here)) in
+          let also = same_entry m tiles.entries p page e at
+          (sym (coarser (suc k) e.extent.size p page above (tiles.entries.low p e at) here)) in
           let same = same_Some e entry (sym also ∙ there) in
           absurd (omega (arith, ap (λ (x : Entry). x.extent.size) same))
     ]
   ]
 
-  part_at : (has : HasExtent (mapping_at m) (suc k) page) (p : ℕ) → p / 8 ^ suc k ≡ page / 8 ^ suc k → entry_at m p ≡ Some (part_of (entry_with (suc k) page has.head) p)
+  part_at : (has : HasExtent (mapping_at m) (suc k) page) (p : ℕ) → p / 8 ^ suc k ≡ page / 8 ^ suc k
+      → entry_at m p ≡ Some (part_of (entry_with (suc k) page has.head) p)
   part_at has p here =
       let so = mapped_by m p _ (page_in (mapping_at m) (suc k) page p has low here) in
       let e = so.entry in
       let is : e.extent.size ≡ k = size_in_it has p here e so.at in
-      let starts : extent_start k p / 8 ^ suc k ≡ page / 8 ^ suc k = coarser k (suc k) (extent_start k p) p (omega arith) low (first_of_extent k p) ∙ here in
-      let begins : mapping_at m (extent_start k p) ≡ Some e.mapping = subst (λ s. mapping_at m (extent_start s p) ≡ Some e.mapping) is (entry_begins m tiles.entries p e so.at) in
-      let head : e.mapping ≡ moved_by (extent_start k p - extent_start (suc k) page) has.head = same_Some e.mapping _ (sym begins ∙ page_in (mapping_at m) (suc k) page (extent_start k p) has low starts) in
+      let starts : extent_start k p / 8 ^ suc k ≡ page / 8 ^ suc k = coarser k (suc k) (extent_start k p) p (omega arith) low
+      (first_of_extent k p) ∙ here in
+      let begins : mapping_at m (extent_start k p) ≡ Some e.mapping =
+      subst (λ s. mapping_at m (extent_start s p) ≡ Some e.mapping) is (entry_begins m tiles.entries p e so.at) in
+      let head : e.mapping ≡ moved_by (extent_start k p - extent_start (suc k) page) has.head =
+      same_Some e.mapping _ (sym begins ∙ page_in (mapping_at m) (suc k) page (extent_start k p) has low starts) in
       let extent : e.extent ≡ extent_round k p = sym (tiles.entries.round p e so.at) ∙ ap (λ s. extent_round s p) is in
       so.at
       ∙ ap (λ (x : Extent). Some (record { extent = x; mapping = e.mapping })) extent
       ∙ ap (λ (x : Mapping). Some (record { extent = extent_round k p; mapping = x })) head
-      ∙ ap (λ s. Some (record { extent = extent_round s p; mapping = moved_by (extent_start s p - extent_start (suc k) page) has.head })) {x = k} {y = suc k - 1} (omega arith)
+      ∙ ap (λ s. Some (record {
+        extent = extent_round s p;
+        mapping = moved_by
+            (extent_start s p - extent_start (suc k) page) has.head;
+      })) {x = k} {y = suc k - 1} (omega arith)
 
   pub no_join : ((w : Entry) → w.extent ≡ extent_round (suc k) page → AreParts w m → ⊥) → AreTiles m
   no_join none = settled m page (suc k) tiles (λ size above small. elim (cases_Bool (whole (mapping_at m) size page)) [
     | inr fails ↦ fails
     | inl passes ↦
         let has = smaller (mapping_at m) (suc k) size page above small (whole_has (mapping_at m) size page passes) in
-        absurd (none (entry_with (suc k) page has.head) refl (record { aligned = has.is.aligned; at = λ p here. part_at has p (eqb-true _ _ here ∙ first_of_extent (suc k) page) }))
+        absurd (none (entry_with (suc k) page has.head) refl
+        (record { aligned = has.is.aligned; at = λ p here. part_at has p (eqb-true _ _ here ∙ first_of_extent (suc k) page) }))
   ])
 
 -- ---- an entry's extent, or a part of it, says another mapping
@@ -314,32 +369,40 @@ beside_page k page low = elim (cases_eq (page / 8 ^ k % 8) 0) [
   | inr later ↦ record { other = page - 8 ^ k; has = (below k low later).0; apart = (below k low later).1 }
 ]
   where
-    above : (k : ℕ) → suc k ≤ 3 → page / 8 ^ k % 8 ≡ 0 → ((page + 8 ^ k) / 8 ^ suc k ≡ page / 8 ^ suc k) × ((page + 8 ^ k) / 8 ^ k ≢ page / 8 ^ k)
+    above : (k : ℕ) → suc k ≤ 3 → page / 8 ^ k % 8 ≡ 0 → ((page + 8 ^ k) / 8 ^ suc k ≡ page / 8 ^ suc k)
+        × ((page + 8 ^ k) / 8 ^ k ≢ page / 8 ^ k)
     above zero l begins = (omega arith, omega arith)
     above (suc zero) l begins = (omega arith, omega arith)
     above (suc (suc zero)) l begins = (omega arith, omega arith)
     above (suc (suc (suc k))) l begins = absurd (omega arith)
 
-    below : (k : ℕ) → suc k ≤ 3 → page / 8 ^ k % 8 ≢ 0 → ((page - 8 ^ k) / 8 ^ suc k ≡ page / 8 ^ suc k) × ((page - 8 ^ k) / 8 ^ k ≢ page / 8 ^ k)
+    below : (k : ℕ) → suc k ≤ 3 → page / 8 ^ k % 8 ≢ 0 → ((page - 8 ^ k) / 8 ^ suc k ≡ page / 8 ^ suc k)
+        × ((page - 8 ^ k) / 8 ^ k ≢ page / 8 ^ k)
     below zero l later = (omega arith, omega arith)
     below (suc zero) l later = (omega arith, omega arith)
     below (suc (suc zero)) l later = (omega arith, omega arith)
     below (suc (suc (suc k))) l later = absurd (omega arith)
 
 -- the frame of an entry's aligned page is a multiple too
-frame_aligned : (m : Resident) (page : ℕ) (entry : Entry) (said : Mapping) → AreEntries m → AreAligned m → entry_at m page ≡ Some entry → page % 8 ^ entry.extent.size ≡ 0 → mapping_at m page ≡ Some said → said.frame % 8 ^ entry.extent.size ≡ 0
+frame_aligned : (m : Resident) (page : ℕ) (entry : Entry) (said : Mapping) → AreEntries m → AreAligned m → entry_at m page ≡ Some entry
+    → page % 8 ^ entry.extent.size ≡ 0 → mapping_at m page ≡ Some said → said.frame % 8 ^ entry.extent.size ≡ 0
 frame_aligned m page entry said entries aligned there first says =
-    let begins : mapping_at m page ≡ Some entry.mapping = ap (mapping_at m) (sym (page_begins entry.extent.size page (entries.low page entry there) first)) ∙ entry_begins m entries page entry there in
+    let begins : mapping_at m page ≡ Some entry.mapping = ap (mapping_at m)
+    (sym (page_begins entry.extent.size page (entries.low page entry there) first)) ∙ entry_begins m entries page entry there in
     let same = same_Some entry.mapping said (sym begins ∙ says) in
     ap (λ (x : Mapping). x.frame % 8 ^ entry.extent.size) (sym same) ∙ aligned page entry there
 
 -- the entry of a size that begins at a page gets another mapping in its frames
-pub set_tiles : (m n : Resident) (entry : Entry) (size page before : ℕ) (said mapping : Mapping) → entry_at m page ≡ Some entry → entry.extent.size ≡ size → page % 8 ^ size ≡ 0 → mapping_at m page ≡ Some said → mapping.frame ≡ said.frame → AreTilesBut m page before
+pub set_tiles : (m n : Resident) (entry : Entry) (size page before : ℕ) (said mapping : Mapping) → entry_at m page ≡ Some entry
+    → entry.extent.size ≡ size → page % 8 ^ size ≡ 0 → mapping_at m page ≡ Some said → mapping.frame ≡ said.frame
+    → AreTilesBut m page before
     → Maps (extent_round size page) (λ _. Some (entry_with size page mapping)) m n → AreTilesBut n page (suc size)
 set_tiles m n entry size page before said mapping there is first says frame tiles maps =
     let at_first : page % 8 ^ entry.extent.size ≡ 0 = ap (λ s. page % 8 ^ s) is ∙ first in
-    let aligned : said.frame % 8 ^ size ≡ 0 = ap (λ s. said.frame % 8 ^ s) (sym is) ∙ frame_aligned m page entry said tiles.entries tiles.aligned there at_first says in
-    one_entry m n (entry_with size page mapping) page before (first_of_extent size page) (omega (arith, is, tiles.entries.low page entry there)) (ap (λ f. f % 8 ^ size) frame ∙ aligned) tiles maps
+    let aligned : said.frame % 8 ^ size ≡ 0 = ap (λ s. said.frame % 8 ^ s) (sym is)
+    ∙ frame_aligned m page entry said tiles.entries tiles.aligned there at_first says in
+    one_entry m n (entry_with size page mapping) page before (first_of_extent size page)
+    (omega (arith, is, tiles.entries.low page entry there)) (ap (λ f. f % 8 ^ size) frame ∙ aligned) tiles maps
 
 -- The part of a size from a page on of a larger entry gets another mapping than it had.
 module _ (m n : Resident) (entry : Entry) (size page : ℕ) (mapping : Mapping) (entries : AreEntries m) (there : entry_at m page ≡ Some entry) (smaller_part : size < entry.extent.size) (frame : mapping.frame ≡ (mapping_of entry page).frame) (other : mapping ≢ mapping_of entry page) (says : (p : ℕ) → mapping_at n p ≡ (if p / 8 ^ size == page / 8 ^ size then Some (moved_by (p - page) mapping) else mapping_at m p)) where
@@ -351,13 +414,17 @@ module _ (m n : Resident) (entry : Entry) (size page : ℕ) (mapping : Mapping) 
       let beside = beside_page size page (omega (arith, low)) in
       let q = beside.other in
       let own : mapping_at n page ≡ Some mapping =
-      says page ∙ ap (λ b. if b then Some (moved_by (page - page) mapping) else mapping_at m page) (eq-eqb (page / 8 ^ size) (page / 8 ^ size) refl)
+      says page ∙ ap (λ b. if b then Some (moved_by (page - page) mapping) else mapping_at m page)
+      (eq-eqb (page / 8 ^ size) (page / 8 ^ size) refl)
       ∙ ap (λ i. Some (moved_by i mapping)) {x = page - page} {y = 0} (omega arith) ∙ ap Some (not_moved mapping) in
       let rest : mapping_at n q ≡ Some (mapping_of entry q) =
-      says q ∙ ap (λ b. if b then Some (moved_by (q - page) mapping) else mapping_at m q) (ne_eqb (q / 8 ^ size) (page / 8 ^ size) beside.apart)
-      ∙ entry_says m q entry (same_entry m entries page q entry there (coarser (suc size) entry.extent.size q page smaller_part low beside.has)) in
+      says q ∙ ap (λ b. if b then Some (moved_by (q - page) mapping) else mapping_at m q)
+      (ne_eqb (q / 8 ^ size) (page / 8 ^ size) beside.apart)
+      ∙ entry_says m q entry (same_entry m entries page q entry there
+      (coarser (suc size) entry.extent.size q page smaller_part low beside.has)) in
       let one = same_Some _ mapping (sym (page_in (mapping_at n) (suc size) page page has (omega (arith, low)) refl) ∙ own) in
-      let two = same_Some _ (mapping_of entry q) (sym (page_in (mapping_at n) (suc size) page q has (omega (arith, low)) beside.has) ∙ rest) in
+      let two = same_Some _ (mapping_of entry q) (sym (page_in (mapping_at n) (suc size) page q has (omega (arith, low)) beside.has)
+      ∙ rest) in
       other (same_mapping mapping (mapping_of entry page) frame
       (sym (ap (λ (x : Mapping). x.region) one) ∙ ap (λ (x : Mapping). x.region) two)
       (sym (ap (λ (x : Mapping). x.rights) one) ∙ ap (λ (x : Mapping). x.rights) two)
@@ -371,7 +438,8 @@ module _ (m n : Resident) (entry : Entry) (size page : ℕ) (mapping : Mapping) 
   ])
 
 -- what each page says afterwards, where the entries were broken down before
-pub set_says : (l m n : Resident) (size page : ℕ) (mapping : Mapping) → size ≤ 3 → page % 8 ^ size ≡ 0 → MapsAlike l m → Maps (extent_round size page) (λ _. Some (entry_with size page mapping)) m n
+pub set_says : (l m n : Resident) (size page : ℕ) (mapping : Mapping) → size ≤ 3 → page % 8 ^ size ≡ 0 → MapsAlike l m
+    → Maps (extent_round size page) (λ _. Some (entry_with size page mapping)) m n
     → (p : ℕ) → mapping_at n p ≡ (if p / 8 ^ size == page / 8 ^ size then Some (moved_by (p - page) mapping) else mapping_at l p)
 set_says l m n size page mapping low first before maps p =
     let begins = first_of_extent size page in
@@ -386,7 +454,8 @@ set_says l m n size page mapping low first before maps p =
     ]
 
 -- what each page says after a change of one
-pub one_says : (l m n : Resident) (extent : Extent) (page : ℕ) (given : Option Entry) (said : Option Mapping) → extent.size ≡ 0 → extent.first ≡ page → option_map (λ (e : Entry). mapping_of e page) given ≡ said → MapsAlike l m → Maps extent (λ _. given) m n
+pub one_says : (l m n : Resident) (extent : Extent) (page : ℕ) (given : Option Entry) (said : Option Mapping) → extent.size ≡ 0
+    → extent.first ≡ page → option_map (λ (e : Entry). mapping_of e page) given ≡ said → MapsAlike l m → Maps extent (λ _. given) m n
     → (p : ℕ) → mapping_at n p ≡ (if p == page then said else mapping_at l p)
 one_says l m n extent page given said size first is before maps p = elim (cases_eq p page) [
   | inl here ↦
@@ -402,15 +471,19 @@ one_says l m n extent page given said size first is before maps p = elim (cases_
     one_page p q k e same = let at : p / 8 ^ 0 ≡ q / 8 ^ 0 = subst (λ s. p / 8 ^ s ≡ q / 8 ^ s) e same in omega arith
 
 -- an entry of one page comes
-pub put_tiles : (m n : Resident) (size page : ℕ) (mapping : Mapping) → size ≡ 0 → AreTiles m → Maps (extent_round size page) (λ _. Some (entry_with size page mapping)) m n → AreTilesBut n page (suc size)
+pub put_tiles : (m n : Resident) (size page : ℕ) (mapping : Mapping) → size ≡ 0 → AreTiles m
+    → Maps (extent_round size page) (λ _. Some (entry_with size page mapping)) m n → AreTilesBut n page (suc size)
 put_tiles m n size page mapping base tiles maps =
     let aligned : mapping.frame % 8 ^ 0 ≡ 0 = omega arith in
-    one_entry m n (entry_with size page mapping) page 0 (first_of_extent size page) (omega arith) (ap (λ s. mapping.frame % 8 ^ s) base ∙ aligned) (tiles_but m page 0 tiles) maps
+    one_entry m n (entry_with size page mapping) page 0 (first_of_extent size page) (omega arith)
+    (ap (λ s. mapping.frame % 8 ^ s) base ∙ aligned) (tiles_but m page 0 tiles) maps
 
-pub put_says : (m n : Resident) (size page : ℕ) (mapping : Mapping) → size ≡ 0 → Maps (extent_round size page) (λ _. Some (entry_with size page mapping)) m n
+pub put_says : (m n : Resident) (size page : ℕ) (mapping : Mapping) → size ≡ 0
+    → Maps (extent_round size page) (λ _. Some (entry_with size page mapping)) m n
     → (p : ℕ) → mapping_at n p ≡ (if p == page then Some mapping else mapping_at m p)
 put_says m n size page mapping base maps =
     let whole_page : extent_start 0 page ≡ page = omega arith in
     let first : extent_start size page ≡ page = ap (λ s. extent_start s page) base ∙ whole_page in
     one_says m m n (extent_round size page) page (Some (entry_with size page mapping)) (Some mapping) base first
-    (ap (λ i. Some (moved_by i mapping)) {x = page - extent_start size page} {y = 0} (omega arith) ∙ ap Some (not_moved mapping)) (alike_all m) maps
+    (ap (λ i. Some (moved_by i mapping)) {x = page - extent_start size page} {y = 0} (omega arith) ∙ ap Some (not_moved mapping))
+    (alike_all m) maps

@@ -49,7 +49,8 @@ entry_fits r kept p e at =
     let last = e.extent.first + (8 ^ e.extent.size - 1) in
     let some = eight_pos e.extent.size in
     let said = says_within r entries p last e at (omega arith) (omega arith) in
-    let known : e.mapping.frame + (last - e.extent.first) < frames_in r = kept.known last (e.mapping.frame + (last - e.extent.first)) (frame_is r last (mapping_of e last) said) in
+    let known : e.mapping.frame + (last - e.extent.first) < frames_in r =
+    kept.known last (e.mapping.frame + (last - e.extent.first)) (frame_is r last (mapping_of e last) said) in
     record {
       low = entries.low p e at;
       in_space = entries.in_space p e at;
@@ -67,7 +68,8 @@ found_fits r kept p (Some e) at = entry_fits r kept p e (sym at)
 
 -- ---- the next entry
 
-pub next_tile : (r : Resident) → ArePages r → (from end : ℕ) (o : Option Entry) → IfSome o (IsNextEntry r from end) → IfSome o (IsNextTile r from end)
+pub next_tile : (r : Resident) → ArePages r → (from end : ℕ) (o : Option Entry) → IfSome o (IsNextEntry r from end)
+    → IfSome o (IsNextTile r from end)
 next_tile r kept from end None next = tt
 next_tile r kept from end (Some e) next =
     let page = max from e.extent.first in
@@ -78,7 +80,8 @@ next_tile r kept from end (Some e) next =
       lowest = λ p on before. none_says r p (next.lowest p on (omega arith));
     }
 
-pub no_next : (r : Resident) (from end : ℕ) (o : Option Entry) → IfNone o (NoneMapped r from end) → IfNone o (NoneResident (mapping_at r) from end)
+pub no_next : (r : Resident) (from end : ℕ) (o : Option Entry) → IfNone o (NoneMapped r from end)
+    → IfNone o (NoneResident (mapping_at r) from end)
 no_next r from end None none = λ p on before. none_says r p (none p on before)
 no_next r from end (Some e) none = tt
 
@@ -110,14 +113,17 @@ fresh_kept r empty few = record {
 -- ---- the tiles
 
 -- the tile of a page is its entry
-pub tile_there : (r : Resident) (p : ℕ) (e : Entry) (t : Tile) → AreTiles r → entry_at r p ≡ Some e → t ≡ tile_of_entry e → Some t ≡ tile_of (mapping_at r) p
+pub tile_there : (r : Resident) (p : ℕ) (e : Entry) (t : Tile) → AreTiles r → entry_at r p ≡ Some e → t ≡ tile_of_entry e
+    → Some t ≡ tile_of (mapping_at r) p
 tile_there r p e t tiles at is = ap Some is ∙ sym (tile_is r tiles p ∙ ap (option_map tile_of_entry) at)
 
 -- so there is one of each size for each entry of it
 pub counts_are : (r : Resident) → AreTiles r → (size : ℕ) → entry_count r size ≡ tiles_of_size (mapping_at r) size
-counts_are r tiles size = ap count_pages (let tests : (λ p. is_first_of size p (entry_at r p)) ≡ begins_tile (mapping_at r) size = λ i p. each p i in tests)
+counts_are r tiles size = ap count_pages (let tests : (λ p. is_first_of size p (entry_at r p)) ≡ begins_tile
+    (mapping_at r) size = λ i p. each p i in tests)
   where
-    of : (p : ℕ) (o : Option Entry) → is_first_of size p o ≡ (begins_at p (option_map tile_of_entry o) && eqb (size_in (option_map tile_of_entry o)) size)
+    of : (p : ℕ) (o : Option Entry) → is_first_of size p o ≡ (begins_at p (option_map tile_of_entry o) && eqb
+        (size_in (option_map tile_of_entry o)) size)
     of p None = refl
     of p (Some e) = refl
 
@@ -142,7 +148,8 @@ module _ (r : Resident) (kept : ArePages r) (page : ℕ) (given : Mapping) (abse
       sums : (a b c : Bool) → a ≡ false → b ≡ false → weight (a || c) ≡ weight b + weight (c && true)
       sums a b true unframed unmapped = omega (arith, ap (λ x. weight (x || true)) unframed, ap weight unmapped)
       sums a b false unframed unmapped = omega (arith, ap (λ x. weight (x || false)) unframed, ap weight unmapped)
-  one_more p (Some e) is = sums _ _ _ (has p e is) (ap is_some is) (ne_eqb p page (λ same. none-some e (sym absent ∙ ap (entry_at r) (sym same) ∙ is)))
+  one_more p (Some e) is = sums _ _ _ (has p e is) (ap is_some is) (ne_eqb p page
+      (λ same. none-some e (sym absent ∙ ap (entry_at r) (sym same) ∙ is)))
     where
       sums : (a b c : Bool) → a ≡ true → b ≡ true → c ≡ false → weight (a || c) ≡ weight b + weight (c && true)
       sums a b c framed mapped other = omega (arith, ap (λ x. weight (x || c)) framed, ap weight mapped, ap (λ x. weight (x && true)) other)
@@ -157,7 +164,8 @@ module _ (r : Resident) (kept : ArePages r) (page : ℕ) (given : Mapping) (abse
             arith,
             few_with (frame_of_page r) (frames_in r) page given.frame known (λ p _. others p) kept.known kept.apart many,
             count-is (λ p. is_some (frame_of_page r p) || eqb p page) 0 many,
-            count-sum (λ p. is_some (frame_of_page r p) || eqb p page) (λ p. is_some (entry_at r p)) (λ p. eqb p page && true) 0 many (λ p _ _. one_more p (entry_at r p) refl),
+            count-sum (λ p. is_some (frame_of_page r p) || eqb p page) (λ p. is_some (entry_at r p)) (λ p. eqb p page && true) 0 many
+                (λ p _ _. one_more p (entry_at r p) refl),
             pages_are r,
             count_pages-is (λ p. is_some (entry_at r p)) many e,
             count_pages-is (λ p. eqb p page && true) many e,
@@ -185,11 +193,13 @@ module _ (r : Resident) (kept : ArePages r) (page : ℕ) (given : Mapping) (abse
   }
     where
       there : (p : ℕ) → p ≢ page → frame_of_page s p ≡ frame_of_page r p
-      there p n = ap (option_map (λ (m : Mapping). m.frame)) (maps.at p ∙ ap (λ (b : Bool). if b then Some given else mapping_at r p) (ne_eqb p page n))
+      there p n = ap (option_map (λ (m : Mapping). m.frame)) (maps.at p
+          ∙ ap (λ (b : Bool). if b then Some given else mapping_at r p) (ne_eqb p page n))
 
       here : (p n : ℕ) → p ≡ page → frame_of_page s p ≡ Some n → n ≡ given.frame
       here p n e at =
-          let said = ap (option_map (λ (m : Mapping). m.frame)) (maps.at p ∙ ap (λ (b : Bool). if b then Some given else mapping_at r p) (eq-eqb p page e)) in
+          let said = ap (option_map (λ (m : Mapping). m.frame)) (maps.at p
+          ∙ ap (λ (b : Bool). if b then Some given else mapping_at r p) (eq-eqb p page e)) in
           sym (same_Some given.frame n (sym said ∙ at))
 
 -- ---- pages keep their frames, or give them up
@@ -208,15 +218,19 @@ remove_kept r s page kept tiles maps = keeps_frames r s kept tiles maps.frames h
   where
     had : (p n : ℕ) → frame_of_page s p ≡ Some n → frame_of_page r p ≡ Some n
     had p n at = elim (cases_eq p page) [
-      | inl e ↦ absurd (none-some n (sym (ap (option_map (λ (m : Mapping). m.frame)) (maps.at p ∙ ap (λ (b : Bool). if b then None else mapping_at r p) (eq-eqb p page e))) ∙ at))
-      | inr other ↦ sym (ap (option_map (λ (m : Mapping). m.frame)) (maps.at p ∙ ap (λ (b : Bool). if b then None else mapping_at r p) (ne_eqb p page other))) ∙ at
+      | inl e ↦ absurd (none-some n
+          (sym (ap (option_map (λ (m : Mapping). m.frame)) (maps.at p
+          ∙ ap (λ (b : Bool). if b then None else mapping_at r p) (eq-eqb p page e))) ∙ at))
+      | inr other ↦ sym (ap (option_map (λ (m : Mapping). m.frame)) (maps.at p
+          ∙ ap (λ (b : Bool). if b then None else mapping_at r p) (ne_eqb p page other))) ∙ at
     ]
 
 -- the pages of a part of an entry have another mapping in their frames
 pub set_kept : (r s : Resident) (size page : ℕ) (given : Mapping) (e : Entry) → ArePages r → entry_at r page ≡ Some e → size ≤ e.extent.size
     → page % 8 ^ size ≡ 0 → given.frame ≡ (mapping_of e page).frame
     → AreTiles s → MapsExtent size page given r s → ArePages s
-set_kept r s size page given e kept at small aligned frame tiles maps = keeps_frames r s kept tiles maps.frames (λ p n is. sym (same p) ∙ is)
+set_kept r s size page given e kept at small aligned frame tiles maps =
+    keeps_frames r s kept tiles maps.frames (λ p n is. sym (same p) ∙ is)
   where
     fits : FitsFrames r page e
     fits = entry_fits r kept page e at
@@ -227,8 +241,10 @@ set_kept r s size page given e kept at small aligned frame tiles maps = keeps_fr
           let from = of_extent size page p (omega (arith, small, fits.low)) aligned joined in
           let was = says r kept.tiles.entries page p e at (coarser size e.extent.size p page small fits.low joined) in
           let is = maps.at p ∙ ap (λ (b : Bool). if b then Some (moved_by (p - page) given) else mapping_at r p) (eq-eqb _ _ joined) in
-          frame_is s p (moved_by (p - page) given) is ∙ ap Some (omega (arith, frame, from, fits.from)) ∙ sym (frame_is r p (mapping_of e p) was)
-      | inr apart ↦ ap (option_map (λ (m : Mapping). m.frame)) (maps.at p ∙ ap (λ (b : Bool). if b then Some (moved_by (p - page) given) else mapping_at r p) (ne_eqb _ _ apart))
+          frame_is s p (moved_by (p - page) given) is ∙ ap Some (omega (arith, frame, from, fits.from))
+          ∙ sym (frame_is r p (mapping_of e p) was)
+      | inr apart ↦ ap (option_map (λ (m : Mapping). m.frame)) (maps.at p
+          ∙ ap (λ (b : Bool). if b then Some (moved_by (p - page) given) else mapping_at r p) (ne_eqb _ _ apart))
     ]
 
 -- the extent of one page
@@ -238,8 +254,10 @@ maps_page page given r s maps = record {
   at = λ p. elim (cases_eq p page) [
     | inl e ↦
         maps.at p
-        ∙ ap (λ (b : Bool). if b then Some (moved_by (p - page) given) else mapping_at r p) (eq-eqb (p / 8 ^ 0) (page / 8 ^ 0) (omega arith))
-        ∙ ap (λ (f : ℕ). Some (record { frame = f; region = given.region; rights = given.rights; dirty = given.dirty })) {x = given.frame + (p - page)} {y = given.frame} (omega arith)
+        ∙ ap (λ (b : Bool). if b then Some (moved_by (p - page) given) else mapping_at r p)
+        (eq-eqb (p / 8 ^ 0) (page / 8 ^ 0) (omega arith))
+        ∙ ap (λ (f : ℕ). Some (record { frame = f; region = given.region; rights = given.rights; dirty = given.dirty })) {x = given.frame +
+        (p - page)} {y = given.frame} (omega arith)
         ∙ sym (ap (λ (b : Bool). if b then Some given else mapping_at r p) (eq-eqb p page e))
     | inr n ↦
         let apart : p / 8 ^ 0 ≢ page / 8 ^ 0 = λ e. n (omega arith) in

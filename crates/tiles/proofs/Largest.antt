@@ -25,8 +25,20 @@ record HasNone (pages : ℕ → Option Mapping) (page top : ℕ) : Type 0 where
 
 largest : (pages : ℕ → Option Mapping) (page top : ℕ) → HasNone pages page top ⊎ ((k : ℕ) × IsLargest pages page top k)
 largest pages page zero = elim (cases_Bool (whole pages 0 page)) [
-  | inl passes ↦ inr (0, record { low = omega arith; has = whole_has pages 0 page passes; is = refl; larger = λ j above below. absurd (omega arith) })
-  | inr misses ↦ inl (record { is = whole_none pages 0 page misses; fails = λ j below. ap (λ i. whole pages i page) {x = j} {y = 0} (omega arith) ∙ misses })
+  | inl passes ↦ inr (
+    0,
+    record {
+      low = omega arith;
+      has = whole_has pages 0 page passes;
+      is = refl;
+      larger = λ j above below. absurd (omega arith);
+    },
+  )
+  | inr misses ↦ inl (record {
+    is = whole_none pages 0 page misses;
+    fails = λ j below. ap (λ i. whole pages i page) {x = j} {y = 0}
+        (omega arith) ∙ misses;
+  })
 ]
 largest pages page (suc top) = elim (cases_Bool (whole pages (suc top) page)) [
   | inl passes ↦
@@ -47,7 +59,11 @@ largest pages page (suc top) = elim (cases_Bool (whole pages (suc top) page)) [
       elim (largest pages page top) [
         | inl none ↦ inl (record {
           is = further ∙ none.is;
-          fails = λ j below. elim (cases_eq j (suc top)) [ inl at ↦ ap (λ i. whole pages i page) at ∙ misses | inr n ↦ none.fails j (omega arith) ];
+          fails = λ j below. elim (cases_eq j (suc top)) [
+            | inl at ↦ ap (λ i. whole pages i page) at ∙ misses
+            | inr n ↦
+                none.fails j (omega arith)
+          ];
         })
         | inr some ↦ inr (
           some.0,
@@ -55,7 +71,11 @@ largest pages page (suc top) = elim (cases_Bool (whole pages (suc top) page)) [
             low = omega (arith, some.1.low);
             has = some.1.has;
             is = further ∙ some.1.is;
-            larger = λ j above below. elim (cases_eq j (suc top)) [ inl at ↦ ap (λ i. whole pages i page) at ∙ misses | inr n ↦ some.1.larger j above (omega arith) ];
+            larger = λ j above below. elim (cases_eq j (suc top)) [
+              | inl at ↦ ap (λ i. whole pages i page) at ∙ misses
+              | inr n ↦
+                  some.1.larger j above (omega arith)
+            ];
           },
         )
       ]
@@ -81,9 +101,15 @@ absent_if pages page (Some m) at misses = let passes = has_whole pages 0 page (p
 
 pub tiles : (pages : ℕ → Option Mapping) (page : ℕ) → HasNoTile pages page ⊎ HasTile pages page (size_at pages page)
 tiles pages page = elim (largest pages page 3) [
-  | inl none ↦ inl (record { absent = absent_if pages page (pages page) refl (none.fails 0 (omega arith)); is = none.is; size = ap size_in none.is; fails = none.fails })
+  | inl none ↦ inl (record {
+    absent = absent_if pages page (pages page) refl (none.fails 0 (omega arith));
+    is = none.is;
+    size = ap size_in none.is;
+    fails = none.fails;
+  })
   | inr some ↦
-      let is : tile_of pages page ≡ Some (tile_with some.0 (extent_start some.0 page) some.1.has.head) = some.1.is ∙ eligible_is pages some.0 page some.1.has in
+      let is : tile_of pages page ≡ Some (tile_with some.0 (extent_start some.0 page) some.1.has.head) = some.1.is
+      ∙ eligible_is pages some.0 page some.1.has in
       let size : some.0 ≡ size_at pages page = sym (ap size_in is) in
       inr (subst (λ (k : ℕ). HasTile pages page k) size (record { low = some.1.low; has = some.1.has; is = is; larger = some.1.larger }))
 ]
@@ -132,7 +158,8 @@ size_is pages page n low passes misses =
     elim (cases_lt (size_at pages page) n) [
       | inl less ↦ absurd (true_false (passes (omega arith)) (whole_beyond pages page n less low))
       | inr from ↦ elim (cases_lt n (size_at pages page)) [
-        | inl more ↦ absurd (true_false (whole_within pages page (size_at pages page) (omega arith) (omega arith)) (misses (size_at pages page) more small))
+        | inl more ↦ absurd (true_false (whole_within pages page (size_at pages page) (omega arith) (omega arith))
+            (misses (size_at pages page) more small))
         | inr to ↦ omega arith
       ]
     ]
@@ -145,13 +172,20 @@ size_alike pages page other same =
     let low = size_small pages page in
     size_is pages other n low
     (λ positive. whole_alike pages n page other same ∙ whole_within pages page n positive (omega arith))
-    (λ k more small. whole_alike pages k page other (coarser n k other page (omega arith) small same) ∙ whole_beyond pages page k more small)
+    (λ k more small. whole_alike pages k page other (coarser n k other page (omega arith) small same)
+    ∙ whole_beyond pages page k more small)
 
 -- ---- the tile of a page by its own mapping
 
 -- the tile of this size of a page with this mapping
 abbrev pub tile_by : ℕ → ℕ → Mapping → Tile
-tile_by size page m = record { extent = record { size = size; first = page - page % 8 ^ size }; frame = m.frame - page % 8 ^ size; rights = m.rights; dirty = m.dirty }
+tile_by size page m =
+    record {
+      extent = record { size = size; first = page - page % 8 ^ size };
+      frame = m.frame - page % 8 ^ size;
+      rights = m.rights;
+      dirty = m.dirty;
+    }
 
 pub record IsTileBy (pages : ℕ → Option Mapping) (page size : ℕ) (m : Mapping) : Type 0 where
   pub is : tile_of pages page ≡ Some (tile_by size page m)
@@ -172,7 +206,8 @@ pub tile_by_own : (pages : ℕ → Option Mapping) (page : ℕ) (m : Mapping) �
 tile_by_own pages page m at =
     let k = size_at pages page in
     let tile = resident_tile pages page m at in
-    let by = by_head k page m tile.has.head (starts_below k page tile.low) (same_Some m _ (sym at ∙ page_in pages k page page tile.has tile.low refl)) in
+    let by = by_head k page m tile.has.head (starts_below k page tile.low)
+    (same_Some m _ (sym at ∙ page_in pages k page page tile.has tile.low refl)) in
     record { is = tile.is ∙ ap Some by.0; from_frame = by.1 }
 
 -- a page that isn't resident has no tile

@@ -40,7 +40,8 @@ pub record HasCommon (first len size page : ℕ) : Type 0 where
   pub joined : page_in_both / 8 ^ size ≡ page / 8 ^ size
   pub inside : in_range first len page_in_both ≡ true
 
-pub common_page : (first len size page : ℕ) → extent_start size page ≡ page → extent_meets first len size page ≡ true → HasCommon first len size page
+pub common_page : (first len size page : ℕ) → extent_start size page ≡ page → extent_meets first len size page ≡ true
+    → HasCommon first len size page
 common_page first len size page starts meets =
     let m = meets_if first len size page meets in
     elim (cases_lt page first) [
@@ -58,7 +59,12 @@ none_common first len size page starts apart p joined = elim (cases_Bool (in_ran
   | inl inside ↦
       let range = in_bounds first len p inside in
       let extent = range_of_extent (page / 8 ^ size) (8 ^ size) p (eight_pos size) joined in
-      let meets = if_meets first len size page (record { some = omega (arith, range); before_end = omega (arith, starts, range, extent); past_first = omega (arith, starts, range, extent) }) in
+      let meets = if_meets first len size page
+      (record {
+        some = omega (arith, range);
+        before_end = omega (arith, starts, range, extent);
+        past_first = omega (arith, starts, range, extent);
+      }) in
       absurd (true≢false (sym meets ∙ apart))
   | inr outside ↦ outside
 ]
@@ -80,7 +86,8 @@ large_is z pages page h =
 is_large : (z : SizeSet) (pages : ℕ → Option Mapping) (page : ℕ) → BeginsLarge z pages page → begins_large_in z pages page ≡ true
 is_large z pages page begins =
     let starts = starts_below (size_by z pages page) page (by_small z pages page) in
-    large_test z pages page ∙ and_from _ _ (lt-ltb 0 (size_by z pages page) begins.large) (eq-eqb _ _ (omega (arith, starts.first, starts.within, begins.starts)))
+    large_test z pages page ∙ and_from _ _ (lt-ltb 0 (size_by z pages page) begins.large)
+    (eq-eqb _ _ (omega (arith, starts.first, starts.within, begins.starts)))
 
 module _ (z : SizeSet) (pages : ℕ → Option Mapping) (first len : ℕ) (some : 0 < len) where
   -- the first page of the tile of the range's first page
@@ -92,17 +99,20 @@ module _ (z : SizeSet) (pages : ℕ → Option Mapping) (first len : ℕ) (some 
 
   -- a tile that begins before the range and meets it is the one of the range's first page
   module _ (q : ℕ) (before : q < first) where
-    crosses : begins_large_in z pages q ≡ true → extent_meets first len (tile_size_in z pages q) q ≡ true → (q ≡ start) × (begins_before_in z pages first ≡ true)
+    crosses : begins_large_in z pages q ≡ true → extent_meets first len (tile_size_in z pages q) q ≡ true
+        → (q ≡ start) × (begins_before_in z pages first ≡ true)
     crosses begins meets =
         let k = size_by z pages q in
         let is = large_is z pages q begins in
         let m = meets_if first len k q (ap (λ n. extent_meets first len n q) (sym (tile_size z pages q)) ∙ meets) in
-        let joined : first / 8 ^ k ≡ q / 8 ^ k = extent_of_frame (q / 8 ^ k) (8 ^ k) first (omega (arith, is.starts)) (omega (arith, is.starts, m.past_first)) in
+        let joined : first / 8 ^ k ≡ q / 8 ^ k = extent_of_frame (q / 8 ^ k) (8 ^ k) first (omega (arith, is.starts))
+        (omega (arith, is.starts, m.past_first)) in
         let at : start ≡ q = ap (λ j. extent_start j first) (by_alike z pages q first joined) ∙ ap (λ n. n * 8 ^ k) joined ∙ is.starts in
         let starts = starts_below (size_by z pages first) first (by_small z pages first) in
         (sym at, ap not (ne_eqb (first % 8 ^ size_by z pages first) 0 (λ none. absurd (omega (arith, starts.first, at)))))
 
-    crossed : q ≡ start → begins_before_in z pages first ≡ true → (begins_large_in z pages q ≡ true) × (extent_meets first len (tile_size_in z pages q) q ≡ true)
+    crossed : q ≡ start → begins_before_in z pages first ≡ true → (begins_large_in z pages q ≡ true)
+        × (extent_meets first len (tile_size_in z pages q) q ≡ true)
     crossed at behind =
         let k = size_by z pages first in
         let starts = starts_below k first (by_small z pages first) in
@@ -112,16 +122,29 @@ module _ (z : SizeSet) (pages : ℕ → Option Mapping) (first len : ℕ) (some 
           | inl above ↦ above
           | inr none ↦ absurd (omega (arith, at, starts.first, ap (λ j. 8 ^ j) {x = k} {y = 0} (omega arith)))
         ] in (
-          is_large z pages q (record { large = omega (arith, same); starts = ap (λ j. extent_start j q) same ∙ ap (λ n. n * 8 ^ k) joined ∙ sym at }),
+          is_large z pages q (record {
+            large = omega (arith, same);
+            starts = ap (λ j. extent_start j q) same ∙ ap (λ n. n * 8 ^ k) joined
+                ∙ sym at;
+          }),
           ap (λ n. extent_meets first len n q) (tile_size z pages q)
-              ∙ if_meets first len (size_by z pages q) q (record { some = some; before_end = omega arith; past_first = omega (arith, ap (λ j. 8 ^ j) same, at, starts.first, starts.within, starts.short) }),
+              ∙ if_meets first len (size_by z pages q) q
+              (record {
+                some = some;
+                before_end = omega arith;
+                past_first = omega
+                    (arith, ap (λ j. 8 ^ j) same, at, starts.first, starts.within, starts.short);
+              }),
         )
 
-    counted_before : (begins_large_in z pages q && extent_meets first len (tile_size_in z pages q) q) ≡ (eqb q start && begins_before_in z pages first)
+    counted_before : (begins_large_in z pages q && extent_meets first len (tile_size_in z pages q) q) ≡
+        (eqb q start && begins_before_in z pages first)
     counted_before =
         both_ways _ _
-        (λ is. let parts = and_parts (begins_large_in z pages q) _ is in let crossing = crosses parts.0 parts.1 in and_from _ _ (eq-eqb q start crossing.0) crossing.1)
-        (λ is. let parts = and_parts (eqb q start) _ is in let crossing = crossed (eqb-true q start parts.0) parts.1 in and_from _ _ crossing.0 crossing.1)
+        (λ is. let parts = and_parts (begins_large_in z pages q) _ is in let crossing = crosses parts.0 parts.1 in
+        and_from _ _ (eq-eqb q start crossing.0) crossing.1)
+        (λ is. let parts = and_parts (eqb q start) _ is in let crossing = crossed (eqb-true q start parts.0) parts.1 in
+        and_from _ _ crossing.0 crossing.1)
 
   -- in the range each tile that begins counts, and past it none
   module _ (q : ℕ) (from : first ≤ q) where
@@ -129,7 +152,8 @@ module _ (z : SizeSet) (pages : ℕ → Option Mapping) (first len : ℕ) (some 
     none_crosses = elim (cases_eq q start) [
       | inl at ↦
           let starts = starts_below (size_by z pages first) first (by_small z pages first) in
-          ap (λ b. eqb q start && not b) (eq-eqb (first % 8 ^ size_by z pages first) 0 (omega (arith, starts.first, starts.within, at))) ∙ and_none (eqb q start)
+          ap (λ b. eqb q start && not b) (eq-eqb (first % 8 ^ size_by z pages first) 0 (omega (arith, starts.first, starts.within, at)))
+          ∙ and_none (eqb q start)
       | inr apart ↦ ap (λ b. b && begins_before_in z pages first) (ne_eqb q start apart)
     ]
       where
@@ -142,13 +166,16 @@ module _ (z : SizeSet) (pages : ℕ → Option Mapping) (first len : ℕ) (some 
         ap (λ n. extent_meets first len n q) (tile_size z pages q)
         ∙ both_ways _ _
         (λ is. bounds_in first len q from (meets_if first len (size_by z pages q) q is).before_end)
-        (λ is. if_meets first len (size_by z pages q) q (record { some = some; before_end = (in_bounds first len q is).1; past_first = omega (arith, eight_pos (size_by z pages q)) }))
+        (λ is. if_meets first len (size_by z pages q) q
+        (record { some = some; before_end = (in_bounds first len q is).1; past_first = omega (arith, eight_pos (size_by z pages q)) }))
 
   each : (q : ℕ)
-      → weight (begins_large_in z pages q && extent_meets first len (tile_size_in z pages q) q) ≡ weight (in_range first len q && begins_large_in z pages q) + weight (eqb q start && begins_before_in z pages first)
+      → weight (begins_large_in z pages q && extent_meets first len (tile_size_in z pages q) q) ≡ weight
+      (in_range first len q && begins_large_in z pages q) + weight (eqb q start && begins_before_in z pages first)
   each q = elim (cases_lt q first) [
     | inl before ↦ grind (arith, nat_tests, counted_before q before)
-    | inr from ↦ ap (λ b. weight (begins_large_in z pages q && b)) (meets_inside q from) ∙ swapped (begins_large_in z pages q) (in_range first len q) _ (none_crosses q from)
+    | inr from ↦ ap (λ b. weight (begins_large_in z pages q && b)) (meets_inside q from)
+        ∙ swapped (begins_large_in z pages q) (in_range first len q) _ (none_crosses q from)
   ]
     where
       swapped : (a b c : Bool) → c ≡ false → weight (a && b) ≡ weight (b && a) + weight c
@@ -162,7 +189,8 @@ module _ (z : SizeSet) (pages : ℕ → Option Mapping) (first len : ℕ) (some 
       → large_tiles_meeting_in z first len pages ≡ large_tiles_begun_in z first len pages + weight (begins_before_in z pages first)
   tiles_some known = at 1048576 refl
     where
-      at : (many : ℕ) → many ≡ 1048576 → large_tiles_meeting_in z first len pages ≡ large_tiles_begun_in z first len pages + weight (begins_before_in z pages first)
+      at : (many : ℕ) → many ≡ 1048576 → large_tiles_meeting_in z first len pages ≡ large_tiles_begun_in z first len pages + weight
+          (begins_before_in z pages first)
       at many e =
           omega (
             arith,
@@ -170,27 +198,34 @@ module _ (z : SizeSet) (pages : ℕ → Option Mapping) (first len : ℕ) (some 
             count_pages-is (λ q. in_range first len q && begins_large_in z pages q) many e,
             count_pages-is (λ q. eqb q start && begins_before_in z pages first) many e,
             count_pages_at start (begins_before_in z pages first) (omega (arith, start_low)),
-            count-sum (λ q. begins_large_in z pages q && extent_meets first len (tile_size_in z pages q) q) (λ q. in_range first len q && begins_large_in z pages q) (λ q. eqb q start && begins_before_in z pages first) 0 many (λ q low high. each q),
+            count-sum (λ q. begins_large_in z pages q && extent_meets first len (tile_size_in z pages q) q)
+                (λ q. in_range first len q && begins_large_in z pages q) (λ q. eqb q start && begins_before_in z pages first) 0 many
+                (λ q low high. each q),
           )
 
 pub tiles_meeting : (z : SizeSet) (pages : ℕ → Option Mapping) (first len : ℕ) → first + len ≤ 1048576
-    → large_tiles_meeting_in z first len pages ≡ large_tiles_begun_in z first len pages + weight (nat_lt 0 len && begins_before_in z pages first)
+    → large_tiles_meeting_in z first len pages ≡ large_tiles_begun_in z first len pages + weight
+    (nat_lt 0 len && begins_before_in z pages first)
 tiles_meeting z pages first len known = elim (cases_lt 0 len) [
-  | inl some ↦ tiles_some z pages first len some known ∙ ap (λ b. large_tiles_begun_in z first len pages + weight (b && begins_before_in z pages first)) (sym (lt-ltb 0 len some))
+  | inl some ↦ tiles_some z pages first len some known ∙ ap (λ b. large_tiles_begun_in z first len pages + weight
+      (b && begins_before_in z pages first)) (sym (lt-ltb 0 len some))
   | inr none ↦
       let empty : 0 ≡ len = omega arith in
-      subst (λ n. large_tiles_meeting_in z first n pages ≡ large_tiles_begun_in z first n pages + weight (nat_lt 0 n && begins_before_in z pages first)) empty (meeting_none ∙ sym (ap (λ n. n + 0) begun_none))
+      subst (λ n. large_tiles_meeting_in z first n pages ≡ large_tiles_begun_in z first n pages + weight
+      (nat_lt 0 n && begins_before_in z pages first)) empty (meeting_none ∙ sym (ap (λ n. n + 0) begun_none))
 ]
   where
     meeting_none : large_tiles_meeting_in z first 0 pages ≡ 0
-    meeting_none = ap count_pages (let tests : (λ q. begins_large_in z pages q && false) ≡ (λ q. false) = λ i q. and_none (begins_large_in z pages q) i in tests) ∙ count_pages_none
+    meeting_none = ap count_pages (let tests : (λ q. begins_large_in z pages q && false) ≡ (λ q. false) = λ i q. and_none
+        (begins_large_in z pages q) i in tests) ∙ count_pages_none
       where
         and_none : (b : Bool) → (b && false) ≡ false
         and_none true = refl
         and_none false = refl
 
     begun_none : large_tiles_begun_in z first 0 pages ≡ 0
-    begun_none = ap count_pages (let tests : (λ q. in_range first 0 q && begins_large_in z pages q) ≡ (λ q. false) = λ i q. ap (λ b. b && begins_large_in z pages q) (outside first q) i in tests) ∙ count_pages_none
+    begun_none = ap count_pages (let tests : (λ q. in_range first 0 q && begins_large_in z pages q) ≡ (λ q. false) = λ i q. ap
+        (λ b. b && begins_large_in z pages q) (outside first q) i in tests) ∙ count_pages_none
       where
         outside : (first q : ℕ) → in_range first 0 q ≡ false
         outside first q = grind (arith, nat_tests)
@@ -199,14 +234,16 @@ tiles_meeting z pages first len known = elim (cases_lt 0 len) [
 pub meeting_bare : (z : SizeSet) (pages : ℕ → Option Mapping) (first len : ℕ) → NoneResident pages first (first + len)
     → large_tiles_meeting_in z first len pages ≡ 0
 meeting_bare z pages first len bare =
-    ap count_pages (let tests : (λ q. begins_large_in z pages q && extent_meets first len (tile_size_in z pages q) q) ≡ (λ q. false) = λ i q. apart q i in tests) ∙ count_pages_none
+    ap count_pages (let tests : (λ q. begins_large_in z pages q && extent_meets first len (tile_size_in z pages q) q) ≡
+    (λ q. false) = λ i q. apart q i in tests) ∙ count_pages_none
   where
     apart : (q : ℕ) → (begins_large_in z pages q && extent_meets first len (tile_size_in z pages q) q) ≡ false
     apart q = elim (cases_Bool (begins_large_in z pages q && extent_meets first len (tile_size_in z pages q) q)) [
       | inl both ↦
           let parts = and_parts (begins_large_in z pages q) _ both in
           let is = large_is z pages q parts.0 in
-          let meets : extent_meets first len (size_by z pages q) q ≡ true = ap (λ k. extent_meets first len k q) (sym (tile_size z pages q)) ∙ parts.1 in
+          let meets : extent_meets first len (size_by z pages q) q ≡ true =
+          ap (λ k. extent_meets first len k q) (sym (tile_size z pages q)) ∙ parts.1 in
           let common = common_page first len (size_by z pages q) q is.starts meets in
           let range = in_bounds first len common.page_in_both common.inside in
           let none = by_absent z pages common.page_in_both (bare common.page_in_both range.0 range.1) in
@@ -219,16 +256,19 @@ abbrev begins_between : SizeSet → (ℕ → Option Mapping) → (first end page
 begins_between z pages first end page = begins_large_in z pages page && extent_meets first (end - first) (tile_size_in z pages page) page
 
 -- where none of the first pages of a range is resident, the tiles that meet it are those that meet the rest
-pub meeting_from : (z : SizeSet) (pages : ℕ → Option Mapping) (first page end : ℕ) → first ≤ page → page ≤ end → NoneResident pages first page
+pub meeting_from : (z : SizeSet) (pages : ℕ → Option Mapping) (first page end : ℕ) → first ≤ page → page ≤ end
+    → NoneResident pages first page
     → large_tiles_meeting_in z first (end - first) pages ≡ large_tiles_meeting_in z page (end - page) pages
-meeting_from z pages first page end from within bare = ap count_pages (let tests : begins_between z pages first end ≡ begins_between z pages page end = λ i q. both_ways _ _ (rest q) (whole q) i in tests)
+meeting_from z pages first page end from within bare = ap count_pages
+    (let tests : begins_between z pages first end ≡ begins_between z pages page end = λ i q. both_ways _ _ (rest q) (whole q) i in tests)
   where
     rest : (q : ℕ) → begins_between z pages first end q ≡ true → begins_between z pages page end q ≡ true
     rest q both =
         let k = size_by z pages q in
         let parts = and_parts (begins_large_in z pages q) _ both in
         let is = large_is z pages q parts.0 in
-        let meets : extent_meets first (end - first) k q ≡ true = ap (λ j. extent_meets first (end - first) j q) (sym (tile_size z pages q)) ∙ parts.1 in
+        let meets : extent_meets first (end - first) k q ≡ true = ap (λ j. extent_meets first (end - first) j q)
+        (sym (tile_size z pages q)) ∙ parts.1 in
         let m = meets_if first (end - first) k q meets in
         let common = common_page first (end - first) k q is.starts meets in
         let p = common.page_in_both in
@@ -239,7 +279,12 @@ meeting_from z pages first page end from within bare = ap count_pages (let tests
           | inr on ↦ on
         ] in
         and_from _ _ parts.0 (ap (λ j. extent_meets page (end - page) j q) (tile_size z pages q)
-        ∙ if_meets page (end - page) k q (record { some = omega (arith, range, on); before_end = omega (arith, m.before_end); past_first = omega (arith, is.starts, extent, on) }))
+        ∙ if_meets page (end - page) k q
+        (record {
+          some = omega (arith, range, on);
+          before_end = omega (arith, m.before_end);
+          past_first = omega (arith, is.starts, extent, on);
+        }))
 
     whole : (q : ℕ) → begins_between z pages page end q ≡ true → begins_between z pages first end q ≡ true
     whole q both =
@@ -247,4 +292,5 @@ meeting_from z pages first page end from within bare = ap count_pages (let tests
         let parts = and_parts (begins_large_in z pages q) _ both in
         let m = meets_if page (end - page) k q (ap (λ j. extent_meets page (end - page) j q) (sym (tile_size z pages q)) ∙ parts.1) in
         and_from _ _ parts.0 (ap (λ j. extent_meets first (end - first) j q) (tile_size z pages q)
-        ∙ if_meets first (end - first) k q (record { some = omega (arith, m.some); before_end = omega (arith, m.before_end); past_first = omega (arith, m.past_first) }))
+        ∙ if_meets first (end - first) k q
+        (record { some = omega (arith, m.some); before_end = omega (arith, m.before_end); past_first = omega (arith, m.past_first) }))

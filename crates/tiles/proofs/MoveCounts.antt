@@ -43,14 +43,17 @@ module _ (z : SizeSet) (old new : ℕ → Option Mapping) where
     absent (Some t) at none = absurd (cc)
 
     -- no tile goes where the page had none and makes no larger one
-    touches : (o : Option Tile) → o ≡ tile_of old page → IsInSpace (touched_of page o before after) × KeepsOutsideIn z (touched_of page o before after) old new
+    touches : (o : Option Tile) → o ≡ tile_of old page → IsInSpace (touched_of page o before after)
+        × KeepsOutsideIn z (touched_of page o before after) old new
     touches o at = by (is_some o || nat_lt 0 after) refl
       where
         neither : (a b : Bool) → (a || b) ≡ false → (a ≡ false) × (b ≡ false)
         neither true b e = absurd (cc)
         neither false b e = (refl, e)
 
-        by : (b : Bool) → (is_some o || nat_lt 0 after) ≡ b → IsInSpace (if b then extent_range (max before after) page else record { first = 0; length = 0 }) × KeepsOutsideIn z (if b then extent_range (max before after) page else record { first = 0; length = 0 }) old new
+        by : (b : Bool) → (is_some o || nat_lt 0 after) ≡ b → IsInSpace
+            (if b then extent_range (max before after) page else record { first = 0; length = 0 })
+            × KeepsOutsideIn z (if b then extent_range (max before after) page else record { first = 0; length = 0 }) old new
         by true e = (extent_in_space (max before after) page low in_space, outside_larger z old new page others)
         by false e =
             let none = neither (is_some o) (nat_lt 0 after) e in
@@ -89,11 +92,13 @@ promotions_add z old mid new block within outside = at 1048576 refl
     each q = elim (cases_eq (q / 512) block) [
       | inl e ↦
           let same : size_by z mid q ≡ size_by z old q = local_by z old mid q (λ p joined. within p (joined ∙ e)) in
-          let first : is_promoted_in z old new q ≡ is_promoted_in z mid new q = promoted_test z old new q ∙ ap (λ n. is_grown_at q n (size_by z new q)) (sym same) ∙ sym (promoted_test z mid new q) in
+          let first : is_promoted_in z old new q ≡ is_promoted_in z mid new q = promoted_test z old new q
+          ∙ ap (λ n. is_grown_at q n (size_by z new q)) (sym same) ∙ sym (promoted_test z mid new q) in
           omega (arith, ap weight first, ap weight (none_grown z old mid q (omega (arith, same))))
       | inr apart ↦
           let same : size_by z new q ≡ size_by z mid q = local_by z mid new q (λ p joined. outside p (λ e. apart (sym joined ∙ e))) in
-          let first : is_promoted_in z old new q ≡ is_promoted_in z old mid q = promoted_test z old new q ∙ ap (λ n. is_grown_at q (size_by z old q) n) same ∙ sym (promoted_test z old mid q) in
+          let first : is_promoted_in z old new q ≡ is_promoted_in z old mid q = promoted_test z old new q
+          ∙ ap (λ n. is_grown_at q (size_by z old q) n) same ∙ sym (promoted_test z old mid q) in
           omega (arith, ap weight first, ap weight (none_grown z mid new q (omega (arith, same))))
     ]
 
@@ -115,11 +120,13 @@ demotions_add z old mid new block within outside = at 1048576 refl
     each q = elim (cases_eq (q / 512) block) [
       | inl e ↦
           let same : size_by z mid q ≡ size_by z old q = local_by z old mid q (λ p joined. within p (joined ∙ e)) in
-          let first : is_promoted_in z new old q ≡ is_promoted_in z new mid q = promoted_test z new old q ∙ ap (λ n. is_grown_at q (size_by z new q) n) (sym same) ∙ sym (promoted_test z new mid q) in
+          let first : is_promoted_in z new old q ≡ is_promoted_in z new mid q = promoted_test z new old q
+          ∙ ap (λ n. is_grown_at q (size_by z new q) n) (sym same) ∙ sym (promoted_test z new mid q) in
           omega (arith, ap weight first, ap weight (none_grown z mid old q (omega (arith, same))))
       | inr apart ↦
           let same : size_by z new q ≡ size_by z mid q = local_by z mid new q (λ p joined. outside p (λ e. apart (sym joined ∙ e))) in
-          let first : is_promoted_in z new old q ≡ is_promoted_in z mid old q = promoted_test z new old q ∙ ap (λ n. is_grown_at q n (size_by z old q)) same ∙ sym (promoted_test z mid old q) in
+          let first : is_promoted_in z new old q ≡ is_promoted_in z mid old q = promoted_test z new old q
+          ∙ ap (λ n. is_grown_at q n (size_by z old q)) same ∙ sym (promoted_test z mid old q) in
           omega (arith, ap weight first, ap weight (none_grown z new mid q (omega (arith, same))))
     ]
 

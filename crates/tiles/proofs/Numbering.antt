@@ -58,8 +58,15 @@ below-zero (Some n) = let t : ltb n 0 ≡ false = grind (arith, nat_tests) in t
 pub count-few : (numbers : ℕ → Option ℕ) (pages many : ℕ) → AreApart numbers → count (λ p. is_below (numbers p) many) 0 pages ≤ many
 count-few numbers pages zero apart = omega (arith, count-none (λ p. is_below (numbers p) 0) 0 pages (λ p _ _. below-zero (numbers p)))
 count-few numbers pages (suc many) apart =
-    let last = count-one (λ p. is_number (numbers p) many) 0 pages (λ p q has also. apart p q many (number-true (numbers p) many has) (number-true (numbers q) many also)) in
-    omega (arith, last, count-few numbers pages many apart, count-either (λ p. is_below (numbers p) (suc many)) (λ p. is_below (numbers p) many) (λ p. is_number (numbers p) many) 0 pages (λ p. below-suc (numbers p) many))
+    let last = count-one (λ p. is_number (numbers p) many) 0 pages (λ p q has also. apart p q many (number-true (numbers p) many has)
+    (number-true (numbers q) many also)) in
+    omega (
+      arith,
+      last,
+      count-few numbers pages many apart,
+      count-either (λ p. is_below (numbers p) (suc many))
+          (λ p. is_below (numbers p) many) (λ p. is_number (numbers p) many) 0 pages (λ p. below-suc (numbers p) many),
+    )
 
 -- The pages have numbers, and a page is to have one that no other page has.
 module _ (numbers : ℕ → Option ℕ) (many page number : ℕ) (known : number < many) (others : (p : ℕ) → p ≢ page → numbers p ≢ Some number)
@@ -91,7 +98,8 @@ module _ (numbers : ℕ → Option ℕ) (many page number : ℕ) (known : number
   after-within : (p : ℕ) → (is_some (numbers p) || eqb p page) ≡ true → is_below (after p) many ≡ true
   after-within p has = elim (cases_eq p page) [
     | inl e ↦ ap (λ o. is_below o many) (after-page p e) ∙ lt-ltb number many known
-    | inr other ↦ ap (λ o. is_below o many) (after-other p other) ∙ of (numbers p) refl (sym (or_off (is_some (numbers p)) (eqb p page) (ne_eqb p page other)) ∙ has)
+    | inr other ↦ ap (λ o. is_below o many) (after-other p other) ∙ of (numbers p) refl
+        (sym (or_off (is_some (numbers p)) (eqb p page) (ne_eqb p page other)) ∙ has)
   ]
     where
       or_off : (b c : Bool) → c ≡ false → (b || c) ≡ b

@@ -29,16 +29,23 @@ round_of r kept page None at = tt
 round_of r kept page (Some t) at =
     let is = tile_largest (mapping_at r) page t (sym at) in
     let uniform = tile_uniform (mapping_at r) t is.0 in
-    let frame : t.frame + 0 < frames_in r = kept.known (t.extent.first + 0) (t.frame + 0) (ap (option_map (λ (m : Mapping). m.frame)) (uniform.1 0 (eight_pos t.extent.size))) in
+    let frame : t.frame + 0 < frames_in r = kept.known (t.extent.first + 0) (t.frame + 0)
+    (ap (option_map (λ (m : Mapping). m.frame)) (uniform.1 0 (eight_pos t.extent.size))) in
     record { low = is.0.extent.0; starts = is.1; fits = omega (arith, frame, kept.few, eight_small t.extent.size is.0.extent.0) }
 
 pub turn_of : (r s : Resident) → ArePages r → ArePages s → (page : ℕ) (turn : Turn) → turn.before ≡ tile_of (mapping_at r) page
     → turn.after ≡ tile_of (mapping_at s) page → IsTurn page r s turn
 turn_of r s kept later page turn before after =
-    record { before = before; after = after; before_round = round_of r kept page turn.before before; after_round = round_of s later page turn.after after }
+    record {
+      before = before;
+      after = after;
+      before_round = round_of r kept page turn.before before;
+      after_round = round_of s later page turn.after after;
+    }
 
 -- a page's tile tells its frame
-pub frame_by_tile : (pages : ℕ → Option Mapping) (page : ℕ) → frame_within page (tile_of pages page) ≡ option_map (λ (m : Mapping). m.frame) (pages page)
+pub frame_by_tile : (pages : ℕ → Option Mapping) (page : ℕ) → frame_within page (tile_of pages page) ≡ option_map
+    (λ (m : Mapping). m.frame) (pages page)
 frame_by_tile pages page = by (pages page) refl
   where
     by : (o : Option Mapping) → pages page ≡ o → frame_within page (tile_of pages page) ≡ option_map (λ (m : Mapping). m.frame) o
@@ -82,7 +89,8 @@ has_pieces page before after = record {
 }
 
 -- and what has these pieces is these tiles
-pub coming_is : (page : ℕ) (before after : Option Tile) (tiles : List Tile) → HasPieces page before after tiles → tiles ≡ coming page before after
+pub coming_is : (page : ℕ) (before after : Option Tile) (tiles : List Tile) → HasPieces page before after tiles
+    → tiles ≡ coming page before after
 coming_is page before after tiles has = elim (same_or_other before after) [
   | inl same ↦ has.same same ∙ sym ((has_pieces page before after).same same)
   | inr other ↦ has.other other ∙ sym ((has_pieces page before after).other other)
@@ -92,7 +100,8 @@ coming_is page before after tiles has = elim (same_or_other before after) [
 pub none_goes : (page : ℕ) (before after : Option Tile) → is_some before ≡ false → size_in after ≡ 0 → coming page after before ≡ []
 none_goes page (Some u) after some small = absurd (true≢false some)
 none_goes page None None none small = refl
-none_goes page None (Some t) none small = ap (cut_round page t 0) {x = t.extent.size - 0} {y = 0} (omega (arith, small)) ∙ cut_round-none page t 0
+none_goes page None (Some t) none small = ap (cut_round page t 0) {x = t.extent.size - 0} {y = 0} (omega (arith, small))
+    ∙ cut_round-none page t 0
 
 came_as : (old new : ℕ → Option Mapping) (tiles others : List Tile) → others ≡ tiles → Came old new tiles → Came old new others
 came_as old new tiles others e came = record { each = λ t. ap (times t) e ∙ came.each t; few = omega (arith, ap length e, came.few) }
@@ -107,21 +116,27 @@ came_of old new page before after tiles others had has list = elim (same_or_othe
       (came_pieces old new page others (λ e. other (had ∙ e ∙ sym has)))
 ]
 
-pub changes_of : (r s : Resident) (page : ℕ) (given : Option Mapping) (turn : Turn) → page < 1048576 → Maps page given r s → IsTurn page r s turn
+pub changes_of : (r s : Resident) (page : ℕ) (given : Option Mapping) (turn : Turn) → page < 1048576 → Maps page given r s
+    → IsTurn page r s turn
     → AreChanges r s (record { page = page; before = turn.before; after = turn.after })
 changes_of r s page given turn in_space maps turned =
     let others = others_same r s page given maps in
     record {
-      gone = came_of (mapping_at s) (mapping_at r) page turn.after turn.before _ (others_back (mapping_at r) (mapping_at s) page others) turned.after turned.before (has_pieces page turn.after turn.before);
-      came = came_of (mapping_at r) (mapping_at s) page turn.before turn.after _ others turned.before turned.after (has_pieces page turn.before turn.after);
+      gone = came_of (mapping_at s) (mapping_at r) page turn.after turn.before _
+          (others_back (mapping_at r) (mapping_at s) page others) turned.after turned.before (has_pieces page turn.after turn.before);
+      came = came_of (mapping_at r) (mapping_at s) page turn.before turn.after _ others turned.before turned.after
+          (has_pieces page turn.before turn.after);
       moves_in = λ z.
-          subst (λ o. AreMovesIn z (mapping_at r) (mapping_at s) (moves_of z (record { page = page; before = turn.before; after = o }))) (sym turned.after)
-          (subst (λ b. AreMovesIn z (mapping_at r) (mapping_at s) (moves_between page turn.before b (size_by z (mapping_at s) page))) (ap (λ o. size_within z (size_in o)) (sym turned.before))
+          subst (λ o. AreMovesIn z (mapping_at r) (mapping_at s) (moves_of z (record { page = page; before = turn.before; after = o })))
+          (sym turned.after)
+          (subst (λ b. AreMovesIn z (mapping_at r) (mapping_at s) (moves_between page turn.before b (size_by z (mapping_at s) page)))
+          (ap (λ o. size_within z (size_in o)) (sym turned.before))
           (moves_one z (mapping_at r) (mapping_at s) page others in_space turn.before turned.before));
     }
 
 -- nothing goes or comes where each page is as it was
-pub changes_none : (r s : Resident) → ((p : ℕ) → mapping_at s p ≡ mapping_at r p) → AreChanges r s (record { page = 0; before = None; after = None })
+pub changes_none : (r s : Resident) → ((p : ℕ) → mapping_at s p ≡ mapping_at r p)
+    → AreChanges r s (record { page = 0; before = None; after = None })
 changes_none r s same =
     let one : mapping_at s ≡ mapping_at r = λ i p. same p i in
     record {

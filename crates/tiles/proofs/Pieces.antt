@@ -62,15 +62,18 @@ pub beside-none : (level page : ℕ) (large : Tile) → beside level page large 
 unfolding beside
 beside-none level page large = refl
 
-pub beside-own : (level page : ℕ) (large : Tile) (part : ℕ) → part ≡ own_part level page → beside level page large (suc part) ≡ beside level page large part
+pub beside-own : (level page : ℕ) (large : Tile) (part : ℕ) → part ≡ own_part level page
+    → beside level page large (suc part) ≡ beside level page large part
 unfolding beside
 beside-own level page large part own =
-    ap (λ xs. beside level page large part ++ xs) (cond-true _ _ _ (eq-eqb part (own_part level page) own)) ∙ append-nil (beside level page large part)
+    ap (λ xs. beside level page large part ++ xs) (cond-true _ _ _ (eq-eqb part (own_part level page) own))
+    ∙ append-nil (beside level page large part)
 
 pub beside-other : (level page : ℕ) (large : Tile) (part : ℕ) → part ≢ own_part level page
     → beside level page large (suc part) ≡ beside level page large part ++ piece level page large part ∷ []
 unfolding beside
-beside-other level page large part other = ap (λ xs. beside level page large part ++ xs) (cond-false _ _ _ (ne_eqb part (own_part level page) other))
+beside-other level page large part other = ap (λ xs. beside level page large part ++ xs)
+    (cond-false _ _ _ (ne_eqb part (own_part level page) other))
 
 part_start-one : (level page part other : ℕ) → part_start level page part ≡ part_start level page other → part ≡ other
 part_start-one level page part other e =
@@ -90,7 +93,8 @@ beside-misses t level page large (suc n) misses =
       | inl own ↦ ap (times t) (beside-own level page large n own) ∙ before
       | inr other ↦
           let one = times-other t (piece level page large n) (misses n (omega arith) other) in
-          ap (times t) (beside-other level page large n other) ∙ times-append t (beside level page large n) (piece level page large n ∷ []) ∙ omega (arith, before, one)
+          ap (times t) (beside-other level page large n other) ∙ times-append t (beside level page large n) (piece level page large n ∷ [])
+          ∙ omega (arith, before, one)
     ]
 
 beside-hits : (t : Tile) (level page : ℕ) (large : Tile) (n part : ℕ) → part < n → part ≢ own_part level page
@@ -99,16 +103,20 @@ beside-hits t level page large zero part below other is = absurd (omega arith)
 beside-hits t level page large (suc n) part below other is = elim (cases_eq n part) [
   | inl here ↦
       let differs : n ≢ own_part level page = λ own. other (sym here ∙ own) in
-      let before = beside-misses t level page large n (λ q less _ same. absurd (let e = piece-first level page part q large (sym is ∙ same) in omega (arith, e))) in
+      let before = beside-misses t level page large n (λ q less _ same. absurd
+      (let e = piece-first level page part q large (sym is ∙ same) in omega (arith, e))) in
       let one = times-same t (piece level page large n) (is ∙ ap (piece level page large) (sym here)) in
-      ap (times t) (beside-other level page large n differs) ∙ times-append t (beside level page large n) (piece level page large n ∷ []) ∙ omega (arith, before, one)
+      ap (times t) (beside-other level page large n differs) ∙ times-append t (beside level page large n) (piece level page large n ∷ [])
+      ∙ omega (arith, before, one)
   | inr elsewhere ↦
       let before = beside-hits t level page large n part (omega arith) other is in
       elim (cases_eq n (own_part level page)) [
         | inl own ↦ ap (times t) (beside-own level page large n own) ∙ before
         | inr differs ↦
-            let one = times-other t (piece level page large n) (λ same. elsewhere (sym (piece-first level page part n large (sym is ∙ same)))) in
-            ap (times t) (beside-other level page large n differs) ∙ times-append t (beside level page large n) (piece level page large n ∷ []) ∙ omega (arith, before, one)
+            let one = times-other t (piece level page large n) (λ same. elsewhere
+            (sym (piece-first level page part n large (sym is ∙ same)))) in
+            ap (times t) (beside-other level page large n differs) ∙ times-append t (beside level page large n)
+            (piece level page large n ∷ []) ∙ omega (arith, before, one)
       ]
 ]
 
@@ -118,7 +126,8 @@ pub record AreFew (level page n many : ℕ) : Type 0 where
   pub past : own_part level page < n → many < n
 
 pub beside-few : (level page : ℕ) (large : Tile) (n : ℕ) → AreFew level page n (length (beside level page large n))
-beside-few level page large zero = record { each = omega (arith, ap length (beside-none level page large)); past = λ less. absurd (omega arith) }
+beside-few level page large zero =
+    record { each = omega (arith, ap length (beside-none level page large)); past = λ less. absurd (omega arith) }
 beside-few level page large (suc n) =
     let before = beside-few level page large n in
     elim (cases_eq n (own_part level page)) [
@@ -126,7 +135,8 @@ beside-few level page large (suc n) =
           let long = ap length (beside-own level page large n own) in
           record { each = omega (arith, long, before.each); past = λ less. omega (arith, long, before.each) }
       | inr other ↦
-          let long = ap length (beside-other level page large n other) ∙ length-append (beside level page large n) (piece level page large n ∷ []) in
+          let long = ap length (beside-other level page large n other)
+          ∙ length-append (beside level page large n) (piece level page large n ∷ []) in
           record { each = omega (arith, long, before.each); past = λ less. omega (arith, long, before.past (omega arith)) }
     ]
 
@@ -147,19 +157,22 @@ pub record LiesInside (s page start : ℕ) : Type 0 where
 pub part_inside : (s level page part : ℕ) → level < s → s ≤ 3 → part < 8 → LiesInside s page (part_start level page part)
 part_inside s level page part below low few =
     let at = part_starts level page part (omega arith) few in
-    let within = range_of_extent (page / 8 ^ s) (8 ^ s) (part_start level page part) (eight_pos s) (coarser (suc level) s (part_start level page part) page below low at.joined) in
+    let within = range_of_extent (page / 8 ^ s) (8 ^ s) (part_start level page part) (eight_pos s)
+    (coarser (suc level) s (part_start level page part) page below low at.joined) in
     record { from = within.0; below = within.1 }
 
 -- one part further
 pub more-own : (xs ys : List Tile) (level page : ℕ) (large : Tile) (part : ℕ) → part ≡ own_part level page
     → ys ≡ xs ++ beside level page large part → ys ≡ xs ++ beside level page large (part + 1)
-more-own xs ys level page large part own had = had ∙ ap (λ zs. xs ++ zs) (sym (ap (beside level page large) (add-one part) ∙ beside-own level page large part own))
+more-own xs ys level page large part own had = had ∙ ap (λ zs. xs ++ zs)
+    (sym (ap (beside level page large) (add-one part) ∙ beside-own level page large part own))
 
 pub more-other : (xs ys zs : List Tile) (level page : ℕ) (large t : Tile) (part first : ℕ) → part ≢ own_part level page
     → ys ≡ xs ++ beside level page large part → t ≡ part_from level first large → first ≡ part_start level page part → zs ≡ ys ++ t ∷ []
     → zs ≡ xs ++ beside level page large (part + 1)
 more-other xs ys zs level page large t part first other had is starts added =
-    added ∙ ap (λ us. us ++ t ∷ []) had ∙ ap (λ u. (xs ++ beside level page large part) ++ u ∷ []) (is ∙ ap (λ n. part_from level n large) starts)
+    added ∙ ap (λ us. us ++ t ∷ []) had ∙ ap (λ u. (xs ++ beside level page large part) ++ u ∷ [])
+    (is ∙ ap (λ n. part_from level n large) starts)
     ∙ append_assoc xs (beside level page large part) (piece level page large part ∷ [])
     ∙ ap (λ us. xs ++ us) (sym (ap (beside level page large) (add-one part) ∙ beside-other level page large part other))
 
@@ -181,27 +194,32 @@ cut-misses t page large from zero misses = ap (times t) (cut_round-none page lar
 cut-misses t page large from (suc more) misses =
     let before = cut-misses t page large from more (λ level part at below. misses level part at (omega arith)) in
     let last = beside-misses t (from + more) page large 8 (λ part few. misses (from + more) part (omega arith) (omega arith) few) in
-    ap (times t) (cut_round-more page large from more) ∙ times-append t (cut_round page large from more) (beside (from + more) page large 8) ∙ omega (arith, before, last)
+    ap (times t) (cut_round-more page large from more) ∙ times-append t (cut_round page large from more)
+    (beside (from + more) page large 8) ∙ omega (arith, before, last)
 
 cut-hits : (t : Tile) (page : ℕ) (large : Tile) (from more level part : ℕ) → from ≤ level → level < from + more → part < 8
     → part ≢ own_part level page → t ≡ piece level page large part → times t (cut_round page large from more) ≡ 1
 cut-hits t page large from zero level part at below few other is = absurd (omega arith)
 cut-hits t page large from (suc more) level part at below few other is = elim (cases_eq level (from + more)) [
   | inl last ↦
-      let before = cut-misses t page large from more (λ k q from_on less _ _ same. absurd (let e : level ≡ k = ap (λ (u : Tile). u.extent.size) (sym is ∙ same) in omega (arith, e))) in
+      let before = cut-misses t page large from more (λ k q from_on less _ _ same. absurd
+      (let e : level ≡ k = ap (λ (u : Tile). u.extent.size) (sym is ∙ same) in omega (arith, e))) in
       let here = beside-hits t level page large 8 part few other is in
       let one : times t (beside (from + more) page large 8) ≡ 1 = ap (λ k. times t (beside k page large 8)) (sym last) ∙ here in
-      ap (times t) (cut_round-more page large from more) ∙ times-append t (cut_round page large from more) (beside (from + more) page large 8) ∙ omega (arith, before, one)
+      ap (times t) (cut_round-more page large from more) ∙ times-append t (cut_round page large from more)
+      (beside (from + more) page large 8) ∙ omega (arith, before, one)
   | inr earlier ↦
       let before = cut-hits t page large from more level part at (omega arith) few other is in
       let none = beside-misses t (from + more) page large 8 (λ q _ _ same. earlier (ap (λ (u : Tile). u.extent.size) (sym is ∙ same))) in
-      ap (times t) (cut_round-more page large from more) ∙ times-append t (cut_round page large from more) (beside (from + more) page large 8) ∙ omega (arith, before, none)
+      ap (times t) (cut_round-more page large from more) ∙ times-append t (cut_round page large from more)
+      (beside (from + more) page large 8) ∙ omega (arith, before, none)
 ]
 
 pub cut-few : (page : ℕ) (large : Tile) (from more : ℕ) → length (cut_round page large from more) ≤ 7 * more
 cut-few page large from zero = omega (arith, ap length (cut_round-none page large from))
 cut-few page large from (suc more) =
-    let long = ap length (cut_round-more page large from more) ∙ length-append (cut_round page large from more) (beside (from + more) page large 8) in
+    let long = ap length (cut_round-more page large from more) ∙ length-append (cut_round page large from more)
+    (beside (from + more) page large 8) in
     let own : own_part (from + more) page < 8 = omega arith in
     omega (arith, long, cut-few page large from more, (beside-few (from + more) page large 8).past own)
 
@@ -212,8 +230,10 @@ pub more-level : (xs ys zs : List Tile) (page : ℕ) (large : Tile) (from level 
 more-level xs ys zs page large from level at had added =
     let more : level + 1 - from ≡ suc (level - from) = omega arith in
     let here : level ≡ from + (level - from) = omega arith in
-    added ∙ ap (λ us. us ++ beside level page large 8) had ∙ append_assoc xs (cut_round page large from (level - from)) (beside level page large 8)
-    ∙ ap (λ us. xs ++ us) (ap (λ k. cut_round page large from (level - from) ++ beside k page large 8) here ∙ sym (cut_round-more page large from (level - from)) ∙ ap (cut_round page large from) (sym more))
+    added ∙ ap (λ us. us ++ beside level page large 8) had ∙ append_assoc xs (cut_round page large from (level - from))
+    (beside level page large 8)
+    ∙ ap (λ us. xs ++ us) (ap (λ k. cut_round page large from (level - from) ++ beside k page large 8) here
+    ∙ sym (cut_round-more page large from (level - from)) ∙ ap (cut_round page large from) (sym more))
 
 -- ---- the tiles that come
 
@@ -225,30 +245,35 @@ module _ (old new : ℕ → Option Mapping) (page : ℕ) (others : OthersSame pa
   own = tile_of new page
 
   -- a tile round the page is none of the parts beside it
-  not_beside : (t : Tile) (level part : ℕ) (large : Tile) → own ≡ Some t → level < 3 → part < 8 → part ≢ own_part level page → t ≢ piece level page large part
+  not_beside : (t : Tile) (level part : ℕ) (large : Tile) → own ≡ Some t → level < 3 → part < 8 → part ≢ own_part level page
+      → t ≢ piece level page large part
   not_beside t level part large is low few other same =
       let round = (tile_largest new page t is).1 in
       let at = part_starts level page part (omega arith) few in
       let size : t.extent.size ≡ level = ap (λ (u : Tile). u.extent.size) same in
-      let first : extent_start level page ≡ part_start level page part = ap (λ k. extent_start k page) (sym size) ∙ round ∙ ap (λ (u : Tile). u.extent.first) same in
+      let first : extent_start level page ≡ part_start level page part = ap (λ k. extent_start k page) (sym size) ∙ round
+      ∙ ap (λ (u : Tile). u.extent.first) same in
       at.apart other (ap (λ n. n / 8 ^ level) (sym first) ∙ first_of_extent level page)
 
   large_low : (large : Tile) → had ≡ Some large → large.extent.size ≤ 3
   large_low large at = omega (arith, ap size_in at, size_small old page)
 
   none_cut : (t : Tile) (o : Option Tile) → had ≡ o
-      → ((large : Tile) (level part : ℕ) → had ≡ Some large → size_in own ≤ level → level < large.extent.size → part < 8 → part ≢ own_part level page → t ≢ piece level page large part)
+      → ((large : Tile) (level part : ℕ) → had ≡ Some large → size_in own ≤ level → level < large.extent.size → part < 8
+      → part ≢ own_part level page → t ≢ piece level page large part)
       → times t (cut_from page o own) ≡ 0
   none_cut t None at misses = refl
   none_cut t (Some large) at misses =
-      cut-misses t page large (size_in own) (large.extent.size - size_in own) (λ level part from below few other. misses large level part at from (omega (arith, from, below)) few other)
+      cut-misses t page large (size_in own) (large.extent.size - size_in own)
+      (λ level part from below few other. misses large level part at from (omega (arith, from, below)) few other)
 
   one_cut : (t : Tile) (o : Option Tile) → had ≡ o → IsCut old new page t → times t (cut_from page o own) ≡ 1
   one_cut t None at is = absurd (none-some is.large (sym at ∙ is.at))
   one_cut t (Some large) at is =
       let same : is.large ≡ large = same_Some is.large large (sym is.at ∙ at) in
       let size : is.large.extent.size ≡ large.extent.size = ap (λ (u : Tile). u.extent.size) same in
-      cut-hits t page large (size_in own) (large.extent.size - size_in own) t.extent.size is.part is.from (omega (arith, is.from, is.below, size)) is.few is.other
+      cut-hits t page large (size_in own) (large.extent.size - size_in own) t.extent.size is.part is.from
+      (omega (arith, is.from, is.below, size)) is.few is.other
       (is.is ∙ ap (λ (u : Tile). piece t.extent.size page u is.part) same)
 
   none_own : (t : Tile) (o : Option Tile) → ((u : Tile) → o ≡ Some u → t ≢ u) → times t (option_to_list o) ≡ 0
@@ -263,11 +288,13 @@ module _ (old new : ℕ → Option Mapping) (page : ℕ) (others : OthersSame pa
     | inl at ↦ omega (
       arith,
       ap (λ o. times t (option_to_list o)) at ∙ times-same t t refl,
-      none_cut t had refl (λ large level part had_at from below few other. not_beside t level part large at (omega (arith, below, large_low large had_at)) few other),
+      none_cut t had refl (λ large level part had_at from below few other. not_beside t level part large at
+          (omega (arith, below, large_low large had_at)) few other),
     )
     | inr cut ↦ omega (
       arith,
-      none_own t own (λ u at same. not_beside u t.extent.size cut.part cut.large at (omega (arith, cut.below, large_low cut.large cut.at)) cut.few cut.other (sym same ∙ cut.is)),
+      none_own t own (λ u at same. not_beside u t.extent.size cut.part cut.large at
+          (omega (arith, cut.below, large_low cut.large cut.at)) cut.few cut.other (sym same ∙ cut.is)),
       one_cut t had refl cut,
     )
   ]
@@ -279,7 +306,8 @@ module _ (old new : ℕ → Option Mapping) (page : ℕ) (others : OthersSame pa
   missing t differ isnt = times_is t ∙ omega (
     arith,
     none_own t own (λ u at same. isnt (is_new u (own_new old new page others u at (λ before. differ (before ∙ sym at))) t same)),
-    none_cut t had refl (λ large level part at from below few other same. isnt (is_new (piece level page large part) (part_new old new page others large at level part from below few other) t same)),
+    none_cut t had refl (λ large level part at from below few other same. isnt
+        (is_new (piece level page large part) (part_new old new page others large at level part from below few other) t same)),
   )
 
   few_pieces : length (pieces page had own) ≤ 22
@@ -297,7 +325,8 @@ module _ (old new : ℕ → Option Mapping) (page : ℕ) (others : OthersSame pa
   pub came_pieces : had ≢ own → Came old new (pieces page had own)
   came_pieces differ = record { few = few_pieces; each = λ t. each t (is_tile new t) (is_tile old t) refl refl }
     where
-      each : (t : Tile) (after before : Bool) → is_tile new t ≡ after → is_tile old t ≡ before → times t (pieces page had own) ≡ (if after && not before then 1 else 0)
+      each : (t : Tile) (after before : Bool) → is_tile new t ≡ after → is_tile old t ≡ before
+          → times t (pieces page had own) ≡ (if after && not before then 1 else 0)
       each t true false is was = stands t (record { after = is; before = was })
       each t true true is was = missing t differ (λ new_one. false≢true (sym new_one.before ∙ was))
       each t false before is was = missing t differ (λ new_one. false≢true (sym is ∙ new_one.after))
@@ -309,10 +338,12 @@ module _ (old new : ℕ → Option Mapping) (page : ℕ) (others : OthersSame pa
       stays : (t : Tile) → IsNew old new t → ⊥
       stays t is = elim (new_is old new page others t is.after is.before) [
         | inl at ↦ true≢false (sym (own_is_tile old page t (same ∙ at)) ∙ is.before)
-        | inr cut ↦ absurd (let sizes : size_in had ≡ size_in own = ap size_in same in omega (arith, cut.from, cut.below, ap size_in cut.at, sizes))
+        | inr cut ↦ absurd (let sizes : size_in had ≡ size_in own = ap size_in same in
+            omega (arith, cut.from, cut.below, ap size_in cut.at, sizes))
       ]
 
-      each : (t : Tile) (after before : Bool) → is_tile new t ≡ after → is_tile old t ≡ before → times t [] ≡ (if after && not before then 1 else 0)
+      each : (t : Tile) (after before : Bool) → is_tile new t ≡ after → is_tile old t ≡ before
+          → times t [] ≡ (if after && not before then 1 else 0)
       each t true false is was = absurd (stays t (record { after = is; before = was }))
       each t true true is was = refl
       each t false before is was = refl

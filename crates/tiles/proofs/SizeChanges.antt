@@ -26,7 +26,8 @@ whole_other old new page k other others low apart =
 
 module _ (z : SizeSet) (old new : ℕ → Option Mapping) (page : ℕ) (others : OthersSame page old new) (q : ℕ) where
   -- in the page's tile nothing grows where that one doesn't, and all grows where it does
-  not_grown : q / 8 ^ size_by z new page ≡ page / 8 ^ size_by z new page → size_by z new page ≤ size_by z old page → size_by z new q ≤ size_by z old q
+  not_grown : q / 8 ^ size_by z new page ≡ page / 8 ^ size_by z new page → size_by z new page ≤ size_by z old page
+      → size_by z new q ≤ size_by z old q
   not_grown same le = elim (cases_lt 0 (size_by z new page)) [
     | inr none ↦ omega (arith, by_alike z new page q same, none)
     | inl above ↦
@@ -35,12 +36,14 @@ module _ (z : SizeSet) (old new : ℕ → Option Mapping) (page : ℕ) (others :
         omega (arith, by_alike z new page q same, at_most_size z old q k (by_small z new page) (has_within z (size_at new page)) passes)
   ]
 
-  grown : q / 8 ^ size_by z new page ≡ page / 8 ^ size_by z new page → size_by z old page < size_by z new page → size_by z old q < size_by z new q
+  grown : q / 8 ^ size_by z new page ≡ page / 8 ^ size_by z new page → size_by z old page < size_by z new page
+      → size_by z old q < size_by z new q
   grown same less = elim (cases_lt (size_by z old q) (size_by z new q)) [
     | inl is ↦ is
     | inr from ↦
         let k = size_by z new page in
-        let passes = sym (whole_alike old k page q same) ∙ whole_up_to z old q k (omega (arith, less)) (omega (arith, from, by_alike z new page q same)) in
+        let passes = sym (whole_alike old k page q same) ∙ whole_up_to z old q k (omega (arith, less))
+        (omega (arith, from, by_alike z new page q same)) in
         absurd (omega (arith, less, at_most_size z old page k (by_small z new page) (has_within z (size_at new page)) passes))
   ]
 
@@ -62,19 +65,22 @@ module _ (z : SizeSet) (old new : ℕ → Option Mapping) (page : ℕ) (others :
   ]
 
   -- a page is promoted where it begins the tile of the changed page, and that one grew
-  promoted_one : is_promoted_in z old new q ≡ (eqb q (extent_start (size_by z new page) page) && ltb (size_by z old page) (size_by z new page))
+  promoted_one : is_promoted_in z old new q ≡ (eqb q (extent_start (size_by z new page) page) && ltb (size_by z old page)
+      (size_by z new page))
   promoted_one =
       let s = size_by z new page in
       let b = size_by z old page in
       elim (cases_eq (q / 8 ^ s) (page / 8 ^ s)) [
         | inr apart ↦ none_grown z old new q (beside_kept apart) ∙ sym (ap (λ x. x && ltb b s) (elsewhere s page q apart))
         | inl same ↦ elim (cases_lt b s) [
-          | inr not ↦ none_grown z old new q (not_grown same not) ∙ sym (right_false (eqb q (extent_start s page)) (ltb b s) (not_less b s not))
+          | inr not ↦ none_grown z old new q (not_grown same not) ∙ sym
+              (right_false (eqb q (extent_start s page)) (ltb b s) (not_less b s not))
           | inl less ↦
               promoted_test z old new q
               ∙ swapped (ltb (size_by z old q) (size_by z new q)) (eqb (q % 8 ^ size_by z new q) 0) (eqb q (extent_start s page)) (ltb b s)
               (both_less (size_by z old q) (size_by z new q) b s (grown same less) less)
-              (ap (λ n. eqb (q % 8 ^ n) 0) (by_alike z new page q same) ∙ begins q s page (starts_below s q (by_small z new page)) (ap (λ n. n * 8 ^ s) same))
+              (ap (λ n. eqb (q % 8 ^ n) 0) (by_alike z new page q same)
+              ∙ begins q s page (starts_below s q (by_small z new page)) (ap (λ n. n * 8 ^ s) same))
         ]
       ]
     where
@@ -112,13 +118,16 @@ promotions_one z old new page others in_space =
     let s = size_by z new page in
     let starts = starts_below s page (by_small z new page) in
     let first : extent_start s page < 1048576 = omega (arith, starts.first) in
-    let tests : is_promoted_in z old new ≡ (λ q. eqb q (extent_start s page) && ltb (size_by z old page) s) = λ i q. promoted_one z old new page others q i in
+    let tests : is_promoted_in z old new ≡ (λ q. eqb q (extent_start s page) && ltb (size_by z old page) s) =
+    λ i q. promoted_one z old new page others q i in
     ap count_pages tests ∙ count_pages_at (extent_start s page) (ltb (size_by z old page) s) first
 
 -- no tile larger, no promotion
-pub promotions_none : (z : SizeSet) (old new : ℕ → Option Mapping) → ((q : ℕ) → size_by z new q ≤ size_by z old q) → promotions_in z old new ≡ 0
+pub promotions_none : (z : SizeSet) (old new : ℕ → Option Mapping) → ((q : ℕ) → size_by z new q ≤ size_by z old q)
+    → promotions_in z old new ≡ 0
 promotions_none z old new le =
-    ap count_pages (let tests : is_promoted_in z old new ≡ (λ q. false) = λ i q. none_grown z old new q (le q) i in tests) ∙ count_pages_none
+    ap count_pages (let tests : is_promoted_in z old new ≡ (λ q. false) = λ i q. none_grown z old new q (le q) i in tests)
+    ∙ count_pages_none
 
 -- a change of nothing makes and breaks no tile
 pub promotions_same : (z : SizeSet) (old new : ℕ → Option Mapping) → ((p : ℕ) → new p ≡ old p) → promotions_in z old new ≡ 0

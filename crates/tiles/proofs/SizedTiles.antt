@@ -33,14 +33,21 @@ start_nested n k page le =
 
 -- the part of a tile of a page's mapping is the smaller tile of it
 part_is : (n k page : ℕ) (m : Mapping) → n ≤ k → k ≤ 3 → page % 8 ^ k ≤ m.frame
-    → (record { extent = record { size = n; first = extent_start n page }; frame = m.frame - page % 8 ^ k + (extent_start n page - (page - page % 8 ^ k)); rights = m.rights; dirty = m.dirty } ≡ tile_by n page m)
+    → (record {
+      extent = record { size = n; first = extent_start n page };
+      frame = m.frame - page % 8 ^ k + (extent_start n page - (page - page % 8 ^ k));
+      rights = m.rights;
+      dirty =
+          m.dirty;
+    } ≡ tile_by n page m)
     × (page % 8 ^ n ≤ m.frame)
 part_is n k page m le low from =
     let outer = starts_below k page low in
     let inner = starts_below n page (omega (arith, le, low)) in
     let nested = start_nested n k page le in
     let less : page % 8 ^ n ≤ page % 8 ^ k = omega (arith, outer.first, inner.first, outer.within, inner.within, nested) in
-    let frame : m.frame - page % 8 ^ k + (extent_start n page - (page - page % 8 ^ k)) ≡ m.frame - page % 8 ^ n = omega (arith, less, from, inner.first, outer.within, inner.within) in (
+    let frame : m.frame - page % 8 ^ k + (extent_start n page - (page - page % 8 ^ k)) ≡ m.frame - page % 8 ^ n =
+    omega (arith, less, from, inner.first, outer.within, inner.within) in (
       λ i. record { extent = record { size = n; first = inner.first i }; frame = frame i; rights = m.rights; dirty = m.dirty },
       omega (arith, less, from),
     )
@@ -65,7 +72,8 @@ module _ (z : SizeSet) where
       ∙ ap Some (part_is (size_within z k) k page m (within_at_most z k) (size_small pages page) own.from_frame).0
 
   -- a page has its tile as before, where its mapping and its tile's size are as before
-  pub tile_in_same : (old new : ℕ → Option Mapping) (q : ℕ) → new q ≡ old q → size_by z new q ≡ size_by z old q → tile_in z new q ≡ tile_in z old q
+  pub tile_in_same : (old new : ℕ → Option Mapping) (q : ℕ) → new q ≡ old q → size_by z new q ≡ size_by z old q
+      → tile_in z new q ≡ tile_in z old q
   tile_in_same old new q same size = by_own (old q) refl
     where
       by_own : (o : Option Mapping) → old q ≡ o → tile_in z new q ≡ tile_in z old q
@@ -92,13 +100,15 @@ module _ (z : SizeSet) where
       → size_by z pages other ≡ size_by z pages page
   by_alike pages page other same =
       let s = size_at pages page in
-      ap (size_within z) (size_alike pages page other (coarser (size_within z s) s other page (within_at_most z s) (size_small pages page) same))
+      ap (size_within z) (size_alike pages page other (coarser (size_within z s) s other page (within_at_most z s)
+      (size_small pages page) same))
 
   -- up to it the extents round the page are eligible, and each of these sizes that is eligible is at most it
   pub whole_up_to : (pages : ℕ → Option Mapping) (page k : ℕ) → 0 < k → k ≤ size_by z pages page → whole pages k page ≡ true
   whole_up_to pages page k above low = whole_within pages page k above (omega (arith, low, within_at_most z (size_at pages page)))
 
-  pub at_most_size : (pages : ℕ → Option Mapping) (page k : ℕ) → k ≤ 3 → has_size z k ≡ true → whole pages k page ≡ true → k ≤ size_by z pages page
+  pub at_most_size : (pages : ℕ → Option Mapping) (page k : ℕ) → k ≤ 3 → has_size z k ≡ true → whole pages k page ≡ true
+      → k ≤ size_by z pages page
   at_most_size pages page k low has passes = within_largest z (size_at pages page) k has (within_size pages page k low passes)
 
   -- ---- which pages are the first of a tile
@@ -132,11 +142,13 @@ module _ (z : SizeSet) where
   positive a b h = grind (arith, nat_tests)
 
   -- a page is promoted by its tile's sizes alone
-  pub promoted_test : (old new : ℕ → Option Mapping) (q : ℕ) → is_promoted_in z old new q ≡ is_grown_at q (size_by z old q) (size_by z new q)
+  pub promoted_test : (old new : ℕ → Option Mapping) (q : ℕ) → is_promoted_in z old new q ≡ is_grown_at q (size_by z old q)
+      (size_by z new q)
   promoted_test old new q =
       let s = size_by z new q in
       let b = size_by z old q in
-      let sizes : ltb (tile_size_in z old q) (tile_size_in z new q) ≡ ltb b s = ap (λ n. ltb n (tile_size_in z new q)) (tile_size old q) ∙ ap (ltb b) (tile_size new q) in
+      let sizes : ltb (tile_size_in z old q) (tile_size_in z new q) ≡ ltb b s = ap (λ n. ltb n (tile_size_in z new q)) (tile_size old q)
+      ∙ ap (ltb b) (tile_size new q) in
       swap (begins_at q (tile_in z new q)) (ltb (tile_size_in z old q) (tile_size_in z new q)) (eqb (q % 8 ^ s) 0) (ltb b s)
       (λ grew. begins_cut new q (positive b s grew)) sizes
 
@@ -161,8 +173,11 @@ module _ (z : SizeSet) where
 pub size_local : (old new : ℕ → Option Mapping) (q : ℕ) → ((p : ℕ) → p / 512 ≡ q / 512 → new p ≡ old p) → size_at new q ≡ size_at old q
 size_local old new q same =
     let n = size_at old q in
-    let alike : (k : ℕ) → k ≤ 3 → whole old k q ≡ whole new k q = λ k low. whole_local old new k q low (λ p joined. sym (same p (coarser k 3 p q low (omega arith) joined))) in
-    size_is new q n (size_small old q) (λ positive. sym (alike n (size_small old q)) ∙ whole_within old q n positive (omega arith)) (λ k more low. sym (alike k low) ∙ whole_beyond old q k more low)
+    let alike : (k : ℕ) → k ≤ 3 → whole old k q ≡ whole new k q = λ k low. whole_local old new k q low
+    (λ p joined. sym (same p (coarser k 3 p q low (omega arith) joined))) in
+    size_is new q n (size_small old q) (λ positive. sym (alike n (size_small old q)) ∙ whole_within old q n positive (omega arith))
+    (λ k more low. sym (alike k low) ∙ whole_beyond old q k more low)
 
-pub local_by : (z : SizeSet) (old new : ℕ → Option Mapping) (q : ℕ) → ((p : ℕ) → p / 512 ≡ q / 512 → new p ≡ old p) → size_by z new q ≡ size_by z old q
+pub local_by : (z : SizeSet) (old new : ℕ → Option Mapping) (q : ℕ) → ((p : ℕ) → p / 512 ≡ q / 512 → new p ≡ old p)
+    → size_by z new q ≡ size_by z old q
 local_by z old new q same = ap (size_within z) (size_local old new q same)

@@ -11,7 +11,8 @@ use Rattle.tiles.proofs.Eligible.{HasExtent, has_whole, whole_none, none_whole, 
 use Rattle.tiles.proofs.Extents.{starts_below}
 use Rattle.tiles.proofs.Largest.{HasTile, tiles, resident_tile, size_is}
 
-eligible_alike : (pages : ℕ → Option Mapping) (k page other : ℕ) → other / 8 ^ k ≡ page / 8 ^ k → eligible_at pages k other ≡ eligible_at pages k page
+eligible_alike : (pages : ℕ → Option Mapping) (k page other : ℕ) → other / 8 ^ k ≡ page / 8 ^ k
+    → eligible_at pages k other ≡ eligible_at pages k page
 eligible_alike pages k page other same = ap (λ n. eligible_with pages k (n * 8 ^ k) (pages (n * 8 ^ k))) same
 
 tile_is_largest : (pages : ℕ → Option Mapping) (page size : ℕ) (tile : HasTile pages page size)
@@ -22,7 +23,8 @@ tile_is_largest pages page size tile =
     record {
       extent = (tile.low, mul-mod_left (page / 8 ^ size) (8 ^ size));
       eligible = eligible_alike pages size page first same ∙ eligible_is pages size page tile.has;
-      largest = λ k more low. whole_none pages k first (whole_alike pages k page first (coarser size k first page (omega arith) low same) ∙ tile.larger k more low);
+      largest = λ k more low. whole_none pages k first (whole_alike pages k page first (coarser size k first page (omega arith) low same)
+          ∙ tile.larger k more low);
     }
 
 -- the tile of a page is a largest eligible extent round it
@@ -31,8 +33,10 @@ pub tile_largest : (pages : ℕ → Option Mapping) (page : ℕ) (t : Tile) → 
 tile_largest pages page t at = elim (tiles pages page) [
   | inl none ↦ absurd (none-some t (sym none.is ∙ at))
   | inr tile ↦
-      let same : tile_with (size_at pages page) (extent_start (size_at pages page) page) tile.has.head ≡ t = same_Some _ t (sym tile.is ∙ at) in
-      subst (λ (u : Tile). IsTile pages u × (extent_start u.extent.size page ≡ u.extent.first)) same (tile_is_largest pages page (size_at pages page) tile, refl)
+      let same : tile_with (size_at pages page) (extent_start (size_at pages page) page) tile.has.head ≡ t =
+      same_Some _ t (sym tile.is ∙ at) in
+      subst (λ (u : Tile). IsTile pages u × (extent_start u.extent.size page ≡ u.extent.first)) same
+      (tile_is_largest pages page (size_at pages page) tile, refl)
 ]
 
 -- and each such extent is the tile of its pages
@@ -45,14 +49,16 @@ largest_tile pages page t is starts =
     let here : eligible_at pages s page ≡ Some t = sym (eligible_alike pages s page t.extent.first same) ∙ is.eligible in
     let has = eligible_has pages s page t here in
     let size : size_at pages page ≡ s = size_is pages page s low (λ positive. has_whole pages s page has) (λ k more small.
-    sym (whole_alike pages k page t.extent.first (coarser s k t.extent.first page (omega arith) small same)) ∙ none_whole pages k t.extent.first (is.largest k more small)) in
+    sym (whole_alike pages k page t.extent.first (coarser s k t.extent.first page (omega arith) small same))
+    ∙ none_whole pages k t.extent.first (is.largest k more small)) in
     let tile = resident_tile pages page _ (page_in pages s page page has low refl) in
     tile.is ∙ sym (eligible_is pages (size_at pages page) page tile.has) ∙ ap (λ k. eligible_at pages k page) size ∙ here
 
 -- so tiles with a page in common are one
 pub tiles_apart : (pages : ℕ → Option Mapping) (page : ℕ) (t u : Tile) → IsTile pages t → IsTile pages u
     → extent_start t.extent.size page ≡ t.extent.first → extent_start u.extent.size page ≡ u.extent.first → t ≡ u
-tiles_apart pages page t u is_t is_u of_t of_u = same_Some t u (sym (largest_tile pages page t is_t of_t) ∙ largest_tile pages page u is_u of_u)
+tiles_apart pages page t u is_t is_u of_t of_u = same_Some t u (sym (largest_tile pages page t is_t of_t)
+    ∙ largest_tile pages page u is_u of_u)
 
 -- ---- the pages of a tile
 
@@ -72,9 +78,15 @@ module _ (pages : ℕ → Option Mapping) (t : Tile) (is : IsTile pages t) where
   pub tile_aligned : t.frame % 8 ^ t.extent.size ≡ 0
   tile_aligned = ap (λ (u : Tile). u.frame % 8 ^ size) same ∙ has.is.aligned
 
-  pub tile_uniform : (region : ℕ) × ((i : ℕ) → i < 8 ^ t.extent.size → pages (t.extent.first + i) ≡ Some (record { frame = t.frame + i; region = region; rights = t.rights; dirty = t.dirty }))
+  pub tile_uniform : (region : ℕ) × ((i : ℕ) → i < 8 ^ t.extent.size → pages (t.extent.first + i) ≡ Some
+      (record { frame = t.frame + i; region = region; rights = t.rights; dirty = t.dirty }))
   tile_uniform = (
     has.head.region,
     λ i within. ap (λ n. pages (n + i)) (sym start_is) ∙ has.is.uniform i within
-        ∙ ap (λ (u : Tile). let m : Mapping = record { frame = u.frame + i; region = has.head.region; rights = u.rights; dirty = u.dirty } in Some m) (sym same),
+        ∙ ap (λ (u : Tile). let m : Mapping = record {
+          frame = u.frame + i;
+          region = has.head.region;
+          rights = u.rights;
+          dirty = u.dirty;
+        } in Some m) (sym same),
   )

@@ -46,24 +46,29 @@ module _ (z : SizeSet) (old new : ℕ → Option Mapping) where
 
   module _ (page : ℕ) (others : OthersSame page old new) where
     -- the tiles beside the larger of the page's two tiles stay
-    tile_beside : (over q : ℕ) → size_by z old page ≤ over → size_by z new page ≤ over → over ≤ 3 → q / 8 ^ over ≢ page / 8 ^ over → tile_in z new q ≡ tile_in z old q
+    tile_beside : (over q : ℕ) → size_by z old page ≤ over → size_by z new page ≤ over → over ≤ 3 → q / 8 ^ over ≢ page / 8 ^ over
+        → tile_in z new q ≡ tile_in z old q
     tile_beside over q before after low apart =
         let no_more = beside_kept z old new page others q (λ same. apart (coarser (size_by z new page) over q page after low same)) in
-        let no_less = beside_kept z new old page (others_back old new page others) q (λ same. apart (coarser (size_by z old page) over q page before low same)) in
+        let no_less = beside_kept z new old page (others_back old new page others) q
+        (λ same. apart (coarser (size_by z old page) over q page before low same)) in
         tile_in_same z old new q (others q (λ e. apart (ap (λ n. n / 8 ^ over) e))) (omega (arith, no_more, no_less))
 
     pub outside_larger : KeepsOutsideIn z (extent_range (max (size_by z old page) (size_by z new page)) page) old new
     outside_larger t tile out =
         let over = max (size_by z old page) (size_by z new page) in
         let apart = outside_apart (page / 8 ^ over) (8 ^ over) t.extent.first (eight_pos over) out in
-        ap (is_that_tile t) (tile_beside over t.extent.first (omega arith) (omega arith) (omega (arith, by_small z old page, by_small z new page)) apart) ∙ tile
+        ap (is_that_tile t) (tile_beside over t.extent.first (omega arith) (omega arith)
+        (omega (arith, by_small z old page, by_small z new page)) apart) ∙ tile
 
     -- and all of them do where the page wasn't resident and made no larger tile
     pub outside_none : (range : PageRange) → old page ≡ None → size_by z new page ≡ 0 → KeepsOutsideIn z range old new
     outside_none range absent small t tile out =
         let none : is_that_tile t (tile_in z old page) ≡ false = ap (is_that_tile t) (tile_absent_in z old page absent) in
-        let apart : t.extent.first / 8 ^ 0 ≢ page / 8 ^ 0 = λ e. true≢false (sym tile ∙ ap (λ q. is_that_tile t (tile_in z old q)) {x = t.extent.first} {y = page} (omega arith) ∙ none) in
-        ap (is_that_tile t) (tile_beside 0 t.extent.first (omega (arith, by_absent z old page absent)) (omega (arith, small)) (omega arith) apart) ∙ tile
+        let apart : t.extent.first / 8 ^ 0 ≢ page / 8 ^ 0 = λ e. true≢false
+        (sym tile ∙ ap (λ q. is_that_tile t (tile_in z old q)) {x = t.extent.first} {y = page} (omega arith) ∙ none) in
+        ap (is_that_tile t) (tile_beside 0 t.extent.first (omega (arith, by_absent z old page absent)) (omega (arith, small))
+        (omega arith) apart) ∙ tile
 
   -- ---- a block changed
 
@@ -72,10 +77,12 @@ module _ (z : SizeSet) (old new : ℕ → Option Mapping) where
   outside_block block range outside is t tile out =
       let q = t.extent.first in
       let apart = outside_apart block 512 q (omega arith) (ap (λ (r : PageRange). in_range r.first r.length q) (sym is) ∙ out) in
-      ap (is_that_tile t) (tile_in_same z old new q (outside q apart) (local_by z old new q (λ p joined. outside p (λ e. apart (sym joined ∙ e))))) ∙ tile
+      ap (is_that_tile t) (tile_in_same z old new q (outside q apart)
+      (local_by z old new q (λ p joined. outside p (λ e. apart (sym joined ∙ e))))) ∙ tile
 
 pub extent_in_space : (size page : ℕ) → size ≤ 3 → page < 1048576 → IsInSpace (extent_range size page)
 extent_in_space size page low in_space =
     let starts = starts_below size page low in
-    let within = extent_within size (extent_start size page) 2048 low (mul-mod_left (page / 8 ^ size) (8 ^ size)) (omega (arith, starts.first)) in
+    let within = extent_within size (extent_start size page) 2048 low (mul-mod_left (page / 8 ^ size) (8 ^ size))
+    (omega (arith, starts.first)) in
     omega (arith, within)

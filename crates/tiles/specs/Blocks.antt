@@ -14,13 +14,15 @@ KeepsRights first end rights pages = (p : ℕ) → first ≤ p → p < end → o
 -- the resident pages from first to before end have these rights, and all else is as before
 pub record ProtectsTo (first end : ℕ) (rights : Rights) (old new : Resident) : Type 0 where
   pub frames : frames_in new ≡ frames_in old
-  pub at : (p : ℕ) → mapping_at new p ≡ (if nat_le first p && nat_lt p end then option_map (with_rights rights) (mapping_at old p) else mapping_at old p)
+  pub at : (p : ℕ) → mapping_at new p ≡ (if nat_le first p && nat_lt p end then option_map (with_rights rights)
+      (mapping_at old p) else mapping_at old p)
 
 -- the resident pages of the range that are in the block have these rights
 pub record ProtectsInBlock (block first len : ℕ) (rights : Rights) (old new : Resident) : Type 0 where
   pub frames : frames_in new ≡ frames_in old
   pub at : (p : ℕ)
-      → mapping_at new p ≡ (if in_range first len p && (p / 512 == block) then option_map (with_rights rights) (mapping_at old p) else mapping_at old p)
+      → mapping_at new p ≡ (if in_range first len p && (p / 512 == block) then option_map (with_rights rights)
+      (mapping_at old p) else mapping_at old p)
 
 -- the sizes of the tiles by some sizes at the first of each eight pages of the block
 abbrev pub AreSizesOfBlock : SizeSet → ℕ → List ℕ → (ℕ → Option Mapping) → Type 0

@@ -32,7 +32,12 @@ pub record IsRound (page : ℕ) (t : Tile) : Type 0 where
 -- the part of a level of a tile from a page on
 abbrev pub part_from : ℕ → ℕ → Tile → Tile
 part_from level first whole =
-    record { extent = record { size = level; first = first }; frame = whole.frame + (first - whole.extent.first); rights = whole.rights; dirty = whole.dirty }
+    record {
+      extent = record { size = level; first = first };
+      frame = whole.frame + (first - whole.extent.first);
+      rights = whole.rights;
+      dirty = whole.dirty;
+    }
 
 -- the first page of one of the eight extents of a level that lie in the extent of the next one round a page
 abbrev pub part_start : ℕ → ℕ → ℕ → ℕ
@@ -121,7 +126,8 @@ moves_between page tile before after = record {
 
 -- the moves by some sizes: those of the page's tile, as it is cut to them
 abbrev pub moves_of : SizeSet → PageChange → Moves
-moves_of z changes = moves_between changes.page changes.before (size_within z (size_in changes.before)) (size_within z (size_in changes.after))
+moves_of z changes = moves_between changes.page changes.before (size_within z (size_in changes.before))
+    (size_within z (size_in changes.after))
 
 -- it is of a page of the space, and of tiles round it
 pub record IsTold (changes : PageChange) : Type 0 where

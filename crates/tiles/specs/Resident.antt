@@ -46,4 +46,5 @@ with_flag dirty m = record m { dirty = dirty }
 -- the resident pages of the range have these rights, and all else is as before
 pub record Protects (first len : ℕ) (rights : Rights) (old new : Resident) : Type 0 where
   pub frames : frames_in new ≡ frames_in old
-  pub at : (p : ℕ) → mapping_at new p ≡ (if in_range first len p then option_map (with_rights rights) (mapping_at old p) else mapping_at old p)
+  pub at : (p : ℕ) → mapping_at new p ≡ (if in_range first len p then option_map (with_rights rights)
+      (mapping_at old p) else mapping_at old p)

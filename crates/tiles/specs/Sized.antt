@@ -15,7 +15,8 @@ size_by z pages page = size_within z (size_at pages page)
 
 -- each tile by these sizes that begins outside of the range is one still
 abbrev pub KeepsOutsideIn : SizeSet → PageRange → (ℕ → Option Mapping) → (ℕ → Option Mapping) → Type 0
-KeepsOutsideIn z range old new = (t : Tile) → is_tile_in z old t ≡ true → is_touched range t.extent.first ≡ false → is_tile_in z new t ≡ true
+KeepsOutsideIn z range old new = (t : Tile) → is_tile_in z old t ≡ true → is_touched range t.extent.first ≡ false
+    → is_tile_in z new t ≡ true
 
 -- these are the tiles by these sizes that a change made larger, and that it broke, and where it touched those that there were
 pub record AreMovesIn (z : SizeSet) (old new : ℕ → Option Mapping) (moves : Moves) : Type 0 where

@@ -30,7 +30,8 @@ AreCounted-new begun images count n none all is few = record {
 pub AreCounted-below : (begun : List ℕ) (images : List (List Tile)) → AreCounted begun images → AreBelow 65535 begun
 AreCounted-below begun images counted r below =
     let each : All (λ image. class_count r image ≤ 128) images =
-    All-weaker (λ image. length image ≤ image_room) (λ image. class_count r image ≤ 128) (λ image short. omega (arith, short, count_by-le-length (is_of_class r) image)) images counted.short in
+    All-weaker (λ image. length image ≤ image_room) (λ image. class_count r image ≤ 128)
+    (λ image short. omega (arith, short, count_by-le-length (is_of_class r) image)) images counted.short in
     omega (arith, counted.each r below, counted.few, sum_by-le (class_count r) 128 images each)
 
 -- each image is counted
@@ -42,7 +43,8 @@ AreCounted-has begun images i d below counted = record {
 }
 
 -- one image is another, and the counts follow it
-pub AreCounted-set : (begun counts : List ℕ) (images : List (List Tile)) (i : ℕ) (image d : List Tile) → i < length images → AreCounted begun images
+pub AreCounted-set : (begun counts : List ℕ) (images : List (List Tile)) (i : ℕ) (image d : List Tile) → i < length images
+    → AreCounted begun images
     → Recounts begun counts (get_or images i d) image → length image ≤ image_room → AreCounted counts (set images i image)
 AreCounted-set begun counts images i image d below counted recounts short = record {
   few = omega (arith, length-set images i image, counted.few);
@@ -57,13 +59,15 @@ absent-uncounted t ts none =
     let r = t.extent.first % remainders in
     let weight : Tile → ℕ = λ u. if is_of_class r u then 1 else 0 in
     list_any_none (same_tile t) ts (λ k d below. false_from_ne_true _ (λ same.
-    let here : is_of_class r (get_or ts k d) ≡ true = eq-eqb _ _ (ap (λ u. u.extent.first % remainders) (sym (same_tile-true t (get_or ts k d) same))) in
+    let here : is_of_class r (get_or ts k d) ≡ true = eq-eqb _ _ (ap (λ u. u.extent.first % remainders)
+    (sym (same_tile-true t (get_or ts k d) same))) in
     let one : weight (get_or ts k d) ≡ 1 = ap (λ b. if b then 1 else 0) here in
     omega (arith, one, none, get_or-le-sum_by weight ts k d below)))
 
 -- where no count of the remainders of a range is above zero, no tile begins in it
 pub NoneBegins-uncounted : (begun : List ℕ) (images : List (List Tile)) (range : PageRange) (n : ℕ) → AreCounted begun images
-    → range.length ≤ remainders - range.first % remainders → n ≡ range.length → All (λ m. m ≡ 0) (take n (drop (range.first % remainders) begun)) → NoneBegins range images
+    → range.length ≤ remainders - range.first % remainders → n ≡ range.length
+    → All (λ m. m ≡ 0) (take n (drop (range.first % remainders) begun)) → NoneBegins range images
 NoneBegins-uncounted begun images range n counted within is zeros k d below j e inside =
     let image = get_or images k d in
     let t = get_or image j e in
@@ -73,14 +77,24 @@ NoneBegins-uncounted begun images range n counted within is zeros k d below j e 
     let bounds = in_bounds range.first range.length t.extent.first begins in
     let place : first + (t.extent.first - range.first) ≡ r = omega (arith, bounds, within) in
     let zero : get_or begun r 0 ≡ 0 =
-    rw (← place) (sym (get_or-take n (drop first begun) (t.extent.first - range.first) 0 (omega arith) ∙ get_or-drop first begun (t.extent.first - range.first) 0) ∙ zeros (t.extent.first - range.first) 0 (omega (arith, length-take n (drop first begun), length-drop first begun, counted.all))) in
+    rw (← place) (sym (get_or-take n (drop first begun) (t.extent.first - range.first) 0 (omega arith)
+    ∙ get_or-drop first begun (t.extent.first - range.first) 0) ∙ zeros (t.extent.first - range.first) 0
+    (omega (arith, length-take n (drop first begun), length-drop first begun, counted.all))) in
     let weight : Tile → ℕ = λ u. if is_of_class r u then 1 else 0 in
     let one : weight t ≡ 1 = ap (λ b. if b then 1 else 0) (eq-eqb r r refl) in
-    omega (arith, zero, one, counted.each r (omega arith), get_or-le-sum_by (class_count r) images k d below, get_or-le-sum_by weight image j e inside))
+    omega (
+      arith,
+      zero,
+      one,
+      counted.each r (omega arith),
+      get_or-le-sum_by (class_count r) images k d below,
+      get_or-le-sum_by weight image j e inside,
+    ))
 
 -- an image more is what f makes of it, as the loops over images go on
 pub mapped-more : (f : List Tile → List Tile) (old images : List (List Tile)) (i : ℕ) (image new : List Tile) → i < length old
-    → images ≡ map f (take i old) ++ drop i old → image ≡ get_or images i image → new ≡ f image → set images i new ≡ map f (take (i + 1) old) ++ drop (i + 1) old
+    → images ≡ map f (take i old) ++ drop i old → image ≡ get_or images i image → new ≡ f image
+    → set images i new ≡ map f (take (i + 1) old) ++ drop (i + 1) old
 mapped-more f old images i image new below is at to = rw to (map_over_more f old images i image below is at)
 
 pub touched-short : (t : Tile) (ts : List Tile) → length (touched t ts) ≤ image_room

@@ -72,11 +72,19 @@ found-list_any p (x ∷ xs) =
       | inl h ↦ lt-ltb (1 + n) (suc m) (omega arith) ∙ sym (lt-ltb n m h)
       | inr h ↦ le-ltb (1 + n) (suc m) (omega arith) ∙ sym (le-ltb n m h)
     ] in
-    elim (p x) as (λ b. nat_lt (cond (not b) (1 + position_or_len p xs) 0) (suc (length xs)) ≡ (b || list_any p xs)) [ true ↦ lt-ltb 0 (suc m) (omega arith) | false ↦ later ∙ found-list_any p xs ]
+    elim (p x) as (λ b. nat_lt (cond (not b) (1 + position_or_len p xs) 0) (suc (length xs)) ≡ (b || list_any p xs)) [
+      | true ↦
+          lt-ltb 0 (suc m) (omega arith)
+      | false ↦ later ∙ found-list_any p xs
+    ]
 
 pub is_some-position : {X : Type 0} (p : X → Bool) (xs : List X) → is_some (position p xs) ≡ list_any p xs
 is_some-position p xs =
-    elim (nat_lt (position_or_len p xs) (length xs)) as (λ b. is_some (cond b (Some (position_or_len p xs)) None) ≡ b) [ true ↦ refl | false ↦ refl ]
+    elim (nat_lt (position_or_len p xs) (length xs)) as (λ b. is_some (cond b (Some (position_or_len p xs)) None) ≡ b) [
+      | true ↦
+          refl
+      | false ↦ refl
+    ]
     ∙ found-list_any p xs
 
 IsImage-without : (t : Tile) (ts : List Tile) → IsImage ts → IsImage (without t ts)
@@ -104,7 +112,8 @@ touched-found t ts n d image is =
 Once-take : (n : ℕ) (ts : List Tile) → Once ts → Once (take n ts)
 Once-take n ts once i j d lt below =
     let lengths = length-take n ts in
-    rw (get_or-take n ts i d (omega (arith, lengths)), get_or-take n ts j d (omega (arith, lengths))) (once i j d lt (omega (arith, lengths)))
+    rw (get_or-take n ts i d (omega (arith, lengths)), get_or-take n ts j d (omega (arith, lengths)))
+    (once i j d lt (omega (arith, lengths)))
 
 pub IsImage-touched : (t : Tile) (ts : List Tile) → IsImage ts → IsImage (touched t ts)
 IsImage-touched t ts image =
@@ -117,13 +126,15 @@ IsImage-touched t ts image =
     }
 
 -- bringing a tile to the front loses none, and makes no other
-pub count-turned : (f : Tile → Bool) (ts : List Tile) (n : ℕ) (d : Tile) → n < length ts → count_by f (get_or ts n d ∷ remove ts n) ≡ count_by f ts
+pub count-turned : (f : Tile → Bool) (ts : List Tile) (n : ℕ) (d : Tile) → n < length ts
+    → count_by f (get_or ts n d ∷ remove ts n) ≡ count_by f ts
 count-turned f ts n d below =
     omega (arith, sum_by-cons (λ u. cond (f u) 1 0) (get_or ts n d) (remove ts n), sum_by-remove (λ u. cond (f u) 1 0) ts n d below)
 
 -- turning the front of a list by one brings the place that it ends with to the front
 pub turned : (ts : List Tile) (n : ℕ) (d : Tile) → n < length ts
-    → (let front = take (n + 1) ts in (drop (length front - 1) front ++ take (length front - 1) front) ++ drop (n + 1) ts ≡ get_or ts n d ∷ remove ts n)
+    → (let front = take (n + 1) ts in (drop (length front - 1) front ++ take (length front - 1) front) ++ drop
+    (n + 1) ts ≡ get_or ts n d ∷ remove ts n)
 turned ts n d below =
     let front : List Tile = take (n + 1) ts in
     let one : length front - 1 ≡ n = omega (arith, length-take-le (n + 1) ts (omega arith)) in
@@ -161,7 +172,12 @@ pub count-picked : (f : Tile → Bool) (bs : List Bool) (ts : List Tile) → cou
 count-picked f [] ts = omega arith
 count-picked f (b ∷ bs) [] = omega arith
 count-picked f (true ∷ bs) (t ∷ ts) =
-    omega (arith, sum_by-cons (λ u. cond (f u) 1 0) t (items_where_true bs ts), sum_by-cons (λ u. cond (f u) 1 0) t ts, count-picked f bs ts)
+    omega (
+      arith,
+      sum_by-cons (λ u. cond (f u) 1 0) t (items_where_true bs ts),
+      sum_by-cons (λ u. cond (f u) 1 0) t ts,
+      count-picked f bs ts,
+    )
 count-picked f (false ∷ bs) (t ∷ ts) = omega (arith, sum_by-cons (λ u. cond (f u) 1 0) t ts, count-picked f bs ts)
 
 -- where none begins in the range, none of those in it goes

@@ -1,6 +1,7 @@
 -- How many tiles of all images begin at pages of each remainder.
 use Rattle.std.specs.Prelude.{ℕ, ◌≡◌, ◌+◌, ◌%◌, ◌<◌, ◌≤◌, ◌==◌, Bool, false, All, List, length, count_by, slice_index}
 use Rattle.std.specs.List.{sum_by}
+use Rattle.pager_model.specs.Bounds.{most_actors}
 use Rattle.pager_model.specs.declared.page_range.PageRange.{PageRange}
 use Rattle.pager_model.specs.declared.tile.Tile.{Tile}
 use Rattle.pager_model.specs.Images.{image_room}
@@ -19,7 +20,7 @@ class_count r tiles = count_by (is_of_class r) tiles
 
 -- the counts of all images
 pub record AreCounted (begun : List ℕ) (images : List (List Tile)) : Type 0 where
-  pub few : length images ≤ 17
+  pub few : length images ≤ most_actors
   pub short : All (λ image. length image ≤ image_room) images
   pub all : length begun ≡ remainders
   pub each : (r : ℕ) → r < remainders → slice_index begun r ≡ sum_by (class_count r) images

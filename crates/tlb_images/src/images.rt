@@ -2,6 +2,7 @@
 
 ghost use Rattle.std.specs.Prelude.{All, ◌≡◌, ◌+◌, ◌%◌, ◌^◌, ◌<◌, ◌≤◌, [], ◌∷◌, ◌-◌, ℕ, Bool, Some, false, not, ◌||◌, filter, length, map, replicate, slice_index, slice_index_or, slice_set, IfOk};
 ghost use Rattle.std.specs.Fn.{FnReturnsAt};
+ghost use Rattle.pager_model.specs.Bounds.{most_actors};
 ghost use Rattle.pager_model.specs.declared.tile.Tile.{Tile as Item};
 ghost use Rattle.pager_model.specs.Images.{image_room, is_in_image, touched};
 ghost use Rattle.tlb_images.specs.Counted.{AreCounted, remainders, class_count, HasCounts, AreBelow, Recounts, NoneBegins};
@@ -40,7 +41,7 @@ impl Model for Images {
 impl Images {
     /// An image without a tile for each of so many processors.
     pub fn create(alloc: Global, processors: u32) -> Result<Images, NoMemory>
-        requires { processors ≤ 17 }
+        requires { processors ≤ most_actors }
         ensures { IfOk result (λ images. images ≡ replicate processors []) }
     {
         let mut images = Vec::with_capacity(alloc, processors as usize)?;

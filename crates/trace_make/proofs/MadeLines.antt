@@ -11,7 +11,8 @@ use Rattle.trace_make.specs.Made.{CanMake, after_line, call_of_kind, drawn_addre
 
 -- the first of the lines that are left, and the others
 drawn_next : (processors spaces count i x : ℕ) → i < count
-    → drawn_lines processors spaces (count - i) x ≡ drawn_line processors spaces x ∷ drawn_lines processors spaces (count - (i + 1)) (after_line x)
+    → drawn_lines processors spaces (count - i) x ≡ drawn_line processors spaces x ∷ drawn_lines processors spaces (count - (i + 1))
+    (after_line x)
 drawn_next processors spaces count i x below =
     let e : count - i ≡ suc (count - (i + 1)) = omega arith in
     ap (λ n. drawn_lines processors spaces n x) e
@@ -32,7 +33,8 @@ either P false x y first second = second
 page_within : (x : ℕ) → drawn_page x < 4096
 unfolding drawn_page
 page_within x =
-    either (λ n. drawn (next_state x) n < 4096) (eqb (drawn x 8) 0) 4096 512 (mod_below _ 4096 (omega arith)) (let small = mod_below (next_state (next_state x) / 2 ^ 33) 512 (omega arith) in omega (arith, small))
+    either (λ n. drawn (next_state x) n < 4096) (eqb (drawn x 8) 0) 4096 512 (mod_below _ 4096 (omega arith))
+    (let small = mod_below (next_state (next_state x) / 2 ^ 33) 512 (omega arith) in omega (arith, small))
 
 -- a word of a page lies in the space
 is_word : (page word : ℕ) → page < 4096 → word < 1024 → ((page * 8192 + 8 * word) % 8 ≡ 0) × (page * 8192 + 8 * word < 8589934592)
@@ -49,7 +51,12 @@ call_is : (spaces space page kind x : ℕ) → space < spaces → page < 4096 �
 call_is spaces space page kind x below within =
     let here : page < 1048576 = omega (arith, within) in
     either (IsCall spaces) (ltb kind 40) _ _ (below, (is_address page x within).0, (is_address page x within).1)
-    (either (IsCall spaces) (ltb kind 58) _ _ (below, (is_address page x within).0, (is_address page x within).1, mod_below (next_state x * 6364136223846793005 + 1442695040888963407) (2 ^ 64) (omega arith))
+    (either (IsCall spaces) (ltb kind 58) _ _ (
+      below,
+      (is_address page x within).0,
+      (is_address page x within).1,
+      mod_below (next_state x * 6364136223846793005 + 1442695040888963407) (2 ^ 64) (omega arith),
+    )
     (either (IsCall spaces) (ltb kind 60) _ _ (below, here)
     (either (IsCall spaces) (ltb kind 62) _ _ (below, here)
     (below, omega (arith, here), omega arith, omega arith))))
@@ -61,12 +68,15 @@ line_is processors spaces x some own =
     let third = next_state second in
     let fifth = next_state (next_state third) in (
       mod_below (second / 2 ^ 33) processors some,
-      call_is spaces (drawn second spaces) (drawn_page third) (drawn fifth 64) (next_state fifth) (mod_below (third / 2 ^ 33) spaces own) (page_within third),
+      call_is spaces (drawn second spaces) (drawn_page third) (drawn fifth 64) (next_state fifth) (mod_below (third / 2 ^ 33) spaces own)
+          (page_within third),
     )
 
-lines_are : (processors spaces count x : ℕ) → 0 < processors → 0 < spaces → AllByRecursion (IsLine processors spaces) (drawn_lines processors spaces count x)
+lines_are : (processors spaces count x : ℕ) → 0 < processors → 0 < spaces
+    → AllByRecursion (IsLine processors spaces) (drawn_lines processors spaces count x)
 lines_are processors spaces zero x some own = tt
-lines_are processors spaces (suc n) x some own = (line_is processors spaces x some own, lines_are processors spaces n (after_line x) some own)
+lines_are processors spaces (suc n) x some own =
+    (line_is processors spaces x some own, lines_are processors spaces n (after_line x) some own)
 
 drawn_count : (processors spaces count x : ℕ) → length (drawn_lines processors spaces count x) ≡ count
 drawn_count processors spaces zero x = refl
@@ -76,7 +86,8 @@ map_is : (processors spaces space : ℕ) → 0 < processors → space < spaces �
 unfolding map_line
 map_is processors spaces space some below = (mod_below space processors some, (below, omega arith, omega arith, omega arith))
 
-pub HasText-made : (number calls processors spaces frames : ℕ) → CanMake calls processors spaces frames → HasText (made number calls processors spaces frames)
+pub HasText-made : (number calls processors spaces frames : ℕ) → CanMake calls processors spaces frames
+    → HasText (made number calls processors spaces frames)
 HasText-made number calls processors spaces frames can =
     let some : 0 < processors = omega (arith, can.processors_in.0) in
     let own : 0 < spaces = omega (arith, can.spaces_in.0) in
@@ -92,7 +103,16 @@ HasText-made number calls processors spaces frames can =
       daemon_in = tt;
       lines = All-append (IsLine processors spaces) maps lines
           (All-from_get_or (IsLine processors spaces) maps (map_line processors 0) (λ i below.
-          subst (IsLine processors spaces) (sym (get_or-map-range_with_len (map_line processors) 0 spaces i i (map_line processors 0) (omega (arith, below, long)) (omega arith))) (map_is processors spaces i some (omega (arith, below, long)))))
+          subst (IsLine processors spaces)
+          (sym (get_or-map-range_with_len (map_line processors) 0 spaces i i (map_line processors 0) (omega (arith, below, long))
+          (omega arith))) (map_is processors spaces i some (omega (arith, below, long)))))
           (All-from_recursion (IsLine processors spaces) lines (lines_are processors spaces (calls - spaces) number some own));
-      few = omega (arith, length-append maps lines, long, drawn_count processors spaces (calls - spaces) number, can.calls_in.0, can.calls_in.1);
+      few = omega (
+        arith,
+        length-append maps lines,
+        long,
+        drawn_count processors spaces (calls - spaces) number,
+        can.calls_in.0,
+        can.calls_in.1,
+      );
     }

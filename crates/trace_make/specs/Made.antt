@@ -9,7 +9,7 @@ use Rattle.pager_model.specs.declared.call.Line.{Line}
 use Rattle.pager_model.specs.declared.region.Kind.TheVariants.{Fixed}
 use Rattle.pager_model.specs.declared.region.Rights.{Rights}
 use Rattle.pager_model.specs.declared.region.Rights.TheVariants.{Read, Write}
-use Rattle.pager_model.specs.Bounds.{most_calls, most_frames}
+use Rattle.pager_model.specs.Bounds.{most_calls, most_frames, most_processors, most_spaces}
 use Rattle.pager_model.specs.Plans.{Plan}
 use Rattle.pager_model.specs.SizeSets.{all_sizes}
 use Rattle.pager_model.specs.TurnOrders.{next_state, drawn}
@@ -19,8 +19,8 @@ use Rattle.pager_model.specs.TurnOrders.{next_state, drawn}
 pub record CanMake (calls processors spaces frames : ℕ) : Type 0 where
   pub frames_in : (512 ≤ frames) × (frames ≤ most_frames)
   pub frames_whole : frames % 512 ≡ 0
-  pub processors_in : (1 ≤ processors) × (processors ≤ 16)
-  pub spaces_in : (1 ≤ spaces) × (spaces ≤ 16)
+  pub processors_in : (1 ≤ processors) × (processors ≤ most_processors)
+  pub spaces_in : (1 ≤ spaces) × (spaces ≤ most_spaces)
   pub calls_in : (spaces ≤ calls) × (calls ≤ most_calls)
 
 -- the map of a space's region, by the processor whose turn it is
@@ -71,7 +71,8 @@ unfoldable pub drawn_line : (processors spaces x : ℕ) → Line
 drawn_line processors spaces x =
     record {
       processor = drawn x processors;
-      call = drawn_call (drawn (next_state x) spaces) (drawn_page (next_state (next_state x))) (next_state (next_state (next_state (next_state x))));
+      call = drawn_call (drawn (next_state x) spaces) (drawn_page (next_state (next_state x)))
+          (next_state (next_state (next_state (next_state x))));
     }
 
 unfoldable pub after_line : ℕ → ℕ
@@ -90,4 +91,12 @@ made_calls number calls processors spaces =
 -- the trace that is made from this number, of so many calls
 abbrev pub made : (number calls processors spaces frames : ℕ) → Plan
 made number calls processors spaces frames =
-    record { version = 1; frames = frames; processors = processors; spaces = spaces; sizes = all_sizes; daemon = None; calls = made_calls number calls processors spaces }
+    record {
+      version = 1;
+      frames = frames;
+      processors = processors;
+      spaces = spaces;
+      sizes = all_sizes;
+      daemon = None;
+      calls = made_calls number calls processors spaces;
+    }

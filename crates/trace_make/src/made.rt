@@ -5,7 +5,9 @@ ghost use Rattle.std.specs.List.{range_with_len};
 ghost use Rattle.pager_model.specs.TurnOrders.{next_state};
 ghost use Rattle.trace_make.specs.Made.{CanMake, after_call, after_line, drawn_address, drawn_call, drawn_line, drawn_lines, drawn_page, drawn_rights, made, map_line};
 
-use pager_model::{Call, Generator, Kind, Line, NoMemory, Rights, Sizes, Trace};
+use pager_model::{
+    Call, Generator, Kind, Line, NoMemory, PAGE_BYTES, Rights, Sizes, Trace, WORD_BYTES, WORDS,
+};
 use std::alloc::Global;
 
 /// How many pages the region of each space has.
@@ -13,15 +15,6 @@ const REGION: u32 = 4096;
 
 /// At how many of them, its first, most calls are.
 const OFTEN: u32 = 512;
-
-/// The bytes of a page.
-const PAGE_BYTES: u64 = 8192;
-
-/// The bytes of a word.
-const WORD_BYTES: u64 = 8;
-
-/// The words of a page.
-const PAGE_WORDS: u32 = 1024;
 
 /// Makes a trace from a number, by drawing from it as Knuth's generator of MMIX does: a map of 4,096 pages of each space, and then loads,
 /// stores, syncs, evicts and protects, most of them at the first 512 pages.
@@ -164,7 +157,7 @@ fn drawn_address(generator: &mut Generator, page: u32) -> u64
     ensures address { result ≡ drawn_address page generator.old }
     ensures after { generator.new ≡ next_state generator.old }
 {
-    u64::from(page) * PAGE_BYTES + WORD_BYTES * u64::from(generator.draw(PAGE_WORDS))
+    u64::from(page) * PAGE_BYTES + WORD_BYTES * u64::from(generator.draw(WORDS as u32))
 }
 
 /// Draws the right to read or to write.

@@ -75,14 +75,27 @@ unnamed_or true word is = tt
 unnamed_or false word is = (is, tt)
 
 call_words_are : (spaces : ℕ) (call : Call) → spaces ≤ 2 ^ 64 → IsCall spaces call → AllByRecursion IsWord (call_words call)
-call_words_are spaces (Map space page len kind rights) few is =
-    (is_word (codes "map") refl, (decimal_is space (omega arith), (decimal_is page (omega arith), (decimal_is len (omega arith), (kind_is kind, (rights_are rights, tt))))))
+call_words_are spaces (Map space page len kind rights) few is = (
+  is_word (codes "map") refl,
+  (
+    decimal_is space (omega arith),
+    (
+      decimal_is page (omega arith),
+      (decimal_is len (omega arith), (kind_is kind, (rights_are rights, tt))),
+    ),
+  ),
+)
 call_words_are spaces (Grow space page by) few is =
     (is_word (codes "grow") refl, (decimal_is space (omega arith), (decimal_is page (omega arith), (decimal_is by (omega arith), tt))))
 call_words_are spaces (Unmap space page) few is =
     (is_word (codes "unmap") refl, (decimal_is space (omega arith), (decimal_is page (omega arith), tt)))
-call_words_are spaces (Protect space page len rights) few is =
-    (is_word (codes "protect") refl, (decimal_is space (omega arith), (decimal_is page (omega arith), (decimal_is len (omega arith), (rights_are rights, tt)))))
+call_words_are spaces (Protect space page len rights) few is = (
+  is_word (codes "protect") refl,
+  (
+    decimal_is space (omega arith),
+    (decimal_is page (omega arith), (decimal_is len (omega arith), (rights_are rights, tt))),
+  ),
+)
 call_words_are spaces (Load space address) few is =
     (is_word (codes "load") refl, (decimal_is space (omega arith), (decimal_is address (omega arith), tt)))
 call_words_are spaces (Store space address word) few is =
@@ -94,13 +107,26 @@ call_words_are spaces (Evict space page) few is =
 
 line_words_are : (processors spaces : ℕ) (line : Line) → processors ≤ 2 ^ 64 → spaces ≤ 2 ^ 64 → IsLine processors spaces line
     → AllByRecursion IsWord (line_words line)
-line_words_are processors spaces line some few is = (decimal_is line.processor (omega (arith, is.0)), call_words_are spaces line.call few is.1)
+line_words_are processors spaces line some few is =
+    (decimal_is line.processor (omega (arith, is.0)), call_words_are spaces line.call few is.1)
 
-first_words_are : (plan : Plan) → HasText plan → AllByRecursion IsWord (first_words plan.version plan.frames plan.processors plan.spaces plan.sizes)
+first_words_are : (plan : Plan) → HasText plan → AllByRecursion IsWord
+    (first_words plan.version plan.frames plan.processors plan.spaces plan.sizes)
 first_words_are plan has =
     let version = version_low plan.version plan.sizes has.version_in in
-    let sizes = sizes_are plan.sizes.one plan.sizes.two plan.sizes.three in
-    (is_word (codes "trace") refl, (decimal_is plan.version (omega (arith, version)), (decimal_is plan.frames (omega (arith, has.frames_in)), (decimal_is plan.processors (omega (arith, has.processors_in)), (decimal_is plan.spaces (omega (arith, has.spaces_in)), unnamed_or (plan.version == 1) (sizes_word plan.sizes) sizes)))))
+    let sizes = sizes_are plan.sizes.one plan.sizes.two plan.sizes.three in (
+      is_word (codes "trace") refl,
+      (
+        decimal_is plan.version (omega (arith, version)),
+        (
+          decimal_is plan.frames (omega (arith, has.frames_in)),
+          (
+            decimal_is plan.processors (omega (arith, has.processors_in)),
+            (decimal_is plan.spaces (omega (arith, has.spaces_in)), unnamed_or (plan.version == 1) (sizes_word plan.sizes) sizes),
+          ),
+        ),
+      ),
+    )
 
 -- ---- what was joined is cut again
 
@@ -113,10 +139,12 @@ lacks_all : (byte : ℕ) (word : List ℕ) → byte ≤ 32 → IsWord word → A
 lacks_all byte word low is = All-from_recursion _ word (lacks byte word low is)
 
 -- the words of a line that was joined of some
-pub words_again : (word : List ℕ) (words : List (List ℕ)) → AllByRecursion IsWord (word ∷ words) → words_of (join_with_byte 32 (word ∷ words)) ≡ word ∷ words
+pub words_again : (word : List ℕ) (words : List (List ℕ)) → AllByRecursion IsWord (word ∷ words)
+    → words_of (join_with_byte 32 (word ∷ words)) ≡ word ∷ words
 words_again word [] are = slice_split_none (λ b. eqb b 32) word (lacks_all 32 word (lit≤ tt) are.0)
 words_again word (next ∷ words) are =
-    slice_split_at (λ b. eqb b 32) word 32 (join_with_byte 32 (next ∷ words)) (lacks_all 32 word (lit≤ tt) are.0) refl ∙ ap (λ (x : List (List ℕ)). word ∷ x) (words_again next words are.1)
+    slice_split_at (λ b. eqb b 32) word 32 (join_with_byte 32 (next ∷ words)) (lacks_all 32 word (lit≤ tt) are.0) refl
+    ∙ ap (λ (x : List (List ℕ)). word ∷ x) (words_again next words are.1)
 
 abbrev IsNoFeed : ℕ → Type 0
 IsNoFeed b = eqb b 10 ≡ false
@@ -125,13 +153,15 @@ no_feed : (words : List (List ℕ)) → AllByRecursion IsWord words → All IsNo
 no_feed [] are = All-nil IsNoFeed
 no_feed (word ∷ []) are = lacks_all 10 word (omega arith) are.0
 no_feed (word ∷ next ∷ words) are =
-    All-append IsNoFeed word (32 ∷ join_with_byte 32 (next ∷ words)) (lacks_all 10 word (omega arith) are.0) (All-cons IsNoFeed 32 (join_with_byte 32 (next ∷ words)) refl (no_feed (next ∷ words) are.1))
+    All-append IsNoFeed word (32 ∷ join_with_byte 32 (next ∷ words)) (lacks_all 10 word (omega arith) are.0)
+    (All-cons IsNoFeed 32 (join_with_byte 32 (next ∷ words)) refl (no_feed (next ∷ words) are.1))
 
 -- the first line of a text that begins with these words
 pub line_again : (words : List (List ℕ)) (rest : List ℕ) → AllByRecursion IsWord words
     → lines_of (line_of_words words ++ rest) ≡ join_with_byte 32 words ∷ lines_of rest
 line_again words rest are =
-    ap lines_of (append_assoc (join_with_byte 32 words) (10 ∷ []) rest) ∙ slice_split_at (λ b. eqb b 10) (join_with_byte 32 words) 10 rest (no_feed words are) refl
+    ap lines_of (append_assoc (join_with_byte 32 words) (10 ∷ []) rest)
+    ∙ slice_split_at (λ b. eqb b 10) (join_with_byte 32 words) 10 rest (no_feed words are) refl
 
 -- ---- the lines of calls
 
@@ -144,17 +174,20 @@ calls_text calls = flat_map call_line calls ++ end_line
 
 pub calls_text-cons : (call : Line) (calls : List Line) → calls_text (call ∷ calls) ≡ call_line call ++ calls_text calls
 calls_text-cons call calls =
-    ap (λ (x : List ℕ). x ++ end_line) (flat_map-cons call_line call calls) ∙ append_assoc (call_line call) (flat_map call_line calls) end_line
+    ap (λ (x : List ℕ). x ++ end_line) (flat_map-cons call_line call calls)
+    ∙ append_assoc (call_line call) (flat_map call_line calls) end_line
 
 pub call_again : (processors spaces : ℕ) (call : Line) (calls : List Line) → processors ≤ 2 ^ 64 → spaces ≤ 2 ^ 64
     → IsLine processors spaces call
     → lines_of (calls_text (call ∷ calls)) ≡ join_with_byte 32 (line_words call) ∷ lines_of (calls_text calls)
 call_again processors spaces call calls some few is =
-    ap lines_of (calls_text-cons call calls) ∙ line_again (line_words call) (calls_text calls) (line_words_are processors spaces call some few is)
+    ap lines_of (calls_text-cons call calls) ∙ line_again (line_words call) (calls_text calls)
+    (line_words_are processors spaces call some few is)
 
 pub call_words_again : (processors spaces : ℕ) (call : Line) → processors ≤ 2 ^ 64 → spaces ≤ 2 ^ 64 → IsLine processors spaces call
     → words_of (join_with_byte 32 (line_words call)) ≡ line_words call
-call_words_again processors spaces call some few is = words_again (decimal call.processor) (call_words call.call) (line_words_are processors spaces call some few is)
+call_words_again processors spaces call some few is = words_again (decimal call.processor) (call_words call.call)
+    (line_words_are processors spaces call some few is)
 
 three_words : (call : Call) → 3 ≤ length (call_words call)
 three_words (Map space page len kind rights) = omega arith
@@ -183,14 +216,18 @@ calls_are_lawful : (processors spaces number before : ℕ) (calls : List Line) �
     → calls_refusal (call_forms processors spaces) number before (lines_of (calls_text calls)) ≡ None
 calls_are_lawful processors spaces number before [] some few are in' = refl
 calls_are_lawful processors spaces number before (call ∷ calls) some few are in' =
-    let lawful : line_fault (call_forms processors spaces) (words_of (join_with_byte 32 (line_words call))) ≡ None = rw (call_words_again processors spaces call some few are.0) (line_is_lawful processors spaces call some few are.0) in
-    let next = goes_on (call_forms processors spaces) number before (calls_text (call ∷ calls)) (join_with_byte 32 (line_words call)) (calls_text calls) (call_again processors spaces call calls some few are.0) (call_is_not_end processors spaces call some few are.0) lawful (λ e. omega arith) in
+    let lawful : line_fault (call_forms processors spaces) (words_of (join_with_byte 32 (line_words call))) ≡ None =
+    rw (call_words_again processors spaces call some few are.0) (line_is_lawful processors spaces call some few are.0) in
+    let next = goes_on (call_forms processors spaces) number before (calls_text (call ∷ calls)) (join_with_byte 32 (line_words call))
+    (calls_text calls) (call_again processors spaces call calls some few are.0)
+    (call_is_not_end processors spaces call some few are.0) lawful (λ e. omega arith) in
     next ∙ calls_are_lawful processors spaces (number + 1) (before + 1) calls some few are.1 (omega arith)
 
 -- ---- the second line
 
 daemon_words_are : (d : Daemon) → IsDaemon (Some d) → AllByRecursion IsWord (daemon_words d)
-daemon_words_are d is = (is_word (codes "daemon") refl, (decimal_is d.low (omega (arith, is.0)), (decimal_is d.turns (omega (arith, is.1)), tt)))
+daemon_words_are d is =
+    (is_word (codes "daemon") refl, (decimal_is d.low (omega (arith, is.0)), (decimal_is d.turns (omega (arith, is.1)), tt)))
 
 -- the lines behind the first
 abbrev pub behind_text : Option Daemon → List Line → List ℕ
@@ -209,40 +246,66 @@ pub call_is_no_daemons : (processors spaces : ℕ) (call : Line) → processors 
 call_is_no_daemons processors spaces call some few is =
     elim (cases_Bool (fits daemon_form (words_of (join_with_byte 32 (line_words call))))) [
       | inl same ↦
-          absurd (omega (arith, fits_length daemon_form (words_of (join_with_byte 32 (line_words call))) same, ap length (call_words_again processors spaces call some few is), three_words call.call))
+          absurd (omega (
+            arith,
+            fits_length daemon_form (words_of (join_with_byte 32 (line_words call))) same,
+            ap length (call_words_again processors spaces call some few is),
+            three_words call.call,
+          ))
       | inr other ↦ other
     ]
 
 daemon_is_lawful : (processors spaces : ℕ) (daemon : Option Daemon) (calls : List Line) → processors ≤ 2 ^ 64 → spaces ≤ 2 ^ 64
     → IsDaemon daemon → AllByRecursion (IsLine processors spaces) calls
-    → second_refusal (call_forms processors spaces) (lines_of (behind_text daemon calls)) ≡ calls_refusal (call_forms processors spaces) (first_call daemon) 0 (lines_of (calls_text calls))
+    → second_refusal (call_forms processors spaces) (lines_of (behind_text daemon calls)) ≡ calls_refusal (call_forms processors spaces)
+    (first_call daemon) 0 (lines_of (calls_text calls))
 daemon_is_lawful processors spaces None [] some few is are = refl
 daemon_is_lawful processors spaces None (call ∷ calls) some few is are =
-    no_daemon (call_forms processors spaces) (calls_text (call ∷ calls)) (join_with_byte 32 (line_words call)) (calls_text calls) (call_again processors spaces call calls some few are.0) (call_is_no_daemons processors spaces call some few are.0)
+    no_daemon (call_forms processors spaces) (calls_text (call ∷ calls)) (join_with_byte 32 (line_words call)) (calls_text calls)
+    (call_again processors spaces call calls some few are.0) (call_is_no_daemons processors spaces call some few are.0)
 daemon_is_lawful processors spaces (Some d) calls some few is are =
-    behind_daemon (call_forms processors spaces) (behind_text (Some d) calls) (join_with_byte 32 (daemon_words d)) (calls_text calls) d (daemon_again d calls is) (daemon_words_again d is) is
+    behind_daemon (call_forms processors spaces) (behind_text (Some d) calls) (join_with_byte 32 (daemon_words d)) (calls_text calls) d
+    (daemon_again d calls is) (daemon_words_again d is) is
 
 -- ---- the whole text
 
 abbrev pub head_of : Plan → Head
-head_of plan = record { version = plan.version; frames = plan.frames; processors = plan.processors; spaces = plan.spaces; sizes = plan.sizes }
+head_of plan = record {
+  version = plan.version;
+  frames = plan.frames;
+  processors = plan.processors;
+  spaces = plan.spaces;
+  sizes = plan.sizes;
+}
 
 pub text_is : (plan : Plan) → text_of plan ≡ first_line plan ++ behind_text plan.daemon plan.calls
 text_is plan =
-    append_assoc (first_line plan ++ daemon_line plan.daemon) (flat_map call_line plan.calls) end_line ∙ append_assoc (first_line plan) (daemon_line plan.daemon) (calls_text plan.calls)
+    append_assoc (first_line plan ++ daemon_line plan.daemon) (flat_map call_line plan.calls) end_line
+    ∙ append_assoc (first_line plan) (daemon_line plan.daemon) (calls_text plan.calls)
 
 pub first_again : (plan : Plan) → HasText plan
-    → lines_of (text_of plan) ≡ join_with_byte 32 (first_words plan.version plan.frames plan.processors plan.spaces plan.sizes) ∷ lines_of (behind_text plan.daemon plan.calls)
-first_again plan has = ap lines_of (text_is plan) ∙ line_again (first_words plan.version plan.frames plan.processors plan.spaces plan.sizes) (behind_text plan.daemon plan.calls) (first_words_are plan has)
+    → lines_of (text_of plan) ≡ join_with_byte 32 (first_words plan.version plan.frames plan.processors plan.spaces plan.sizes) ∷ lines_of
+    (behind_text plan.daemon plan.calls)
+first_again plan has = ap lines_of (text_is plan) ∙ line_again
+    (first_words plan.version plan.frames plan.processors plan.spaces plan.sizes) (behind_text plan.daemon plan.calls)
+    (first_words_are plan has)
 
 pub first_words_again : (plan : Plan) → HasText plan
-    → words_of (join_with_byte 32 (first_words plan.version plan.frames plan.processors plan.spaces plan.sizes)) ≡ first_words plan.version plan.frames plan.processors plan.spaces plan.sizes
-first_words_again plan has = words_again (codes "trace") (decimal plan.version ∷ decimal plan.frames ∷ decimal plan.processors ∷ decimal plan.spaces ∷ (if plan.version == 1 then [] else sizes_word plan.sizes ∷ [])) (first_words_are plan has)
+    → words_of (join_with_byte 32
+    (first_words plan.version plan.frames plan.processors plan.spaces plan.sizes)) ≡ first_words plan.version plan.frames plan.processors plan.spaces plan.sizes
+first_words_again plan has = words_again (codes "trace")
+    (decimal plan.version ∷ decimal plan.frames ∷ decimal plan.processors ∷ decimal plan.spaces ∷
+    (if plan.version == 1 then [] else sizes_word plan.sizes ∷ [])) (first_words_are plan has)
 
 pub not_refused : (plan : Plan) → HasText plan → refusal_of (text_of plan) ≡ None
 not_refused plan has =
     let is : IsInRange (head_of plan) = (has.version_in, has.frames_in, has.frames_whole, has.processors_in, has.spaces_in) in
     let lines = recursion_from_All _ plan.calls has.lines in
-    let behind = behind_first_line (text_of plan) (join_with_byte 32 (first_words plan.version plan.frames plan.processors plan.spaces plan.sizes)) (behind_text plan.daemon plan.calls) (head_of plan) (text_is_short plan has) (first_again plan has) (first_words_again plan has) is in
-    let second = daemon_is_lawful plan.processors plan.spaces plan.daemon plan.calls (omega (arith, has.processors_in)) (omega (arith, has.spaces_in)) has.daemon_in lines in
-    behind ∙ second ∙ calls_are_lawful plan.processors plan.spaces (first_call plan.daemon) 0 plan.calls (omega (arith, has.processors_in)) (omega (arith, has.spaces_in)) lines (omega (arith, has.few))
+    let behind = behind_first_line (text_of plan)
+    (join_with_byte 32 (first_words plan.version plan.frames plan.processors plan.spaces plan.sizes))
+    (behind_text plan.daemon plan.calls) (head_of plan) (text_is_short plan has) (first_again plan has)
+    (first_words_again plan has) is in
+    let second = daemon_is_lawful plan.processors plan.spaces plan.daemon plan.calls (omega (arith, has.processors_in))
+    (omega (arith, has.spaces_in)) has.daemon_in lines in
+    behind ∙ second ∙ calls_are_lawful plan.processors plan.spaces (first_call plan.daemon) 0 plan.calls (omega (arith, has.processors_in))
+    (omega (arith, has.spaces_in)) lines (omega (arith, has.few))

@@ -97,8 +97,10 @@ filled (Number step low end ∷ form) (word ∷ words) fit none =
     let both = neither (result_err (number_in step low end word)) (leftmost form words) none in
     let found = ok_of (number_in step low end word) both.0 in
     let takes = number_in_takes step low end word found.0 found.1 in
-    let rest = filled form words fit both.1 in
-    ((record { n = found.0; step_in = takes.step_in; low_in = takes.low_in; end_in = takes.end_in; small = takes.small }, rest.0), ap (λ (w : List ℕ). w ∷ words) takes.text ∙ ap (λ (ws : List (List ℕ)). decimal found.0 ∷ ws) rest.1)
+    let rest = filled form words fit both.1 in (
+      (record { n = found.0; step_in = takes.step_in; low_in = takes.low_in; end_in = takes.end_in; small = takes.small }, rest.0),
+      ap (λ (w : List ℕ). w ∷ words) takes.text ∙ ap (λ (ws : List (List ℕ)). decimal found.0 ∷ ws) rest.1,
+    )
 
 -- the words fill one of these forms
 abbrev FillsOne : List (List Place) → List (List ℕ) → Type 0
@@ -127,7 +129,8 @@ named word_of (x ∷ all) word is = elim is [ inl here ↦ (x, here) | inr later
 kind_of : (chosen : Chosen (kind_word Fixed ∷ kind_word Growing ∷ kind_word Wired ∷ [])) → (kind : Kind) × (chosen.0 ≡ kind_word kind)
 kind_of chosen = named kind_word (Fixed ∷ Growing ∷ Wired ∷ []) chosen.0 chosen.1
 
-rights_of : (chosen : Chosen (rights_word NoAccess ∷ rights_word Read ∷ rights_word Write ∷ [])) → (rights : Rights) × (chosen.0 ≡ rights_word rights)
+rights_of : (chosen : Chosen (rights_word NoAccess ∷ rights_word Read ∷ rights_word Write ∷ []))
+    → (rights : Rights) × (chosen.0 ≡ rights_word rights)
 rights_of chosen = named rights_word (NoAccess ∷ Read ∷ Write ∷ []) chosen.0 chosen.1
 
 -- every set of page sizes, in the order of the words that may name one
@@ -191,7 +194,8 @@ evict_says : (processors spaces : ℕ) (words : List (List ℕ)) → Fills (evic
 evict_says processors spaces words (f, e) =
     (record { processor = f.0.n; call = Evict f.1.0.n f.1.1.0.n }, (f.0.end_in, (f.1.0.end_in, f.1.1.0.end_in)), e)
 
-line_says : (processors spaces : ℕ) (words : List (List ℕ)) → line_fault (call_forms processors spaces) words ≡ None → Says processors spaces words
+line_says : (processors spaces : ℕ) (words : List (List ℕ)) → line_fault (call_forms processors spaces) words ≡ None
+    → Says processors spaces words
 line_says processors spaces words none =
     elim (fills_one (call_forms processors spaces) words none) [
       | inl map ↦ map_says processors spaces words map
@@ -224,7 +228,13 @@ one_says : (words : List (List ℕ)) → Fills first_form words → SaysFirst wo
 one_says words (f, e) =
     let one : f.0.n ≡ 1 = omega (arith, f.0.low_in, f.0.end_in) in (
       record { version = f.0.n; frames = f.1.0.n; processors = f.1.1.0.n; spaces = f.1.1.1.0.n; sizes = all_sizes },
-      (inl (one, refl), (f.1.0.low_in, omega (arith, f.1.0.end_in)), f.1.0.step_in, (f.1.1.0.low_in, omega (arith, f.1.1.0.end_in)), (f.1.1.1.0.low_in, omega (arith, f.1.1.1.0.end_in))),
+      (
+        inl (one, refl),
+        (f.1.0.low_in, omega (arith, f.1.0.end_in)),
+        f.1.0.step_in,
+        (f.1.1.0.low_in, omega (arith, f.1.1.0.end_in)),
+        (f.1.1.1.0.low_in, omega (arith, f.1.1.1.0.end_in)),
+      ),
       rw (eq-eqb f.0.n 1 one) e,
     )
 
@@ -233,7 +243,13 @@ two_says words (f, e) =
     let two : f.0.n ≡ 2 = omega (arith, f.0.low_in, f.0.end_in) in
     let z = sizes_of f.1.1.1.1.0 in (
       record { version = f.0.n; frames = f.1.0.n; processors = f.1.1.0.n; spaces = f.1.1.1.0.n; sizes = z.0 },
-      (inr two, (f.1.0.low_in, omega (arith, f.1.0.end_in)), f.1.0.step_in, (f.1.1.0.low_in, omega (arith, f.1.1.0.end_in)), (f.1.1.1.0.low_in, omega (arith, f.1.1.1.0.end_in))),
+      (
+        inr two,
+        (f.1.0.low_in, omega (arith, f.1.0.end_in)),
+        f.1.0.step_in,
+        (f.1.1.0.low_in, omega (arith, f.1.1.0.end_in)),
+        (f.1.1.1.0.low_in, omega (arith, f.1.1.1.0.end_in)),
+      ),
       rw (ne_eqb f.0.n 1 (λ one. omega (arith, two, one)))
           (e ∙ ap (λ (w : List ℕ). codes "trace" ∷ decimal f.0.n ∷ decimal f.1.0.n ∷ decimal f.1.1.0.n ∷ decimal f.1.1.1.0.n ∷ w ∷ []) z.1),
     )
@@ -266,12 +282,14 @@ nothing_behind number (b ∷ next) (line ∷ lines) e = absurd cc
 
 -- the lines are those of some calls, up to the end
 abbrev SayCalls : ℕ → ℕ → ℕ → List (List ℕ) → Type 0
-SayCalls processors spaces before lines = (calls : List Line) × AllByRecursion (IsLine processors spaces) calls × (before + length calls ≤ 262144) × (join_with_byte 10 lines ≡ calls_text calls)
+SayCalls processors spaces before lines = (calls : List Line) × AllByRecursion (IsLine processors spaces) calls
+    × (before + length calls ≤ 262144) × (join_with_byte 10 lines ≡ calls_text calls)
 
 one_call_more : (line behind : List ℕ) (call : Line) (calls : List Line) → words_of line ≡ line_words call → behind ≡ calls_text calls
     → line ++ 10 ∷ behind ≡ calls_text (call ∷ calls)
 one_call_more line behind call calls words is =
-    line_is (line ++ 10 ∷ behind) line behind (line_words call) refl words ∙ ap (λ (t : List ℕ). call_line call ++ t) is ∙ sym (calls_text-cons call calls)
+    line_is (line ++ 10 ∷ behind) line behind (line_words call) refl words ∙ ap (λ (t : List ℕ). call_line call ++ t) is
+    ∙ sym (calls_text-cons call calls)
 
 calls_say : (processors spaces number before : ℕ) (lines : List (List ℕ)) → before ≤ 262144
     → calls_refusal (call_forms processors spaces) number before lines ≡ None → SayCalls processors spaces before lines
@@ -281,26 +299,39 @@ calls_say processors spaces number before (line ∷ next ∷ lines) few none =
     elim (cases_Bool (bytes_eq line (codes "end"))) [
       | inl same ↦
           let last = nothing_behind number next lines (rw same at none) in
-          let is = (bytes_eq-Decides line (codes "end")).0 same in
-          ([], tt, omega arith, ap (λ (l : List ℕ). join_with_byte 10 (l ∷ next ∷ lines)) is ∙ ap (λ (ls : List (List ℕ)). join_with_byte 10 (codes "end" ∷ ls)) last)
+          let is = (bytes_eq-Decides line (codes "end")).0 same in (
+            [],
+            tt,
+            omega arith,
+            ap (λ (l : List ℕ). join_with_byte 10 (l ∷ next ∷ lines)) is
+                ∙ ap (λ (ls : List (List ℕ)). join_with_byte 10 (codes "end" ∷ ls)) last,
+          )
       | inr other ↦
           let forms = call_forms processors spaces in
-          let both = neither (at_line number (line_fault forms (words_of line))) (cond (eqb before 262144) (Some TooManyCalls) (calls_refusal forms (number + 1) (before + 1) (next ∷ lines))) (rw other at none) in
+          let both = neither (at_line number (line_fault forms (words_of line)))
+          (cond (eqb before 262144) (Some TooManyCalls) (calls_refusal forms (number + 1) (before + 1) (next ∷ lines)))
+          (rw other at none) in
           let says = line_says processors spaces (words_of line) (no_fault number (line_fault forms (words_of line)) both.0) in
           elim (cases_Bool (eqb before 262144)) [
             | inl many ↦ absurd (let fault : Some TooManyCalls ≡ None = rw many at both.1 in cc)
             | inr room ↦
                 let more : before ≢ 262144 = λ e. (let full : eqb before 262144 ≡ true = eq-eqb before 262144 e in cc) in
-                let rest = calls_say processors spaces (number + 1) (before + 1) (next ∷ lines) (omega arith) (rw room at both.1) in
-                (says.0 ∷ rest.0, (says.1, rest.1), omega (arith, rest.2), one_call_more line (join_with_byte 10 (next ∷ lines)) says.0 rest.0 says.2 rest.3)
+                let rest = calls_say processors spaces (number + 1) (before + 1) (next ∷ lines) (omega arith) (rw room at both.1) in (
+                  says.0 ∷ rest.0,
+                  (says.1, rest.1),
+                  omega (arith, rest.2),
+                  one_call_more line (join_with_byte 10 (next ∷ lines)) says.0 rest.0 says.2 rest.3,
+                )
           ]
     ]
 
 -- the lines behind the first are those of a daemon or none, and of some calls up to the end
 abbrev SayBehind : ℕ → ℕ → List (List ℕ) → Type 0
-SayBehind processors spaces lines = (daemon : Option Daemon) × IsDaemon daemon × (calls : List Line) × AllByRecursion (IsLine processors spaces) calls × (length calls ≤ 262144) × (join_with_byte 10 lines ≡ behind_text daemon calls)
+SayBehind processors spaces lines = (daemon : Option Daemon) × IsDaemon daemon × (calls : List Line)
+    × AllByRecursion (IsLine processors spaces) calls × (length calls ≤ 262144) × (join_with_byte 10 lines ≡ behind_text daemon calls)
 
-behind_says : (processors spaces : ℕ) (lines : List (List ℕ)) → second_refusal (call_forms processors spaces) lines ≡ None → SayBehind processors spaces lines
+behind_says : (processors spaces : ℕ) (lines : List (List ℕ)) → second_refusal (call_forms processors spaces) lines ≡ None
+    → SayBehind processors spaces lines
 behind_says processors spaces [] none = absurd cc
 behind_says processors spaces (line ∷ []) none = absurd cc
 behind_says processors spaces (line ∷ next ∷ lines) none =
@@ -311,27 +342,47 @@ behind_says processors spaces (line ∷ next ∷ lines) none =
           let says = daemon_says (words_of line) fit (no_fault 2 (leftmost daemon_form (words_of line)) both.0) in
           let calls = calls_say processors spaces 3 0 (next ∷ lines) (omega arith) both.1 in
           let behind = join_with_byte 10 (next ∷ lines) in
-          let text = line_is (line ++ 10 ∷ behind) line behind (daemon_words says.0) refl says.2 in
-          (Some says.0, says.1, calls.0, calls.1, omega (arith, calls.2), text ∙ ap (λ (t : List ℕ). line_of_words (daemon_words says.0) ++ t) calls.3)
+          let text = line_is (line ++ 10 ∷ behind) line behind (daemon_words says.0) refl says.2 in (
+            Some says.0,
+            says.1,
+            calls.0,
+            calls.1,
+            omega (arith, calls.2),
+            text
+                ∙ ap (λ (t : List ℕ). line_of_words (daemon_words says.0) ++ t) calls.3,
+          )
       | inr other ↦
           let calls = calls_say processors spaces 2 0 (line ∷ next ∷ lines) (omega arith) (rw other at none) in
           (None, tt, calls.0, calls.1, omega (arith, calls.2), calls.3)
     ]
 
-text_says : (text : List ℕ) (lines : List (List ℕ)) → lines_of text ≡ lines → refusal_of_lines lines ≡ None → (plan : Plan) × IsTextOf text plan
+text_says : (text : List ℕ) (lines : List (List ℕ)) → lines_of text ≡ lines → refusal_of_lines lines ≡ None
+    → (plan : Plan) × IsTextOf text plan
 text_says text [] is none = absurd cc
 text_says text (first ∷ []) is none = absurd cc
 text_says text (first ∷ next ∷ lines) is none =
-    let both = neither (at_line 1 (line_fault first_forms (words_of first))) (second_refusal (forms_behind (words_of first)) (next ∷ lines)) none in
+    let both = neither (at_line 1 (line_fault first_forms (words_of first)))
+    (second_refusal (forms_behind (words_of first)) (next ∷ lines)) none in
     let says = first_says (words_of first) (no_fault 1 (line_fault first_forms (words_of first)) both.0) in
     let head = says.0 in
     let forms : forms_behind (words_of first) ≡ call_forms head.processors head.spaces = ap forms_behind says.2 ∙ forms_again head says.1 in
-    let behind = behind_says head.processors head.spaces (next ∷ lines) (subst (λ (fs : List (List Place)). second_refusal fs (next ∷ lines) ≡ None) forms both.1) in
+    let behind = behind_says head.processors head.spaces (next ∷ lines)
+    (subst (λ (fs : List (List Place)). second_refusal fs (next ∷ lines) ≡ None) forms both.1) in
     let daemon = behind.0 in
     let calls = behind.2 in
-    let cut : text ≡ first ++ 10 ∷ join_with_byte 10 (next ∷ lines) = sym (join_with_byte-slice_split 10 text) ∙ ap (join_with_byte 10) is in (
-      record { version = head.version; frames = head.frames; processors = head.processors; spaces = head.spaces; sizes = head.sizes; daemon = daemon; calls = calls },
-      is_text text first (join_with_byte 10 (next ∷ lines)) (calls_text calls) head daemon calls cut says.2 says.1 behind.5 behind.1 (All-from_recursion _ calls behind.3) behind.4 refl,
+    let cut : text ≡ first ++ 10 ∷ join_with_byte 10 (next ∷ lines) = sym (join_with_byte-slice_split 10 text)
+    ∙ ap (join_with_byte 10) is in (
+      record {
+        version = head.version;
+        frames = head.frames;
+        processors = head.processors;
+        spaces = head.spaces;
+        sizes = head.sizes;
+        daemon = daemon;
+        calls = calls;
+      },
+      is_text text first (join_with_byte 10 (next ∷ lines)) (calls_text calls) head daemon calls cut says.2 says.1 behind.5 behind.1
+          (All-from_recursion _ calls behind.3) behind.4 refl,
     )
 
 pub some_trace : (text : List ℕ) → refusal_of text ≡ None → (plan : Plan) × IsTextOf text plan

@@ -45,6 +45,10 @@ too_many_words most (form ∷ forms) words short more =
       | inr unfit ↦ rw unfit (too_many_words most forms words short.1 more)
     ]
 
-pub call_too_long : (processors spaces : ℕ) (words : List (List ℕ)) → 7 < length words → line_fault (call_forms processors spaces) words ≡ Some causes.Form
+pub call_too_long : (processors spaces : ℕ) (words : List (List ℕ)) → 7 < length words
+    → line_fault (call_forms processors spaces) words ≡ Some causes.Form
 call_too_long processors spaces words more =
-    too_many_words 7 (call_forms processors spaces) words (omega arith, (omega arith, (omega arith, (omega arith, (omega arith, (omega arith, (omega arith, (omega arith, tt)))))))) more
+    too_many_words 7 (call_forms processors spaces) words (
+      omega arith,
+      (omega arith, (omega arith, (omega arith, (omega arith, (omega arith, (omega arith, (omega arith, tt))))))),
+    ) more

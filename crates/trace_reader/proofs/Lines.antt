@@ -38,17 +38,35 @@ an_address n whole high = number_in_again 8 0 8589934592 n whole (omega arith) h
 call_is_lawful : (processors spaces processor : ℕ) (call : Call) → processors ≤ 2 ^ 64 → spaces ≤ 2 ^ 64 → processor < processors
     → IsCall spaces call → line_fault (call_forms processors spaces) (decimal processor ∷ call_words call) ≡ None
 call_is_lawful processors spaces processor (Map space page len kind rights) few small of is =
-    rw (kind_stands kind, rights_stand rights, below processors processor few of, below spaces space small is.0, below 1048576 page (lit≤ tt) is.1, some_pages len is.2 is.3) refl
+    rw (
+      kind_stands kind,
+      rights_stand rights,
+      below processors processor few of,
+      below spaces space small is.0,
+      below 1048576 page (lit≤ tt) is.1,
+      some_pages len is.2 is.3,
+    ) refl
 call_is_lawful processors spaces processor (Grow space page by) few small of is =
     rw (below processors processor few of, below spaces space small is.0, below 1048576 page (lit≤ tt) is.1, some_pages by is.2 is.3) refl
 call_is_lawful processors spaces processor (Unmap space page) few small of is =
     rw (below processors processor few of, below spaces space small is.0, below 1048576 page (lit≤ tt) is.1) refl
 call_is_lawful processors spaces processor (Protect space page len rights) few small of is =
-    rw (rights_stand rights, below processors processor few of, below spaces space small is.0, below 1048576 page (lit≤ tt) is.1, some_pages len is.2 is.3) refl
+    rw (
+      rights_stand rights,
+      below processors processor few of,
+      below spaces space small is.0,
+      below 1048576 page (lit≤ tt) is.1,
+      some_pages len is.2 is.3,
+    ) refl
 call_is_lawful processors spaces processor (Load space address) few small of is =
     rw (below processors processor few of, below spaces space small is.0, an_address address is.1 is.2) refl
 call_is_lawful processors spaces processor (Store space address word) few small of is =
-    rw (below processors processor few of, below spaces space small is.0, an_address address is.1 is.2, below (2 ^ 64) word (lit≤ tt) is.3) refl
+    rw (
+      below processors processor few of,
+      below spaces space small is.0,
+      an_address address is.1 is.2,
+      below (2 ^ 64) word (lit≤ tt) is.3,
+    ) refl
 call_is_lawful processors spaces processor (Sync space page) few small of is =
     rw (below processors processor few of, below spaces space small is.0, below 1048576 page (lit≤ tt) is.1) refl
 call_is_lawful processors spaces processor (Evict space page) few small of is =
@@ -71,20 +89,34 @@ sizes_stand true true true = refl
 pub first_is_lawful : (head : Head) → IsInRange head
     → line_fault first_forms (first_words head.version head.frames head.processors head.spaces head.sizes) ≡ None
 first_is_lawful head is =
-    let frames : number_in 512 512 32769 (decimal head.frames) ≡ Ok head.frames = number_in_again 512 512 32769 head.frames is.2 is.1.0 (omega (arith, is.1.1)) (omega (arith, is.1.1)) in
-    let processors : number_in 1 1 17 (decimal head.processors) ≡ Ok head.processors = number_in_again 1 1 17 head.processors (omega arith) is.3.0 (omega (arith, is.3.1)) (omega (arith, is.3.1)) in
-    let spaces : number_in 1 1 17 (decimal head.spaces) ≡ Ok head.spaces = number_in_again 1 1 17 head.spaces (omega arith) is.4.0 (omega (arith, is.4.1)) (omega (arith, is.4.1)) in
+    let frames : number_in 512 512 32769 (decimal head.frames) ≡ Ok head.frames =
+    number_in_again 512 512 32769 head.frames is.2 is.1.0 (omega (arith, is.1.1)) (omega (arith, is.1.1)) in
+    let processors : number_in 1 1 17 (decimal head.processors) ≡ Ok head.processors =
+    number_in_again 1 1 17 head.processors (omega arith) is.3.0 (omega (arith, is.3.1)) (omega (arith, is.3.1)) in
+    let spaces : number_in 1 1 17 (decimal head.spaces) ≡ Ok head.spaces =
+    number_in_again 1 1 17 head.spaces (omega arith) is.4.0 (omega (arith, is.4.1)) (omega (arith, is.4.1)) in
     elim is.0 [
       | inl one ↦
-          let version : number_in 1 1 2 (decimal head.version) ≡ Ok head.version = number_in_again 1 1 2 head.version (omega arith) (omega (arith, one.0)) (omega (arith, one.0)) (omega (arith, one.0)) in
+          let version : number_in 1 1 2 (decimal head.version) ≡ Ok head.version =
+          number_in_again 1 1 2 head.version (omega arith) (omega (arith, one.0)) (omega (arith, one.0)) (omega (arith, one.0)) in
           rw (eq-eqb head.version 1 one.0, version, frames, processors, spaces) refl
       | inr two ↦
-          let version : number_in 1 2 3 (decimal head.version) ≡ Ok head.version = number_in_again 1 2 3 head.version (omega arith) (omega (arith, two)) (omega (arith, two)) (omega (arith, two)) in
-          rw (ne_eqb head.version 1 (λ e. omega (arith, two, e)), sizes_stand head.sizes.one head.sizes.two head.sizes.three, version, frames, processors, spaces) refl
+          let version : number_in 1 2 3 (decimal head.version) ≡ Ok head.version =
+          number_in_again 1 2 3 head.version (omega arith) (omega (arith, two)) (omega (arith, two)) (omega (arith, two)) in
+          rw (
+            ne_eqb head.version 1 (λ e. omega (arith, two, e)),
+            sizes_stand head.sizes.one head.sizes.two head.sizes.three,
+            version,
+            frames,
+            processors,
+            spaces,
+          ) refl
     ]
 
 pub daemon_is_lawful : (d : Daemon) → IsDaemon (Some d) → leftmost daemon_form (daemon_words d) ≡ None
 daemon_is_lawful d is =
-    let low : number_in 1 1 65 (decimal d.low) ≡ Ok d.low = number_in_again 1 1 65 d.low (omega arith) is.0.0 (omega (arith, is.0.1)) (omega (arith, is.0.1)) in
-    let turns : number_in 1 1 4097 (decimal d.turns) ≡ Ok d.turns = number_in_again 1 1 4097 d.turns (omega arith) is.1.0 (omega (arith, is.1.1)) (omega (arith, is.1.1)) in
+    let low : number_in 1 1 65 (decimal d.low) ≡ Ok d.low = number_in_again 1 1 65 d.low (omega arith) is.0.0 (omega (arith, is.0.1))
+    (omega (arith, is.0.1)) in
+    let turns : number_in 1 1 4097 (decimal d.turns) ≡ Ok d.turns = number_in_again 1 1 4097 d.turns (omega arith) is.1.0
+    (omega (arith, is.1.1)) (omega (arith, is.1.1)) in
     rw (low, turns) refl

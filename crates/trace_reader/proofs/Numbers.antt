@@ -72,7 +72,8 @@ by_index = numerals_by_value (λ ds. AreDigits ds (length ds)) tells_by_index
 pub number_of-digits : (word : List ℕ) → IsPlain word → AreDigits word (length word) → digits_value 10 word < 2 ^ 64
     → number_of word ≡ Some (digits_value 10 word)
 number_of-digits word plain digits small =
-    let is : decimal (digits_value 10 word) ≡ word = decimal-digits_value by_index word digits plain.0 (λ z. let l = plain.1 z in omega (arith, l, plain.0)) small in
+    let is : decimal (digits_value 10 word) ≡ word = decimal-digits_value by_index word digits plain.0
+    (λ z. let l = plain.1 z in omega (arith, l, plain.0)) small in
     subst (λ w. number_of w ≡ Some (digits_value 10 word)) is (number_again (digits_value 10 word) small)
 
 pub number_of-zeros : (word : List ℕ) → (IsPlain word → ⊥) → number_of word ≡ None
@@ -121,7 +122,8 @@ pub record Takes (step low end : ℕ) (word : List ℕ) (n : ℕ) : Type 0 where
   pub end_in : n < end
   pub small : n < 2 ^ 64
 
-in_range_takes : (step low end : ℕ) (o : Option ℕ) (n : ℕ) → in_range step low end o ≡ Ok n → (o ≡ Some n) × (n % step ≡ 0) × (low ≤ n) × (n < end)
+in_range_takes : (step low end : ℕ) (o : Option ℕ) (n : ℕ) → in_range step low end o ≡ Ok n
+    → (o ≡ Some n) × (n % step ≡ 0) × (low ≤ n) × (n < end)
 in_range_takes step low end None n e = absurd cc
 in_range_takes step low end (Some m) n e =
     let g = cond_ok (eqb (m % step) 0 && (leb low m && ltb m end)) m n _ e in

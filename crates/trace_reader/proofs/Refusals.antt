@@ -30,12 +30,14 @@ faulty_line forms number calls rest line after cause first other fault = let p =
 pub one_call_more : (forms : List (List Place)) (number calls : ℕ) (rest line after : List ℕ) → lines_of rest ≡ line ∷ lines_of after
     → bytes_eq line (codes "end") ≡ false → line_fault forms (words_of line) ≡ None → calls ≡ 262144
     → calls_refusal forms number calls (lines_of rest) ≡ Some TooManyCalls
-one_call_more forms number calls rest line after first other lawful many = let p = some_piece 10 after in rw (first, p.2, other, lawful, eq-eqb calls 262144 many) refl
+one_call_more forms number calls rest line after first other lawful many = let p = some_piece 10 after in
+    rw (first, p.2, other, lawful, eq-eqb calls 262144 many) refl
 
 pub goes_on : (forms : List (List Place)) (number calls : ℕ) (rest line after : List ℕ) → lines_of rest ≡ line ∷ lines_of after
     → bytes_eq line (codes "end") ≡ false → line_fault forms (words_of line) ≡ None → calls ≢ 262144
     → calls_refusal forms number calls (lines_of rest) ≡ calls_refusal forms (number + 1) (calls + 1) (lines_of after)
-goes_on forms number calls rest line after first other lawful few = let p = some_piece 10 after in rw (first, p.2, other, lawful, ne_eqb calls 262144 few) refl
+goes_on forms number calls rest line after first other lawful few = let p = some_piece 10 after in
+    rw (first, p.2, other, lawful, ne_eqb calls 262144 few) refl
 
 -- behind the end something stands
 something : (number : ℕ) (after first : List ℕ) (others : List (List ℕ)) → lines_of after ≡ first ∷ others → after ≢ []
@@ -66,7 +68,8 @@ pub behind_daemon : (forms : List (List Place)) (rest line after : List ℕ) (d 
 behind_daemon forms rest line after d first words is = let p = some_piece 10 after in rw (first, p.2, words, daemon_is_lawful d is) refl
 
 -- a line of these words, with its line feed
-pub line_is : (text line rest : List ℕ) (words : List (List ℕ)) → text ≡ line ++ 10 ∷ rest → words_of line ≡ words → text ≡ line_of_words words ++ rest
+pub line_is : (text line rest : List ℕ) (words : List (List ℕ)) → text ≡ line ++ 10 ∷ rest → words_of line ≡ words
+    → text ≡ line_of_words words ++ rest
 line_is text line rest words cut are =
     let whole : line ≡ join_with_byte 32 words = sym (join_with_byte-slice_split 32 line) ∙ ap (join_with_byte 32) are in
     cut ∙ ap (λ (x : List ℕ). x ++ 10 ∷ rest) whole ∙ sym (append_assoc (join_with_byte 32 words) (10 ∷ []) rest)
@@ -75,9 +78,12 @@ line_is text line rest words cut are =
 pub parts_go_on : (text rest line after : List ℕ) (calls : List Call) (call : Call) → text ≡ flat_map call_line calls ++ rest
     → rest ≡ line ++ 10 ∷ after → words_of line ≡ line_words call → text ≡ flat_map call_line (calls ++ call ∷ []) ++ after
 parts_go_on text rest line after calls call so_far cut words =
-    let front : flat_map call_line (calls ++ call ∷ []) ≡ flat_map call_line calls ++ call_line call = flat_map-append call_line calls (call ∷ []) ∙ ap (λ (x : List ℕ). flat_map call_line calls ++ x) (flat_map-cons call_line call [] ∙ append-nil (call_line call)) in
+    let front : flat_map call_line (calls ++ call ∷ []) ≡ flat_map call_line calls ++ call_line call =
+    flat_map-append call_line calls (call ∷ []) ∙ ap (λ (x : List ℕ). flat_map call_line calls ++ x)
+    (flat_map-cons call_line call [] ∙ append-nil (call_line call)) in
     let next : rest ≡ call_line call ++ after = line_is rest line after (line_words call) cut words in
-    so_far ∙ ap (λ (x : List ℕ). flat_map call_line calls ++ x) next ∙ sym (append_assoc (flat_map call_line calls) (call_line call) after) ∙ ap (λ (x : List ℕ). x ++ after) (sym front)
+    so_far ∙ ap (λ (x : List ℕ). flat_map call_line calls ++ x) next ∙ sym (append_assoc (flat_map call_line calls) (call_line call) after)
+    ∙ ap (λ (x : List ℕ). x ++ after) (sym front)
 
 -- ---- the whole text
 
@@ -115,12 +121,33 @@ pub is_text : (text line behind rest : List ℕ) (head : Head) (daemon : Option 
     → words_of line ≡ first_words head.version head.frames head.processors head.spaces head.sizes → IsInRange head
     → behind ≡ daemon_line daemon ++ rest → IsDaemon daemon → All (IsLine head.processors head.spaces) calls → length calls ≤ 262144
     → rest ≡ flat_map call_line calls ++ line_of_words (codes "end" ∷ [])
-    → IsTextOf text (record { version = head.version; frames = head.frames; processors = head.processors; spaces = head.spaces; sizes = head.sizes; daemon = daemon; calls = calls })
+    → IsTextOf text (record {
+      version = head.version;
+      frames = head.frames;
+      processors = head.processors;
+      spaces = head.spaces;
+      sizes = head.sizes;
+      daemon = daemon;
+      calls = calls;
+    })
 is_text text line behind rest head daemon calls cut words is second told are few lines =
     let first : List ℕ = line_of_words (first_words head.version head.frames head.processors head.spaces head.sizes) in
-    let front : text ≡ first ++ behind = line_is text line behind (first_words head.version head.frames head.processors head.spaces head.sizes) cut words in
+    let front : text ≡ first ++ behind = line_is text line behind
+    (first_words head.version head.frames head.processors head.spaces head.sizes) cut words in
     let end : List ℕ = line_of_words (codes "end" ∷ []) in
     let all : text ≡ ((first ++ daemon_line daemon) ++ flat_map call_line calls) ++ end =
     front ∙ ap (λ (x : List ℕ). first ++ x) (second ∙ ap (λ (x : List ℕ). daemon_line daemon ++ x) lines)
-    ∙ sym (append_assoc first (daemon_line daemon) (flat_map call_line calls ++ end)) ∙ sym (append_assoc (first ++ daemon_line daemon) (flat_map call_line calls) end) in
-    (record { version_in = is.0; frames_in = is.1; frames_whole = is.2; processors_in = is.3; spaces_in = is.4; daemon_in = told; lines = are; few = few }, all)
+    ∙ sym (append_assoc first (daemon_line daemon) (flat_map call_line calls ++ end))
+    ∙ sym (append_assoc (first ++ daemon_line daemon) (flat_map call_line calls) end) in (
+      record {
+        version_in = is.0;
+        frames_in = is.1;
+        frames_whole = is.2;
+        processors_in = is.3;
+        spaces_in = is.4;
+        daemon_in = told;
+        lines = are;
+        few = few;
+      },
+      all,
+    )

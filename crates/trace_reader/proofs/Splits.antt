@@ -19,7 +19,8 @@ pub some_piece : (byte : ℕ) (bytes : List ℕ) → (first : List ℕ) × (othe
 some_piece byte [] = ([], [], refl)
 some_piece byte (b ∷ bytes) =
     let p = some_piece byte bytes in
-    elim (eqb b byte) as (λ t. (first : List ℕ) × (others : List (List ℕ)) × (cond t ([] ∷ pieces byte bytes) (onto_first b (pieces byte bytes)) ≡ first ∷ others)) [
+    elim (eqb b byte) as (λ t. (first : List ℕ) × (others : List (List ℕ))
+    × (cond t ([] ∷ pieces byte bytes) (onto_first b (pieces byte bytes)) ≡ first ∷ others)) [
       | true ↦ ([], pieces byte bytes, refl)
       | false ↦ rw p.2 (b ∷ p.0, p.1, refl)
     ]
@@ -30,17 +31,26 @@ pub at_first : (byte : ℕ) (bytes : List ℕ) (i : ℕ) → position (λ b. eqb
 at_first byte bytes i e =
     let at = position-Some (λ b. eqb b byte) bytes i 0 e in
     let is : get_or bytes i 0 ≡ byte = eqb-true _ _ at.1 in
-    let place : position_or_len (λ b. eqb b byte) bytes ≡ i = (cond_some (ltb (position_or_len (λ b. eqb b byte) bytes) (length bytes)) _ i e).1 in
+    let place : position_or_len (λ b. eqb b byte) bytes ≡ i =
+    (cond_some (ltb (position_or_len (λ b. eqb b byte) bytes) (length bytes)) _ i e).1 in
     let within : i < length bytes = at.0 in
-    let tail : drop i bytes ≡ byte ∷ drop (i + 1) bytes = rw (add-one, drop-cons bytes i 0, is) refl in
-    (sym (take-append-drop i bytes) ∙ ap (λ (x : List ℕ). take i bytes ++ x) tail, subst (λ (k : ℕ). pieces byte bytes ≡ take k bytes ∷ pieces byte (drop (k + 1) bytes)) place (slice_split_first (λ b. eqb b byte) bytes 0 (omega (arith, at.0))))
+    let tail : drop i bytes ≡ byte ∷ drop (i + 1) bytes = rw (add-one, drop-cons bytes i 0, is) refl in (
+      sym (take-append-drop i bytes) ∙ ap (λ (x : List ℕ). take i bytes ++ x) tail,
+      subst (λ (k : ℕ). pieces byte bytes ≡ take k bytes ∷ pieces byte (drop (k + 1) bytes)) place
+          (slice_split_first (λ b. eqb b byte) bytes 0 (omega (arith, at.0))),
+    )
 
-none_passes : (byte : ℕ) (bytes : List ℕ) → length bytes ≤ position_or_len (λ b. eqb b byte) bytes → AllByRecursion (λ b. eqb b byte ≡ false) bytes
+none_passes : (byte : ℕ) (bytes : List ℕ) → length bytes ≤ position_or_len (λ b. eqb b byte) bytes
+    → AllByRecursion (λ b. eqb b byte ≡ false) bytes
 none_passes byte [] le = tt
 none_passes byte (b ∷ bytes) le =
     elim (cases_Bool (eqb b byte)) [
       | inl same ↦ absurd (let none : length (b ∷ bytes) ≤ 0 = rw same at le in omega arith)
-      | inr other ↦ (other, none_passes byte bytes (let more : length (b ∷ bytes) ≤ 1 + position_or_len (λ b. eqb b byte) bytes = rw other at le in omega arith))
+      | inr other ↦ (
+        other,
+        none_passes byte bytes (let more : length (b ∷ bytes) ≤ 1 + position_or_len
+            (λ b. eqb b byte) bytes = rw other at le in omega arith),
+      )
     ]
 
 pub at_none : (byte : ℕ) (bytes : List ℕ) → position (λ b. eqb b byte) bytes ≡ None → pieces byte bytes ≡ bytes ∷ []

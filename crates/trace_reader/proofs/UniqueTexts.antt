@@ -45,10 +45,12 @@ rights_again Write = refl
 -- the call of this name, with the words of its line
 abbrev call_back : List ℕ → List (List ℕ) → Call
 call_back name words =
-    cond (bytes_eq name (codes "map")) (Map (number_back words 2) (number_back words 3) (number_back words 4) (kind_back (get_or words 5 [])) (rights_back (get_or words 6 [])))
+    cond (bytes_eq name (codes "map")) (Map (number_back words 2) (number_back words 3) (number_back words 4)
+    (kind_back (get_or words 5 [])) (rights_back (get_or words 6 [])))
     (cond (bytes_eq name (codes "grow")) (Grow (number_back words 2) (number_back words 3) (number_back words 4))
     (cond (bytes_eq name (codes "unmap")) (Unmap (number_back words 2) (number_back words 3))
-    (cond (bytes_eq name (codes "protect")) (Protect (number_back words 2) (number_back words 3) (number_back words 4) (rights_back (get_or words 5 [])))
+    (cond (bytes_eq name (codes "protect")) (Protect (number_back words 2) (number_back words 3) (number_back words 4)
+    (rights_back (get_or words 5 [])))
     (cond (bytes_eq name (codes "load")) (Load (number_back words 2) (number_back words 3))
     (cond (bytes_eq name (codes "store")) (Store (number_back words 2) (number_back words 3) (number_back words 4))
     (cond (bytes_eq name (codes "sync")) (Sync (number_back words 2) (number_back words 3))
@@ -60,13 +62,31 @@ line_back words = record { processor = number_back words 0; call = call_back (ge
 call_is_back : (spaces processor : ℕ) (call : Call) → spaces ≤ 2 ^ 64 → processor < 2 ^ 64 → IsCall spaces call
     → line_back (decimal processor ∷ call_words call) ≡ record { processor = processor; call = call }
 call_is_back spaces processor (Map space page len kind rights) few small is =
-    rw (decimal_value processor small, decimal_value space (omega arith), decimal_value page (omega arith), decimal_value len (omega arith), kind_again kind, rights_again rights) refl
+    rw (
+      decimal_value processor small,
+      decimal_value space (omega arith),
+      decimal_value page (omega arith),
+      decimal_value len (omega arith),
+      kind_again kind,
+      rights_again rights,
+    ) refl
 call_is_back spaces processor (Grow space page by) few small is =
-    rw (decimal_value processor small, decimal_value space (omega arith), decimal_value page (omega arith), decimal_value by (omega arith)) refl
+    rw (
+      decimal_value processor small,
+      decimal_value space (omega arith),
+      decimal_value page (omega arith),
+      decimal_value by (omega arith),
+    ) refl
 call_is_back spaces processor (Unmap space page) few small is =
     rw (decimal_value processor small, decimal_value space (omega arith), decimal_value page (omega arith)) refl
 call_is_back spaces processor (Protect space page len rights) few small is =
-    rw (decimal_value processor small, decimal_value space (omega arith), decimal_value page (omega arith), decimal_value len (omega arith), rights_again rights) refl
+    rw (
+      decimal_value processor small,
+      decimal_value space (omega arith),
+      decimal_value page (omega arith),
+      decimal_value len (omega arith),
+      rights_again rights,
+    ) refl
 call_is_back spaces processor (Load space address) few small is =
     rw (decimal_value processor small, decimal_value space (omega arith), decimal_value address (omega arith)) refl
 call_is_back spaces processor (Store space address word) few small is =
@@ -86,7 +106,13 @@ calls_are_back : (processors spaces : ℕ) (calls : List Line) → processors �
 calls_are_back processors spaces [] some few are = refl
 calls_are_back processors spaces (call ∷ calls) some few are =
     let back : line_back (line_words call) ≡ call = call_is_back spaces call.processor call.call few (omega (arith, are.0)) are.0.1 in
-    rw (call_again processors spaces call calls some few are.0, call_is_not_end processors spaces call some few are.0, call_words_again processors spaces call some few are.0, back, calls_are_back processors spaces calls some few are.1) refl
+    rw (
+      call_again processors spaces call calls some few are.0,
+      call_is_not_end processors spaces call some few are.0,
+      call_words_again processors spaces call some few are.0,
+      back,
+      calls_are_back processors spaces calls some few are.1,
+    ) refl
 
 -- the daemon and the calls of the lines behind the first, of which the first has these words
 abbrev daemon_by : List (List ℕ) → Option Daemon
@@ -118,8 +144,12 @@ behind_is_back processors spaces (Some d) calls some few is are =
     let words = ap next_words again ∙ daemon_words_again d is in
     let low = decimal_value d.low (omega (arith, is.0)) in
     let turns = decimal_value d.turns (omega (arith, is.1)) in
-    let told : daemon_by (daemon_words d) ≡ Some d = rw (low, turns) refl in
-    (ap daemon_by words ∙ told, ap (λ (ls : List (List ℕ)). calls_by (next_words (lines_of (behind_text (Some d) calls))) ls) again ∙ ap (λ (ws : List (List ℕ)). calls_by ws (join_with_byte 32 (daemon_words d) ∷ lines_of (calls_text calls))) words ∙ calls_are_back processors spaces calls some few are)
+    let told : daemon_by (daemon_words d) ≡ Some d = rw (low, turns) refl in (
+      ap daemon_by words ∙ told,
+      ap (λ (ls : List (List ℕ)). calls_by (next_words (lines_of (behind_text (Some d) calls))) ls) again
+          ∙ ap (λ (ws : List (List ℕ)). calls_by ws (join_with_byte 32 (daemon_words d) ∷ lines_of (calls_text calls))) words
+          ∙ calls_are_back processors spaces calls some few are,
+    )
 
 -- the page sizes of a word of digits, and those of a first line of this version
 abbrev sizes_back : List ℕ → SizeSet
@@ -128,7 +158,11 @@ sizes_back word = record { one = list_any (λ b. eqb b 49) word; two = list_any 
 abbrev sizes_by : ℕ → List (List ℕ) → SizeSet
 sizes_by version words = cond (eqb version 1) all_sizes (sizes_back (get_or words 5 []))
 
-sizes_again : (one two three : Bool) → sizes_back (sizes_word (record { one = one; two = two; three = three })) ≡ record { one = one; two = two; three = three }
+sizes_again : (one two three : Bool) → sizes_back (sizes_word (record { one = one; two = two; three = three })) ≡ record {
+  one = one;
+  two = two;
+  three = three;
+}
 sizes_again false false false = refl
 sizes_again false false true = refl
 sizes_again false true false = refl
@@ -147,7 +181,16 @@ sizes_are_back version frames processors spaces z is =
     ]
 
 abbrev plan_of : List (List ℕ) → List (List ℕ) → Plan
-plan_of words lines = record { version = number_back words 1; frames = number_back words 2; processors = number_back words 3; spaces = number_back words 4; sizes = sizes_by (number_back words 1) words; daemon = daemon_back lines; calls = calls_behind lines }
+plan_of words lines =
+    record {
+      version = number_back words 1;
+      frames = number_back words 2;
+      processors = number_back words 3;
+      spaces = number_back words 4;
+      sizes = sizes_by (number_back words 1) words;
+      daemon = daemon_back lines;
+      calls = calls_behind lines;
+    }
 
 abbrev plan_back : List ℕ → Plan
 plan_back text = plan_of (words_of (get_or (lines_of text) 0 [])) (drop 1 (lines_of text))
@@ -158,7 +201,8 @@ plan_is_back plan has =
     let frames = decimal_value plan.frames (omega (arith, has.frames_in)) in
     let processors = decimal_value plan.processors (omega (arith, has.processors_in)) in
     let spaces = decimal_value plan.spaces (omega (arith, has.spaces_in)) in
-    let behind = behind_is_back plan.processors plan.spaces plan.daemon plan.calls (omega (arith, has.processors_in)) (omega (arith, has.spaces_in)) has.daemon_in (recursion_from_All _ plan.calls has.lines) in
+    let behind = behind_is_back plan.processors plan.spaces plan.daemon plan.calls (omega (arith, has.processors_in))
+    (omega (arith, has.spaces_in)) has.daemon_in (recursion_from_All _ plan.calls has.lines) in
     let sizes = sizes_are_back plan.version plan.frames plan.processors plan.spaces plan.sizes has.version_in in
     rw (first_again plan has, first_words_again plan has, version, frames, processors, spaces, sizes, behind.0, behind.1) refl
 

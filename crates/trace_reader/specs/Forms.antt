@@ -22,7 +22,8 @@ pub data Place : Type 0 where
 
 -- the number below 2^64 of which the word is the decimal: digits, without a sign and without a zero before other digits
 unfoldable pub number_of : List ℕ → Option ℕ
-number_of word = if nat_lt (digits_value 10 word) (2 ^ 64) && bytes_eq (decimal (digits_value 10 word)) word then Some (digits_value 10 word) else None
+number_of word = if nat_lt (digits_value 10 word) (2 ^ 64) && bytes_eq (decimal (digits_value 10 word)) word then Some
+    (digits_value 10 word) else None
 
 abbrev pub in_range : ℕ → ℕ → ℕ → Option ℕ → Result ℕ LineCause
 in_range step low end None = Err causes.Number

@@ -6,13 +6,15 @@ use Rattle.trace_reader.specs.declared.line.Name.{Name}
 use Rattle.trace_reader.specs.declared.line.Name.TheVariants.{Map, Grow, Unmap, Protect, Load, Store, Sync, Evict}
 use Rattle.pager_model.specs.declared.trace.Daemon.{Daemon}
 use Rattle.pager_model.specs.declared.call.Line.{Line}
-use Rattle.pager_model.specs.Bounds.{most_frames}
+use Rattle.pager_model.specs.Bounds.{most_frames, most_processors, most_spaces}
 use Rattle.pager_model.specs.TraceText.{IsLine, IsVersion, line_words}
 use Rattle.trace_reader.specs.Forms.{Place, line_fault}
 
 -- a version that fits the page sizes, a multiple of 512 frames from 512 to 32,768, and one to sixteen processors and spaces
 abbrev pub IsInRange : Head → Type 0
-IsInRange head = IsVersion head.version head.sizes × ((512 ≤ head.frames) × (head.frames ≤ most_frames)) × (head.frames % 512 ≡ 0) × ((1 ≤ head.processors) × (head.processors ≤ 16)) × ((1 ≤ head.spaces) × (head.spaces ≤ 16))
+IsInRange head =
+    IsVersion head.version head.sizes × ((512 ≤ head.frames) × (head.frames ≤ most_frames)) × (head.frames % 512 ≡ 0)
+    × ((1 ≤ head.processors) × (head.processors ≤ most_processors)) × ((1 ≤ head.spaces) × (head.spaces ≤ most_spaces))
 
 -- the number of the line of the first call, behind a daemon's line or none
 abbrev pub first_call : Option Daemon → ℕ

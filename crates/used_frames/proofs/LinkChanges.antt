@@ -74,7 +74,8 @@ module _ (links : Links) (ages : List (Option ℕ)) (frame age : ℕ) (are : Are
 
   -- what the new links say
   next_own : next_of pushed frame ≡ links.end
-  next_own = next-linked_same (linked links last frame) frame links.end (AreLinks-linked links last frame are last_known (omega arith)) (omega arith) (omega arith)
+  next_own = next-linked_same (linked links last frame) frame links.end (AreLinks-linked links last frame are last_known (omega arith))
+      (omega arith) (omega arith)
 
   next_last : next_of pushed last ≡ frame
   next_last =
@@ -86,7 +87,8 @@ module _ (links : Links) (ages : List (Option ℕ)) (frame age : ℕ) (are : Are
       get_or-set_other (set links.next last frame) frame at links.end 0 apart ∙ get_or-set_other links.next last at frame 0 before
 
   prev_end : prev_of pushed links.end ≡ frame
-  prev_end = prev-linked_same (linked links last frame) frame links.end (AreLinks-linked links last frame are last_known (omega arith)) (omega arith) (omega arith)
+  prev_end = prev-linked_same (linked links last frame) frame links.end (AreLinks-linked links last frame are last_known (omega arith))
+      (omega arith) (omega arith)
 
   prev_own : prev_of pushed frame ≡ last
   prev_own =
@@ -144,7 +146,8 @@ module _ (links : Links) (ages : List (Option ℕ)) (frame age : ℕ) (are : Are
     ];
   }
 
-  next-other_is : (at : ℕ) → IsStop ages links.end at → at ≢ last → IsNextFrom more links.end (least_after (age_of ages at)) (next_of links at)
+  next-other_is : (at : ℕ) → IsStop ages links.end at → at ≢ last → IsNextFrom more links.end (least_after (age_of ages at))
+      (next_of links at)
   next-other_is at stop before =
       let was = is.next at stop in
       let apart = stop_other (next_of links at) was.stop in
@@ -197,7 +200,8 @@ module _ (links : Links) (ages : List (Option ℕ)) (frame age : ℕ) (are : Are
             let was = stop_less at apart stop in
             let back = is.forth at was in
             rw (prev_other at apart before)
-            (next_other (prev_of links at) (stop_other (prev_of links at) (is.prev at was)) (λ same. before (sym back ∙ ap (next_of links) same ∙ after_last)) ∙ back)
+            (next_other (prev_of links at) (stop_other (prev_of links at) (is.prev at was))
+            (λ same. before (sym back ∙ ap (next_of links) same ∙ after_last)) ∙ back)
       ]
     ];
     back = λ at stop. elim (cases_eq at frame) [
@@ -207,7 +211,8 @@ module _ (links : Links) (ages : List (Option ℕ)) (frame age : ℕ) (are : Are
         | inr before ↦
             let was = stop_less at apart stop in
             rw (next_other at apart before)
-            (prev_other (next_of links at) (stop_other (next_of links at) (is.next at was).stop) (next_inside at was before) ∙ is.back at was)
+            (prev_other (next_of links at) (stop_other (next_of links at) (is.next at was).stop) (next_inside at was before)
+            ∙ is.back at was)
       ]
     ];
   }
@@ -293,7 +298,8 @@ module _ (links : Links) (ages : List (Option ℕ)) (frame age : ℕ) (are : Are
             (least.0, kept_age after after_apart ∙ least.1, least.2);
       }
 
-  next-kept_is : (at : ℕ) → IsStop ages links.end at → at ≢ before → IsNextFrom fewer links.end (least_after (age_of ages at)) (next_of links at)
+  next-kept_is : (at : ℕ) → IsStop ages links.end at → at ≢ before → IsNextFrom fewer links.end (least_after (age_of ages at))
+      (next_of links at)
   next-kept_is at stop other =
       let was = is.next at stop in
       let apart : next_of links at ≢ frame = λ same. other (sym (is.back at stop) ∙ ap (prev_of links) same) in
@@ -325,19 +331,22 @@ module _ (links : Links) (ages : List (Option ℕ)) (frame age : ℕ) (are : Are
       | inr other ↦
           let was = stop_was at stop in
           rw (prev_kept at other)
-          (next_kept (prev_of links at) (λ same. stop_apart at stop (sym (is.forth at was) ∙ ap (next_of links) same ∙ is.forth frame frame_stop)) ∙ is.forth at was)
+          (next_kept (prev_of links at)
+          (λ same. stop_apart at stop (sym (is.forth at was) ∙ ap (next_of links) same ∙ is.forth frame frame_stop)) ∙ is.forth at was)
     ];
     back = λ at stop. elim (cases_eq at before) [
       | inl same ↦ rw (same, next_before) prev_after
       | inr other ↦
           let was = stop_was at stop in
           rw (next_kept at other)
-          (prev_kept (next_of links at) (λ same. stop_apart at stop (sym (is.back at was) ∙ ap (prev_of links) same ∙ is.back frame frame_stop)) ∙ is.back at was)
+          (prev_kept (next_of links at)
+          (λ same. stop_apart at stop (sym (is.back at was) ∙ ap (prev_of links) same ∙ is.back frame frame_stop)) ∙ is.back at was)
     ];
   }
 
 -- the next one, where it isn't the end, is a frame
-pub IsLeastFrom-next : (links : Links) (ages : List (Option ℕ)) (low at : ℕ) → IsInOrder links ages → IsNextFrom ages links.end low at → IsLeastFrom ages low (then_some (not (eqb at links.end)) at)
+pub IsLeastFrom-next : (links : Links) (ages : List (Option ℕ)) (low at : ℕ) → IsInOrder links ages → IsNextFrom ages links.end low at
+    → IsLeastFrom ages low (then_some (not (eqb at links.end)) at)
 IsLeastFrom-next links ages low at is next = elim (cases_eq at links.end) [
   | inl same ↦ rw (eq-eqb at links.end same) (record {
     from = tt;
@@ -357,15 +366,18 @@ IsLeastFrom-next links ages low at is next = elim (cases_eq at links.end) [
 ]
 
 -- at first nothing is in
-pub IsInOrder-none : (links : Links) → links.next ≡ replicate (links.end + 1) links.end → links.prev ≡ replicate (links.end + 1) links.end → IsInOrder links (replicate links.end None)
+pub IsInOrder-none : (links : Links) → links.next ≡ replicate (links.end + 1) links.end → links.prev ≡ replicate (links.end + 1) links.end
+    → IsInOrder links (replicate links.end None)
 IsInOrder-none links next_is prev_is =
     let ages : List (Option ℕ) = replicate links.end None in
     let none : (at : ℕ) → age_of ages at ≡ None = λ at. elim (cases_lt at links.end) [
       | inl within ↦ get_or-replicate links.end at None None within
       | inr past ↦ get_or_past ages at None (omega (arith, length-replicate {A = Option ℕ} links.end None))
     ] in
-    let next_end : next_of links links.end ≡ links.end = ap (λ xs. get_or xs links.end 0) next_is ∙ get_or-replicate (links.end + 1) links.end links.end 0 (omega arith) in
-    let prev_end : prev_of links links.end ≡ links.end = ap (λ xs. get_or xs links.end 0) prev_is ∙ get_or-replicate (links.end + 1) links.end links.end 0 (omega arith) in
+    let next_end : next_of links links.end ≡ links.end = ap (λ xs. get_or xs links.end 0) next_is
+    ∙ get_or-replicate (links.end + 1) links.end links.end 0 (omega arith) in
+    let prev_end : prev_of links links.end ≡ links.end = ap (λ xs. get_or xs links.end 0) prev_is
+    ∙ get_or-replicate (links.end + 1) links.end links.end 0 (omega arith) in
     record {
       long = length-replicate links.end None;
       differ = λ one other age has _. let out = none one in cc;

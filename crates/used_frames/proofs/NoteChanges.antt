@@ -25,7 +25,8 @@ pub link_age-wired : (u : Used) → u.wired ≡ true → link_age (Some u) ≡ N
 link_age-wired u wired = rw wired refl
 
 -- an age in the order is that of a note
-pub link_age_cases : (note : Option Used) (age : ℕ) → link_age note ≡ Some age → (u : Used) × (note ≡ Some u) × (u.wired ≡ false) × (u.age ≡ age)
+pub link_age_cases : (note : Option Used) (age : ℕ) → link_age note ≡ Some age
+    → (u : Used) × (note ≡ Some u) × (u.wired ≡ false) × (u.age ≡ age)
 link_age_cases None age is = cc
 link_age_cases (Some u) age is = elim (cases_Bool u.wired) [
   | inl wired ↦ let none = link_age-wired u wired in cc
@@ -83,21 +84,26 @@ AreKept-none frames processors order is = record {
 }
 
 -- a frame that nobody claims leaves the claims as they are
-pub AreMutual-same : (notes : List (Option Used)) (order : Links) (claims : List (Option ℕ)) → AreKept notes order claims → (frame : ℕ) (note : Option Used)
+pub AreMutual-same : (notes : List (Option Used)) (order : Links) (claims : List (Option ℕ)) → AreKept notes order claims
+    → (frame : ℕ) (note : Option Used)
     → claim_in note ≡ claim_in (get_or notes frame None) → AreMutual (map claim_in (set notes frame note)) claims
 AreMutual-same notes order claims are frame note same_claim = rw (map-set_same claim_in notes frame note None same_claim) are.claimed
 
 -- a note with the same age in the order and the same claim changes nothing else
-pub AreKept-same : (notes : List (Option Used)) (order : Links) (claims : List (Option ℕ)) (frame : ℕ) (note : Option Used) → AreKept notes order claims
-    → link_age note ≡ link_age (get_or notes frame None) → claim_in note ≡ claim_in (get_or notes frame None) → AreKept (set notes frame note) order claims
+pub AreKept-same : (notes : List (Option Used)) (order : Links) (claims : List (Option ℕ)) (frame : ℕ) (note : Option Used)
+    → AreKept notes order claims
+    → link_age note ≡ link_age (get_or notes frame None) → claim_in note ≡ claim_in (get_or notes frame None)
+    → AreKept (set notes frame note) order claims
 AreKept-same notes order claims frame note are same_age same_claim = record {
   ordered = rw (map-set_same link_age notes frame note None same_age) are.ordered;
   claimed = AreMutual-same notes order claims are frame note same_claim;
 }
 
 -- a note with the same claim, whose age came into the order or went out of it
-pub AreKept-reorder : (notes : List (Option Used)) (order new : Links) (claims : List (Option ℕ)) (frame : ℕ) (note : Option Used) → AreKept notes order claims
-    → IsInOrder new (set (map link_age notes) frame (link_age note)) → claim_in note ≡ claim_in (get_or notes frame None) → AreKept (set notes frame note) new claims
+pub AreKept-reorder : (notes : List (Option Used)) (order new : Links) (claims : List (Option ℕ)) (frame : ℕ) (note : Option Used)
+    → AreKept notes order claims
+    → IsInOrder new (set (map link_age notes) frame (link_age note)) → claim_in note ≡ claim_in (get_or notes frame None)
+    → AreKept (set notes frame note) new claims
 AreKept-reorder notes order new claims frame note are ordered same_claim = record {
   ordered = rw (map-set link_age notes frame note) ordered;
   claimed = AreMutual-same notes order claims are frame note same_claim;
@@ -114,7 +120,8 @@ module _ (notes : List (Option Used)) (order : Links) (claims : List (Option ℕ
 -- who claims nothing has no entry
 pub unlisted : (notes : List (Option Used)) (order : Links) (claims : List (Option ℕ)) → AreKept notes order claims → (processor : ℕ)
     → ((frame : ℕ) → claim_in (get_or notes frame None) ≡ Some processor → ⊥) → get_or claims processor None ≡ None
-unlisted notes order claims are processor nothing = none_from_never (get_or claims processor None) (λ frame listed. nothing frame (listed_claim notes order claims are frame processor listed))
+unlisted notes order claims are processor nothing = none_from_never (get_or claims processor None)
+    (λ frame listed. nothing frame (listed_claim notes order claims are frame processor listed))
 
 link_age-with_claim : (claim : Option ℕ) (note : Option Used) → link_age (with_claim claim note) ≡ link_age note
 link_age-with_claim claim None = refl
@@ -137,8 +144,12 @@ module _ (notes : List (Option Used)) (order : Links) (claims : List (Option ℕ
       → AreKept (set notes frame (with_claim (Some processor) (get_or notes frame None))) order (set claims processor (Some frame))
   AreKept-claim unclaimed nothing = record {
     ordered = rw (reclaimed (Some processor)) are.ordered;
-    claimed = rw (map-set claim_in notes frame (with_claim (Some processor) (get_or notes frame None)), claim_in-with_claim (Some processor) (get_or notes frame None) (ap is_some is))
-        (AreMutual-claim (map claim_in notes) claims frame processor are.claimed frame_within known (claim_at notes frame ∙ unclaimed) nothing);
+    claimed = rw (
+      map-set claim_in notes frame (with_claim (Some processor) (get_or notes frame None)),
+      claim_in-with_claim (Some processor) (get_or notes frame None) (ap is_some is),
+    )
+        (AreMutual-claim (map claim_in notes) claims frame processor are.claimed frame_within known
+        (claim_at notes frame ∙ unclaimed) nothing);
   }
 
   -- any note without a claim
@@ -152,7 +163,8 @@ module _ (notes : List (Option Used)) (order : Links) (claims : List (Option ℕ
       → AreKept (set notes frame (with_claim None (get_or notes frame None))) order (set claims processor None)
   AreKept-unclaim claims_it = record {
     ordered = rw (reclaimed None) are.ordered;
-    claimed = AreMutual-cleared (with_claim None (get_or notes frame None)) (claim_in-with_claim None (get_or notes frame None) (ap is_some is)) claims_it;
+    claimed = AreMutual-cleared (with_claim None (get_or notes frame None))
+        (claim_in-with_claim None (get_or notes frame None) (ap is_some is)) claims_it;
   }
 
 -- a used frame has a note

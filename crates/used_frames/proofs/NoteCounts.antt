@@ -12,4 +12,11 @@ weight_of false = refl
 pub count_by-set_fits : {X : Type 0} (p : X → Bool) (xs : List X) (i : ℕ) (y d : X) → i < length xs → length xs < 2 ^ 32
     → count_by p xs + from_bool (p y) < 2 ^ 32 + from_bool (p (get_or xs i d))
 count_by-set_fits p xs i y d within few =
-    omega (arith, sum_by-set (λ x. cond (p x) 1 0) xs i y d within, count_by-le-length p (set xs i y), length-set xs i y, weight_of (p y), weight_of (p (get_or xs i d)))
+    omega (
+      arith,
+      sum_by-set (λ x. cond (p x) 1 0) xs i y d within,
+      count_by-le-length p (set xs i y),
+      length-set xs i y,
+      weight_of (p y),
+      weight_of (p (get_or xs i d)),
+    )

@@ -42,14 +42,16 @@ IsReached-first notes next least = record {
 -- after a claimed frame
 pub IsReached-after : (notes : List (Option Used)) (order : Links) (frame age : ℕ) (next : Option ℕ) → IsInOrder order (ages_of notes)
     → IsReached notes (Some frame)
-    → age_of (ages_of notes) frame ≡ Some age → is_claimed_place (get_or notes frame None) ≡ true → IsLeastFrom (ages_of notes) (age + 1) next → IsReached notes next
+    → age_of (ages_of notes) frame ≡ Some age → is_claimed_place (get_or notes frame None) ≡ true
+    → IsLeastFrom (ages_of notes) (age + 1) next → IsReached notes next
 IsReached-after notes order frame age next ordered reached has claimed least = record {
   in_order = in_order_from (ages_of notes) (age + 1) next least;
   passed = λ other old has_old unclaimed.
       let before = reached.passed other old has_old unclaimed in
       let own : Some before.0 ≡ Some age = sym before.1 ∙ has in
       let own_is : before.0 ≡ age = cc in
-      let apart : other ≢ frame = λ same. true≢false (sym claimed ∙ ap (λ i. is_claimed_place (get_or notes i None)) (sym same) ∙ unclaimed) in
+      let apart : other ≢ frame = λ same. true≢false (sym claimed ∙ ap (λ i. is_claimed_place (get_or notes i None)) (sym same)
+      ∙ unclaimed) in
       let differs : old ≢ age = λ same. apart (ordered.differ other frame age (has_old ∙ ap Some same) has) in
       least.least other old has_old (omega (arith, before.2));
 }
@@ -77,7 +79,8 @@ evictable_noted : (note : Option Used) → is_evictable note ≡ true → (link_
 evictable_noted None is = cc
 evictable_noted (Some u) is = elim (cases_Bool u.wired) [
   | inl wired ↦ let never : is_evictable (Some u) ≡ false = rw wired refl in absurd (true≢false (sym is ∙ never))
-  | inr unwired ↦ let unclaimed : is_none u.claim ≡ true = rw unwired at is in (link_age-unwired u unwired, none_unclaimed u.claim unclaimed)
+  | inr unwired ↦ let unclaimed : is_none u.claim ≡ true = rw unwired at is in
+      (link_age-unwired u unwired, none_unclaimed u.claim unclaimed)
 ]
 
 -- the first frame that nobody claims is the victim
@@ -99,7 +102,8 @@ IsLeast-reached notes frame reached unclaimed =
 pub none_reached : (notes : List (Option Used)) → IsReached notes None → list_any is_evictable notes ≡ false
 none_reached notes reached = false_from_ne_true _ (λ some.
     let found = Any-from_list_any is_evictable notes some in
-    let evictable : is_evictable (get_or notes found.0 None) ≡ true = ap is_evictable (get_or_default notes found.0 None found.1 found.2 ∙ found.3) ∙ found.4 in
+    let evictable : is_evictable (get_or notes found.0 None) ≡ true =
+    ap is_evictable (get_or_default notes found.0 None found.1 found.2 ∙ found.3) ∙ found.4 in
     let noted = evictable_noted (get_or notes found.0 None) evictable in
     reached.passed found.0 (age_in (get_or notes found.0 None)) (link_age_at notes found.0 ∙ noted.0) noted.1)
 
@@ -117,9 +121,14 @@ below_last ages order frame age ordered has = elim (cases_lt age (least_after (a
 
 -- fewer ages are left after a frame
 pub fewer_left : (notes : List (Option Used)) (order : Links) (frame age : ℕ) (next : Option ℕ) → IsInOrder order (ages_of notes)
-    → age_of (ages_of notes) frame ≡ Some age → IsLeastFrom (ages_of notes) (age + 1) next → ages_left notes order next < ages_left notes order (Some frame)
+    → age_of (ages_of notes) frame ≡ Some age → IsLeastFrom (ages_of notes) (age + 1) next
+    → ages_left notes order next < ages_left notes order (Some frame)
 fewer_left notes order frame age None ordered has least =
-    omega (arith, below_last (ages_of notes) order frame age ordered has, age_noted (get_or notes frame None) age (sym (link_age_at notes frame) ∙ has))
+    omega (
+      arith,
+      below_last (ages_of notes) order frame age ordered has,
+      age_noted (get_or notes frame None) age (sym (link_age_at notes frame) ∙ has),
+    )
 fewer_left notes order frame age (Some next) ordered has least =
     omega (
       arith,

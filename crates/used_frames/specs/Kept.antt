@@ -19,7 +19,8 @@ link_age (Some u) = if u.wired then None else Some u.age
 -- a frame is claimed by a processor exactly where the processor claims it
 abbrev pub AreMutual : List (Option ℕ) → List (Option ℕ) → Type 0
 AreMutual by_frame by_processor =
-    (frame processor : ℕ) → (slice_index_or by_frame frame None ≡ Some processor) ↔ (slice_index_or by_processor processor None ≡ Some frame)
+    (frame processor : ℕ) → (slice_index_or by_frame frame None ≡ Some processor) ↔
+    (slice_index_or by_processor processor None ≡ Some frame)
 
 -- the used frames that aren't wired are linked in order of age, and each processor has the frame that it claims
 pub record AreKept (notes : List (Option Used)) (order : Links) (claims : List (Option ℕ)) : Type 0 where

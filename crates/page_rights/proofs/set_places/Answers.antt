@@ -7,6 +7,10 @@ pub returns : goal.returns
 returns c i =
     let xs = c.args.leaf.now in
     let k = c.args.end - c.args.from in
-    let count : length (take k (drop c.args.from xs)) ≡ k = omega (arith, length-take k (drop c.args.from xs), length-drop c.args.from xs) in
+    let count : length (take k (drop c.args.from xs)) ≡ k = omega (
+      arith,
+      length-take k (drop c.args.from xs),
+      length-drop c.args.from xs,
+    ) in
     let filled = c.fill.ensures.after (λ y same. search rules) ∙ ap (λ n. replicate n c.args.rights) count in
     filled_at xs c.fill.new.self c.args.from c.args.end c.args.rights None i c.requires.range (omega arith) filled

@@ -6,7 +6,8 @@ use Rattle.reservation_lists.proofs.Places.{IsPartitionedBy-before, place_at_end
 use Rattle.reservation_lists.proofs.place_of.Goals as goal
 
 pub returns-in-Some : goal.returns-in-Some
-returns-in-Some c = sym (place_at_end c.args.member.now c.in-Some.last.now c.args.list.now c.requires (sym c.in-Some.ensures.value) (search rules))
+returns-in-Some c = sym (place_at_end c.args.member.now c.in-Some.last.now c.args.list.now c.requires (sym c.in-Some.ensures.value)
+    (search rules))
 
 pub returns-in_default : goal.returns-in_default
 returns-in_default c =
@@ -14,4 +15,5 @@ returns-in_default c =
     let parted = IsPartitionedBy-before c.args.member.now c.args.list.now c.requires in
     let point = IsPartitionPoint-from_clause before _ _ c.partition_point.ensures.partitioned parted (λ a r q k. search rules) in
     let d : Member = record { stamp = 0; frame = 0 } in
-    sym (prefix_len_is before c.args.list.now c.partition_point.result d c.partition_point.ensures.bound (λ k below. point.0 k d (omega arith) below) (λ below. point.1 _ d (omega arith) below))
+    sym (prefix_len_is before c.args.list.now c.partition_point.result d c.partition_point.ensures.bound
+    (λ k below. point.0 k d (omega arith) below) (λ below. point.1 _ d (omega arith) below))

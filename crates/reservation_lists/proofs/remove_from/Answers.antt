@@ -5,7 +5,8 @@ use Rattle.std.specs.Option.{MatchOption, option_eq}
 use Rattle.std.proofs.lemmas.Bool.{false≢true}
 use Rattle.std.proofs.lemmas.Bool.Decides.{Decides-at, Decides-like}
 use Rattle.std.proofs.lemmas.Option.{slice_get_past, slice_get-get_or}
-use Rattle.pager_model.specs.Ages.{Member, same_member}
+use Rattle.reservation_lists.specs.Kept.{same_member}
+use Rattle.pager_model.specs.Ages.{Member}
 use Rattle.reservation_lists.proofs.StampOrder.{Decides-same_member}
 use Rattle.reservation_lists.proofs.Places.{without_member_at_place, without_member_elsewhere}
 use Rattle.reservation_lists.proofs.remove_from.Goals as goal

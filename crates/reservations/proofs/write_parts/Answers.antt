@@ -8,7 +8,11 @@ pub overflow_mul-first : goal.overflow_mul-first
 overflow_mul-first c =
     let r = c.args.whole.now in
     let pages : c.pages.result ≡ 8 ^ (r.size - 1) = c.pages.ensures ∙ ap (λ k. 8 ^ k) c.smaller-size.ensures in
-    rw pages (omega (arith, part_of_eight c.loop-i.i r.size c.requires.splits c.loop-i-test.true, eight_small r.size c.requires.whole_placed.aligned.0))
+    rw pages (omega (
+      arith,
+      part_of_eight c.loop-i.i r.size c.requires.splits c.loop-i-test.true,
+      eight_small r.size c.requires.whole_placed.aligned.0,
+    ))
 
 pub overflow_add-first : goal.overflow_add-first
 overflow_add-first c =

@@ -8,11 +8,26 @@ use Rattle.buddy_extents.proofs.Free.give.Goals as goal
 
 pub put_in-requires-clause-frame : goal.put_in-requires-clause-frame
 put_in-requires-clause-frame g c =
-    omega (arith, c.requires.within, ap length c.self.view_is, length-free_in c.self.inside.nodes c.self.inside.frames, c.self.invariant.most, one-le-pow c.args.extent.size 8 (omega arith))
+    omega (
+      arith,
+      c.requires.within,
+      ap length c.self.view_is,
+      length-free_in c.self.inside.nodes c.self.inside.frames,
+      c.self.invariant.most,
+      one-le-pow c.args.extent.size 8 (omega arith),
+    )
 
 pub overflow_add-self : goal.overflow_add-self
 overflow_add-self g c =
-    omega (arith, few_free c.self.inside.nodes c.self.inside.frames c.self.inside.count c.self.invariant, c.pages.ensures, c.requires.within, ap length c.self.view_is, length-free_in c.self.inside.nodes c.self.inside.frames, c.self.invariant.most)
+    omega (
+      arith,
+      few_free c.self.inside.nodes c.self.inside.frames c.self.inside.count c.self.invariant,
+      c.pages.ensures,
+      c.requires.within,
+      ap length c.self.view_is,
+      length-free_in c.self.inside.nodes c.self.inside.frames,
+      c.self.invariant.most,
+    )
 
 -- the extent is given, in terms of the nodes
 done : (g : Over) (c : goal.After-self-1 g)

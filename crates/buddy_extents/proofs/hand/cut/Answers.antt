@@ -15,7 +15,9 @@ loop-order-preserved g c =
       small = omega arith;
       cost = omega arith;
       in_hand = λ frames free most hand. rw (c.insert.ensures.set, c.node.ensures.node)
-          (cut nodes frames next c.args.frame c.buddy.result free most (subst (λ k. InHand nodes frames k c.args.frame free) back (c.loop-order.invariant.in_hand frames free most hand)) c.buddy.ensures);
+          (cut nodes frames next c.args.frame c.buddy.result free most
+          (subst (λ k. InHand nodes frames k c.args.frame free) back
+          (c.loop-order.invariant.in_hand frames free most hand)) c.buddy.ensures);
     }
 
 pub returns-clause-in_hand : goal.returns-clause-in_hand

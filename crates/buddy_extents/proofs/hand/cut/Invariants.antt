@@ -9,7 +9,8 @@ invariant-loop-order g l = record {
   part : l.part ≤ l.order;
   small : l.order ≤ 9;
   cost : l.steps + 6 * l.order ≡ l.fn.steps + 6 * l.whole;
-  in_hand : (frames : ℕ) (free : List Bool) → frames ≤ 32768 → InHand l.fn.nodes frames l.whole l.frame free → InHand l.nodes frames l.order l.frame free;
+  in_hand : (frames : ℕ) (free : List Bool) → frames ≤ 32768 → InHand l.fn.nodes frames l.whole l.frame free
+      → InHand l.nodes frames l.order l.frame free;
 }
 
 abbrev pub decreases-loop-order : goal.decreases-loop-order

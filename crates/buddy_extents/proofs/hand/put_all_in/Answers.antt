@@ -6,7 +6,8 @@ use Rattle.buddy_extents.proofs.hand.put_all_in.Goals as goal
 
 pub loop-block-init : goal.loop-block-init
 loop-block-init g c = record {
-  blocks = AreBlocks-none c.args.nodes.now (ap length c.requires.empty ∙ length-replicate 65472 false) (λ k. ap (λ xs. get_or xs k false) c.requires.empty ∙ get_or-alike 65472 k false);
+  blocks = AreBlocks-none c.args.nodes.now (ap length c.requires.empty ∙ length-replicate 65472 false)
+      (λ k. ap (λ xs. get_or xs k false) c.requires.empty ∙ get_or-alike 65472 k false);
   free = free_in-none c.args.nodes.now;
 }
 

@@ -8,7 +8,8 @@ pub returns-then-not-has-clause-put : goal.returns-then-not-has-clause-put
 returns-then-not-has-clause-put g c frames free most hand =
     let nodes = c.loop-order.nodes in
     rw (c.insert.ensures.set, c.node.ensures.node)
-    (put_beside nodes frames c.loop-order.order c.args.frame c.buddy.result free most (c.loop-order.invariant.in_hand frames free most hand) c.buddy.ensures
+    (put_beside nodes frames c.loop-order.order c.args.frame c.buddy.result free most
+    (c.loop-order.invariant.in_hand frames free most hand) c.buddy.ensures
     (ap (λ x. get_or nodes x false) (sym c.node-beside.ensures.node) ∙ (sym c.has.ensures.has ∙ c.if-not-has.true)))
 
 pub loop-order-preserved : goal.loop-order-preserved
@@ -18,7 +19,8 @@ loop-order-preserved g c =
       nodes = ap length c.remove.ensures.set ∙ (length-set nodes c.node-beside.result false ∙ c.loop-order.invariant.nodes);
       cost = omega arith;
       in_hand = λ frames free most hand. rw (c.remove.ensures.set, c.node-beside.ensures.node)
-          (join nodes frames c.loop-order.order c.args.frame c.buddy.result free most (c.loop-order.invariant.in_hand frames free most hand) c.loop-order-test.true c.buddy.ensures
+          (join nodes frames c.loop-order.order c.args.frame c.buddy.result free most
+          (c.loop-order.invariant.in_hand frames free most hand) c.loop-order-test.true c.buddy.ensures
           (ap (λ x. get_or nodes x false) (sym c.node-beside.ensures.node) ∙ (sym c.has.ensures.has ∙ c.if-not-has.false)));
     }
 
@@ -27,4 +29,5 @@ returns-clause-put g c frames free most hand =
     let nodes = c.loop-order.nodes in
     let last : c.loop-order.order ≡ 9 = omega arith in
     rw (c.insert-2.ensures.set, c.node-2.ensures.node)
-    (put_largest nodes frames c.args.frame free most (subst (λ k. InHand nodes frames k c.args.frame free) last (c.loop-order.invariant.in_hand frames free most hand)))
+    (put_largest nodes frames c.args.frame free most (subst (λ k. InHand nodes frames k c.args.frame free) last
+    (c.loop-order.invariant.in_hand frames free most hand)))

@@ -7,5 +7,6 @@ abbrev pub invariant-loop-order : goal.invariant-loop-order
 invariant-loop-order g l = record {
   nodes : length l.nodes ≡ 65472;
   cost : l.steps + 7 * l.fn.order ≡ l.fn.steps + 7 * l.order;
-  in_hand : (frames : ℕ) (free : List Bool) → frames ≤ 32768 → InHand l.fn.nodes frames l.fn.order l.frame free → InHand l.nodes frames l.order l.frame free;
+  in_hand : (frames : ℕ) (free : List Bool) → frames ≤ 32768 → InHand l.fn.nodes frames l.fn.order l.frame free
+      → InHand l.nodes frames l.order l.frame free;
 }

@@ -5,5 +5,6 @@ use Rattle.buddy_extents.proofs.nodes.first_frame.Goals as goal
 
 pub returns-clause-known : goal.returns-clause-known
 returns-clause-known c =
-    let known : (c.args.node - first_node c.args.order) * 2 ^ c.args.order < 32768 = first_frame_known c.args.order c.args.node c.requires.order c.requires.from c.requires.to in
+    let known : (c.args.node - first_node c.args.order) * 2 ^ c.args.order < 32768 =
+    first_frame_known c.args.order c.args.node c.requires.order c.requires.from c.requires.to in
     rw c.first_node.ensures (omega arith)

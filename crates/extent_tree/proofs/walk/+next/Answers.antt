@@ -26,11 +26,16 @@ pub part_at-requires : goal.part_at-requires
 part_at-requires g t c =
     let s = c.args.store.now in
     let at = first_place s c.args.height c.loop-page.place c.loop-page.page c.args.end c.loop-page.invariant.places c.loop-page-test.true in
-    omega (arith, above_pages s c.requires.tree c.args.height c.loop-page.page c.loop-page.place c.in-Some-node.node c.requires.height at (sym (ap (λ s. s.node) c.spot-spot.ensures.spot) ∙ c.in-Some-node.is))
+    omega (
+      arith,
+      above_pages s c.requires.tree c.args.height c.loop-page.page c.loop-page.place c.in-Some-node.node c.requires.height at
+          (sym (ap (λ s. s.node) c.spot-spot.ensures.spot) ∙ c.in-Some-node.is),
+    )
 
 pub place-first-requires : goal.place-first-requires
 place-first-requires g t c =
-    let hangs = c.requires.tree.nodes.hangs c.loop-page.place c.in-Some-node.node (sym (ap (λ s. s.node) c.spot-spot.ensures.spot) ∙ c.in-Some-node.is) in
+    let hangs = c.requires.tree.nodes.hangs c.loop-page.place c.in-Some-node.node
+    (sym (ap (λ s. s.node) c.spot-spot.ensures.spot) ∙ c.in-Some-node.is) in
     omega (arith, hangs.0, c.requires.tree.nodes.fits, c.requires.tree.nodes.small, c.part_at.ensures.small)
 
 pub next-requires : goal.next-requires
@@ -45,7 +50,8 @@ next-requires g t c κs within =
     let stop : page + c.min.result ≤ page + rest_at h page = omega (arith, c.min.ensures, c.rest_at.ensures) in
     let smaller : 4 - (h + 1) < 4 - h = omega (arith, low) in
     let lower : h + 1 ≤ 3 = omega (arith, low) in
-    let parts = parts_in_order s h c.loop-page.place page (page + c.min.result) c.in-Some-node.node c.place-first.result low stop at leads first in
+    let parts = parts_in_order s h c.loop-page.place page
+    (page + c.min.result) c.in-Some-node.node c.place-first.result low stop at leads first in
     (search (rules, smaller), (within.0, (within.1, (lower, (c.requires.tree, parts)))))
 
 pub returns-in-Some-next-clause-some : goal.returns-in-Some-next-clause-some
@@ -56,32 +62,45 @@ returns-in-Some-next-clause-some g t c =
     let stop = page + c.min.result in
     let at = first_place s h c.loop-page.place page c.args.end c.loop-page.invariant.places c.loop-page-test.true in
     let value = sym (ap (λ s. s.value) c.spot-spot.ensures.spot) ∙ c.in_default.is in
-    next_up s h c.args.from page stop c.args.end c.in-Some-next.found c.in-Some-next.ensures.some c.loop-page.invariant.from_on (omega (arith, c.min.ensures, c.loop-page-test.true)) c.loop-page.invariant.none
-    (λ other on before. row_at s h c.loop-page.place page other c.requires.height at (number_within h page other c.requires.height on (omega (arith, before, c.min.ensures, c.rest_at.ensures))) ∙ value)
+    next_up s h c.args.from page stop c.args.end c.in-Some-next.found c.in-Some-next.ensures.some c.loop-page.invariant.from_on
+    (omega (arith, c.min.ensures, c.loop-page-test.true)) c.loop-page.invariant.none
+    (λ other on before. row_at s h c.loop-page.place page other c.requires.height at
+    (number_within h page other c.requires.height on (omega (arith, before, c.min.ensures, c.rest_at.ensures))) ∙ value)
 
 pub returns-in-Some-next-clause-cost : goal.returns-in-Some-next-clause-cost
 returns-in-Some-next-clause-cost g t c =
     let next = c.in-Some-next.ensures in
-    looks_more c.args.height c.args.from c.loop-page.page (c.in-Some-next.found.page + 1) c.args.steps.now c.loop-page.steps c.next.new.steps c.requires.height c.loop-page.invariant.from_on (omega (arith, next.some.from_on)) c.loop-page.invariant.cost (omega (arith, next.cost, c.spot-spot.ensures.cost))
+    looks_more c.args.height c.args.from c.loop-page.page
+    (c.in-Some-next.found.page + 1) c.args.steps.now c.loop-page.steps c.next.new.steps c.requires.height c.loop-page.invariant.from_on
+    (omega (arith, next.some.from_on)) c.loop-page.invariant.cost (omega (arith, next.cost, c.spot-spot.ensures.cost))
 
 pub returns-in-Some-next-clause-roots : goal.returns-in-Some-next-clause-roots
 returns-in-Some-next-clause-roots g t c root _ bare =
     let s = c.args.store.now in
     let at = first_place s c.args.height c.loop-page.place c.loop-page.page c.args.end c.loop-page.invariant.places c.loop-page-test.true in
-    absurd (no_root_node s c.args.height c.loop-page.page c.loop-page.place c.in-Some-node.node root at (sym (ap (λ s. s.node) c.spot-spot.ensures.spot) ∙ c.in-Some-node.is) (bare c.loop-page.page c.loop-page.invariant.from_on c.loop-page-test.true))
+    absurd (no_root_node s c.args.height c.loop-page.page c.loop-page.place c.in-Some-node.node root at
+    (sym (ap (λ s. s.node) c.spot-spot.ensures.spot) ∙ c.in-Some-node.is)
+    (bare c.loop-page.page c.loop-page.invariant.from_on c.loop-page-test.true))
 
 pub overflow_add-place : goal.overflow_add-place
 overflow_add-place g t c =
     let s = c.args.store.now in
     let at = first_place s c.args.height c.loop-page.place c.loop-page.page c.args.end c.loop-page.invariant.places c.loop-page-test.true in
-    omega (arith, place_known s c.requires.tree.nodes c.args.height c.loop-page.page c.loop-page.place at, c.requires.tree.nodes.places, c.requires.tree.nodes.fits, c.requires.tree.nodes.small)
+    omega (
+      arith,
+      place_known s c.requires.tree.nodes c.args.height c.loop-page.page c.loop-page.place at,
+      c.requires.tree.nodes.places,
+      c.requires.tree.nodes.fits,
+      c.requires.tree.nodes.small,
+    )
 
 pub loop-page-smaller : goal.loop-page-smaller
 loop-page-smaller g t c =
     omega (arith, c.min.ensures, c.rest_at.ensures, rest_some c.args.height c.loop-page.page c.requires.height, c.loop-page-test.true)
 
 -- no page of the extent round the page has a row round it
-passed : (g : Over) (t : ℕ) (c : goal.Joined-spot-2 g t) → NoRows c.args.store.now (3 - c.args.height) c.loop-page.page (c.loop-page.page + c.min.result)
+passed : (g : Over) (t : ℕ) (c : goal.Joined-spot-2 g t) → NoRows c.args.store.now (3 - c.args.height) c.loop-page.page
+    (c.loop-page.page + c.min.result)
 passed g t c =
     let s = c.args.store.now in
     let h = c.args.height in
@@ -89,12 +108,15 @@ passed g t c =
     let place = c.loop-page.place in
     let at = first_place s h place page c.args.end c.loop-page.invariant.places c.loop-page-test.true in
     let value = sym (ap (λ s. s.value) c.spot-spot.ensures.spot) ∙ c.in_default.is in
-    let inside : (other : ℕ) → page ≤ other → other < page + c.min.result → number_at h other ≡ number_at h page = λ other on before. number_within h page other c.requires.height on (omega (arith, before, c.min.ensures, c.rest_at.ensures)) in
+    let inside : (other : ℕ) → page ≤ other → other < page + c.min.result → number_at h other ≡ number_at h page =
+    λ other on before. number_within h page other c.requires.height on (omega (arith, before, c.min.ensures, c.rest_at.ensures)) in
     elim c.match-spot-2.branch [
       | in-Some-node+in_default-next w ↦
-          no_rows_up s h page (page + c.min.result) w.in_default-next.ensures.none (λ other on before. row_at s h place page other c.requires.height at (inside other on before) ∙ value)
+          no_rows_up s h page (page + c.min.result) w.in_default-next.ensures.none
+          (λ other on before. row_at s h place page other c.requires.height at (inside other on before) ∙ value)
       | in_default-node w ↦ λ size other most on before.
-          no_row_within s c.requires.tree h place page size other c.requires.height at value (sym (ap (λ s. s.node) c.spot-spot.ensures.spot) ∙ w.in_default-node.is) (inside other on before) most
+          no_row_within s c.requires.tree h place page size other c.requires.height at value
+          (sym (ap (λ s. s.node) c.spot-spot.ensures.spot) ∙ w.in_default-node.is) (inside other on before) most
     ]
 
 -- the looks at the extent round the page
@@ -112,7 +134,9 @@ root_look g t c root bare =
     let at = first_place s c.args.height c.loop-page.place c.loop-page.page c.args.end c.loop-page.invariant.places c.loop-page-test.true in
     elim c.match-spot-2.branch [
       | in-Some-node+in_default-next w ↦
-          absurd (no_root_node s c.args.height c.loop-page.page c.loop-page.place w.in-Some-node.node root at (sym (ap (λ s. s.node) c.spot-spot.ensures.spot) ∙ w.in-Some-node.is) (bare c.loop-page.page c.loop-page.invariant.from_on c.loop-page-test.true))
+          absurd (no_root_node s c.args.height c.loop-page.page c.loop-page.place w.in-Some-node.node root at
+          (sym (ap (λ s. s.node) c.spot-spot.ensures.spot) ∙ w.in-Some-node.is)
+          (bare c.loop-page.page c.loop-page.invariant.from_on c.loop-page-test.true))
       | in_default-node w ↦ omega (arith, w.steps-is, c.spot-spot.ensures.cost)
     ]
 
@@ -122,18 +146,41 @@ loop-page-preserved g t c =
     let h = c.args.height in
     let page = c.loop-page.page in
     let was = c.loop-page.invariant in
-    let some : 0 < c.min.result = omega (arith, c.min.ensures, c.rest_at.ensures, rest_some h page c.requires.height, c.loop-page-test.true) in
+    let some : 0 < c.min.result = omega (
+      arith,
+      c.min.ensures,
+      c.rest_at.ensures,
+      rest_some h page c.requires.height,
+      c.loop-page-test.true,
+    ) in
     let within : page + c.min.result ≤ c.args.end = omega (arith, c.min.ensures, c.loop-page-test.true) in
-    let full : page + c.min.result < c.args.end → c.min.result ≡ rest_at h page = λ before. omega (arith, before, c.min.ensures, c.rest_at.ensures) in
+    let full : page + c.min.result < c.args.end → c.min.result ≡ rest_at h page =
+    λ before. omega (arith, before, c.min.ensures, c.rest_at.ensures) in
     let least : c.min.result ≤ rest_at h page = omega (arith, c.min.ensures, c.rest_at.ensures) in
     record {
       none = no_rows_on s (3 - h) c.args.from page (page + c.min.result) was.none (passed g t c);
       from_on = omega (arith, was.from_on);
       within = inl within;
-      places = rest_in_order s h c.loop-page.place page (page + c.min.result) c.args.end c.requires.height (omega arith) (λ before. omega (arith, full before)) was.places;
-      cost = looks_more h c.args.from page (page + c.min.result) c.args.steps.now c.loop-page.steps c.match-spot-2.steps c.requires.height was.from_on (omega (arith, some)) was.cost (looks g t c);
-      roots = λ root bare before. omega (arith, was.roots root bare c.loop-page-test.true, root_look g t c root bare, full before, ap (λ h. rest_at h page) root);
-      all_roots = λ root bare. omega (arith, was.roots root bare c.loop-page-test.true, root_look g t c root bare, some, least, ap (λ h. rest_at h page) root);
+      places = rest_in_order s h c.loop-page.place page (page + c.min.result) c.args.end c.requires.height (omega arith)
+          (λ before. omega (arith, full before)) was.places;
+      cost = looks_more h c.args.from page
+          (page + c.min.result) c.args.steps.now c.loop-page.steps c.match-spot-2.steps c.requires.height was.from_on
+          (omega (arith, some)) was.cost (looks g t c);
+      roots = λ root bare before. omega (
+        arith,
+        was.roots root bare c.loop-page-test.true,
+        root_look g t c root bare,
+        full before,
+        ap (λ h. rest_at h page) root,
+      );
+      all_roots = λ root bare. omega (
+        arith,
+        was.roots root bare c.loop-page-test.true,
+        root_look g t c root bare,
+        some,
+        least,
+        ap (λ h. rest_at h page) root,
+      );
     }
 
 pub returns-clause-cost : goal.returns-clause-cost

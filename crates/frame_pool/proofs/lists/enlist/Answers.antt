@@ -12,7 +12,8 @@ returns-then-level-lt3-clause-listed c = λ records none known are.
     let told = rw is at c.yields_in.ensures in
     let named = rw is at c.requires.there in
     rw (c.insert.ensures, is)
-    (AreListed-enlisted c.args.sizes c.args.lists.now.lists st.used records c.args.id r none known are c.in-Some.size named (sym told ∙ c.in-Some.is) (omega arith))
+    (AreListed-enlisted c.args.sizes c.args.lists.now.lists st.used records c.args.id r none known are c.in-Some.size named
+    (sym told ∙ c.in-Some.is) (omega arith))
 
 pub returns-else-level-lt3-clause-listed : goal.returns-else-level-lt3-clause-listed
 returns-else-level-lt3-clause-listed c = λ records none known are.

@@ -47,9 +47,11 @@ loop-i-preserved c =
           let listed = rw pages at w.enlist.ensures.listed in
           let none = none_before c.args.sizes i start lists st r splits small has in
           let known = known_before c.args.sizes i start lists st r splits small has in
-          rw w.lists-is (HasParts-more c.args.sizes i start lists st r splits small has w.enlist.new.lists (listed _ none known has.listed) w.enlist.ensures.room)
+          rw w.lists-is (HasParts-more c.args.sizes i start lists st r splits small has w.enlist.new.lists
+          (listed _ none known has.listed) w.enlist.ensures.room)
       | else-is_some w ↦
-          let none = none_from_is_some (reservation_at st (r.frame + i * (c.pages-pages.result / 8))) (ap is_some (sym c.get.ensures.record) ∙ sym c.is_some.ensures ∙ w.if-is_some.false) in
+          let none = none_from_is_some (reservation_at st (r.frame + i * (c.pages-pages.result / 8)))
+          (ap is_some (sym c.get.ensures.record) ∙ sym c.is_some.ensures ∙ w.if-is_some.false) in
           rw w.lists-is (HasParts-skip c.args.sizes i start lists st r splits small has (rw pages at none))
     ]
 

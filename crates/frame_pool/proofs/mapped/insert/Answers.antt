@@ -11,10 +11,12 @@ pub place-requires-clause-within : goal.place-requires-clause-within
 place-requires-clause-within c = rw c.pages_of.ensures c.requires.2.within
 
 pub place-requires-clause-apart : goal.place-requires-clause-apart
-place-requires-clause-apart c = rw c.pages_of.ensures (entering_apart c.args.map.now c.requires.0 c.args.reservation.now c.requires.1 c.requires.2)
+place-requires-clause-apart c = rw c.pages_of.ensures
+    (entering_apart c.args.map.now c.requires.0 c.args.reservation.now c.requires.1 c.requires.2)
 
 pub place-requires-clause-room : goal.place-requires-clause-room
-place-requires-clause-room c = rw c.pages_of.ensures (entering_room c.args.map.now c.requires.0 c.args.reservation.now c.requires.1 c.requires.2)
+place-requires-clause-room c = rw c.pages_of.ensures
+    (entering_room c.args.map.now c.requires.0 c.args.reservation.now c.requires.1 c.requires.2)
 
 pub returns : goal.returns
 returns c = λ records mapped may.

@@ -39,7 +39,8 @@ loop-i-preserved c =
       | in-Some w ↦
           let is = rw pages at (sym w.in-Some.ensures.record) in
           let may = part_enters i start c.loop-i.map st r splits small has w.in-Some.part is in
-          rw w.map-is (HasMapped-more i start c.loop-i.map st r splits small has w.in-Some.part w.insert.new.map is (w.insert.ensures _ has.mapped may))
+          rw w.map-is (HasMapped-more i start c.loop-i.map st r splits small has w.in-Some.part w.insert.new.map is
+          (w.insert.ensures _ has.mapped may))
       | in_default w ↦
           let none = rw pages at (sym c.get.ensures.record ∙ w.in_default.is) in
           rw w.map-is (HasMapped-skip i start c.loop-i.map st r splits small has none)

@@ -16,7 +16,8 @@ placed c = rw c.unwrap-reservation.ensures at c.get.ensures.placed
 pub remove-requires-clause-space : goal.remove-requires-clause-space
 remove-requires-clause-space c =
     let w = (goal.at.remove-requires-clause-space c).After-pages_of in
-    leaving_known c.args.map.now c.args.reservations.now.records c.args.id c.unwrap-reservation.result c.requires.mapped (stood w) (placed w).pages_aligned
+    leaving_known c.args.map.now c.args.reservations.now.records c.args.id c.unwrap-reservation.result c.requires.mapped (stood w)
+    (placed w).pages_aligned
 
 pub remove-requires-clause-aligned : goal.remove-requires-clause-aligned
 remove-requires-clause-aligned c = rw c.pages_of.ensures (placed (goal.at.remove-requires-clause-aligned c).After-pages_of).pages_aligned
@@ -29,11 +30,14 @@ remove-requires-clause-within c =
 pub remove-requires-clause-placed : goal.remove-requires-clause-placed
 remove-requires-clause-placed c =
     let w = (goal.at.remove-requires-clause-placed c).After-pages_of in
-    rw c.pages_of.ensures (leaving_placed c.args.map.now c.args.reservations.now.records c.args.id c.unwrap-reservation.result c.requires.mapped (stood w) (placed w).pages_aligned)
+    rw c.pages_of.ensures
+    (leaving_placed c.args.map.now c.args.reservations.now.records c.args.id c.unwrap-reservation.result c.requires.mapped (stood w)
+    (placed w).pages_aligned)
 
 pub returns : goal.returns
 returns c =
     let w = (goal.at.returns c).After-pages_of in
     let places = rw c.pages_of.ensures at c.remove.ensures.placed in
     let count = rw c.pages_of.ensures at c.remove.ensures.count in
-    IsMapped-left c.args.map.now c.args.reservations.now.records c.args.id c.unwrap-reservation.result c.requires.mapped (stood w) (placed w).pages_aligned c.remove.new.self places c.remove.ensures.room count
+    IsMapped-left c.args.map.now c.args.reservations.now.records c.args.id c.unwrap-reservation.result c.requires.mapped (stood w)
+    (placed w).pages_aligned c.remove.new.self places c.remove.ensures.room count

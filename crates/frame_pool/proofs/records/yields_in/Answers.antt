@@ -17,4 +17,5 @@ returns c =
     let st = c.args.reservations.now in
     let found = some_from_is_some (reservation_at st c.args.id) c.requires in
     let told : Some c.in_ok-widest.widest ≡ yield_of (is_used st.used) found.0 = rw found.1 at c.in_ok-widest.ensures in
-    rw found.1 (sym (yield_in-told c.args.sizes (is_used st.used) found.0 c.in_ok-widest.widest c.within.result c.within.ensures (sym told)))
+    rw found.1 (sym (yield_in-told c.args.sizes (is_used st.used) found.0 c.in_ok-widest.widest c.within.result c.within.ensures
+    (sym told)))

@@ -28,15 +28,18 @@ first g c =
     (kept_entries t c.self.invariant.0).in_space whole.extent.first (part_of whole whole.extent.first) (there g c whole.extent.first refl)
 
 after : (g : Over) (c : After-join g)
-    → IsKept c.join.new.self × Maps c.args.whole.now.extent (λ _. Some c.args.whole.now) c.self.inside.tree c.join.new.self × (pages_in c.join.new.self ≡ pages_in c.self.inside.tree)
+    → IsKept c.join.new.self × Maps c.args.whole.now.extent (λ _. Some c.args.whole.now) c.self.inside.tree c.join.new.self
+    × (pages_in c.join.new.self ≡ pages_in c.self.inside.tree)
 after g c =
-    join_kept c.self.inside.tree c.join.new.self c.args.whole.now c.self.invariant.0 c.requires.large c.requires.extent (parts g (goal.at.After-join g c).After-self) c.join.ensures.rows c.join.ensures.splits
+    join_kept c.self.inside.tree c.join.new.self c.args.whole.now c.self.invariant.0 c.requires.large c.requires.extent
+    (parts g (goal.at.After-join g c).After-self) c.join.ensures.rows c.join.ensures.splits
 
 pub subtract-requires : goal.subtract-requires
 subtract-requires g c =
     let self = (goal.at.subtract-requires g c).After-self in
     subst (λ k. 8 ≤ slice_index c.self.inside.counts k) (sym c.smaller.ensures)
-    (eight_there c.self.inside.tree c.args.whole.now c.self.inside.counts c.requires.large c.requires.extent (first g self) (there g self) c.self.invariant.1)
+    (eight_there c.self.inside.tree c.args.whole.now c.self.inside.counts c.requires.large c.requires.extent (first g self)
+    (there g self) c.self.invariant.1)
 
 pub add-requires : goal.add-requires
 add-requires g c =
@@ -53,7 +56,8 @@ invariant_of-self g c =
 
 pub returns-clause-entries : goal.returns-clause-entries
 returns-clause-entries g c =
-    subst (λ t. Maps c.args.whole.now.extent (λ _. Some c.args.whole.now) t c.join.new.self) c.self.view_is (after g (goal.at.returns-clause-entries g c).After-join).1
+    subst (λ t. Maps c.args.whole.now.extent (λ _. Some c.args.whole.now) t c.join.new.self) c.self.view_is
+    (after g (goal.at.returns-clause-entries g c).After-join).1
 
 pub returns-clause-pages : goal.returns-clause-pages
 returns-clause-pages g c = (after g (goal.at.returns-clause-pages g c).After-join).2 ∙ ap pages_in c.self.view_is

@@ -11,7 +11,8 @@ pub loop-size-preserved : goal.loop-size-preserved
 loop-size-preserved g c =
     let t = c.self.inside.tree in
     let size = c.loop-size.size in
-    let here : row t size c.args.page ≡ None = sym (spot_row t size c.args.page c.loop-size.spot c.loop-size.invariant.spot) ∙ (sym c.value.ensures ∙ none_from_is_some c.value.result c.loop-size-test.ensures) in
+    let here : row t size c.args.page ≡ None = sym (spot_row t size c.args.page c.loop-size.spot c.loop-size.invariant.spot)
+    ∙ (sym c.value.ensures ∙ none_from_is_some c.value.result c.loop-size-test.ensures) in
     record {
       low = omega (arith, c.loop-size.invariant.low, c.smaller-size.ensures);
       spot = c.part-spot.ensures.spot;
@@ -19,17 +20,26 @@ loop-size-preserved g c =
         | inl higher ↦ c.loop-size.invariant.above other higher low
         | inr same ↦ ap (λ k. row t k c.args.page) {x = other} {y = size} (omega (arith, c.smaller-size.ensures)) ∙ here
       ];
-      cost = omega (arith, c.loop-size.invariant.cost, c.part-spot.ensures.cost, c.smaller-size.ensures, c.if-level-gt0.true, c.level.ensures.level);
+      cost = omega (
+        arith,
+        c.loop-size.invariant.cost,
+        c.part-spot.ensures.cost,
+        c.smaller-size.ensures,
+        c.if-level-gt0.true,
+        c.level.ensures.level,
+      );
     }
 
 pub returns-in_err-value-clause-entry : goal.returns-in_err-value-clause-entry
 returns-in_err-value-clause-entry g c =
     let t = c.self.inside.tree in
     let size = c.loop-size.size in
-    let here : row t size c.args.page ≡ None = sym (spot_row t size c.args.page c.loop-size.spot c.loop-size.invariant.spot) ∙ (sym c.value-2.ensures ∙ c.in_err-value.was) in
+    let here : row t size c.args.page ≡ None = sym (spot_row t size c.args.page c.loop-size.spot c.loop-size.invariant.spot)
+    ∙ (sym c.value-2.ensures ∙ c.in_err-value.was) in
     let last : size ≡ 0 = elim c.loop-size-test.branch [
       | then-loop-size-test+else-level-gt0 w ↦ omega (arith, w.level.ensures.level, w.if-level-gt0.false)
-      | else-loop-size-test w ↦ absurd (false≢true (sym (ap is_some (c.value.ensures ∙ (sym c.value-2.ensures ∙ c.in_err-value.was))) ∙ w.loop-size-test.ensures))
+      | else-loop-size-test w ↦ absurd
+          (false≢true (sym (ap is_some (c.value.ensures ∙ (sym c.value-2.ensures ∙ c.in_err-value.was))) ∙ w.loop-size-test.ensures))
     ] in
     let none : (other : ℕ) → other ≤ 3 → row t other c.args.page ≡ None = λ other low. elim (cases_lt size other) [
       | inl higher ↦ c.loop-size.invariant.above other higher low
@@ -42,4 +52,5 @@ returns-clause-entry g c =
     let t = c.self.inside.tree in
     let size = c.loop-size.size in
     let here = sym (spot_row t size c.args.page c.loop-size.spot c.loop-size.invariant.spot) ∙ sym c.in_ok-value.ensures in
-    ap Some c.round.ensures ∙ (sym (entry_is t size c.args.page c.in_ok-value.field-0 c.self.invariant.0 c.loop-size.invariant.low here) ∙ ap (λ t. entry_at t c.args.page) c.self.view_is)
+    ap Some c.round.ensures ∙ (sym (entry_is t size c.args.page c.in_ok-value.field-0 c.self.invariant.0 c.loop-size.invariant.low here)
+    ∙ ap (λ t. entry_at t c.args.page) c.self.view_is)

@@ -24,19 +24,28 @@ pub split-requires-clause-page : goal.split-requires-clause-page
 split-requires-clause-page g c =
     let t = c.self.inside.tree in
     let kept = c.self.invariant.0 in
-    omega (arith, (kept_entries t kept).in_space c.args.entry.now.extent.first c.args.entry.now (there g (goal.at.split-requires-clause-page g c).After-self), kept.roots)
+    omega (
+      arith,
+      (kept_entries t kept).in_space c.args.entry.now.extent.first c.args.entry.now
+          (there g (goal.at.split-requires-clause-page g c).After-self),
+      kept.roots,
+    )
 
 pub split-requires-clause-room : goal.split-requires-clause-room
 split-requires-clause-room g c =
     let extent = c.args.entry.now.extent in
-    mapped_room c.self.inside.tree (extent.size - 1) extent.first c.self.invariant.0 (ap is_some (there g (goal.at.split-requires-clause-room g c).After-self))
+    mapped_room c.self.inside.tree (extent.size - 1) extent.first c.self.invariant.0
+    (ap is_some (there g (goal.at.split-requires-clause-room g c).After-self))
 
 after : (g : Over) (c : After-split g)
-    → IsKept c.split.new.self × Maps c.args.entry.now.extent (λ page. Some (part_of c.args.entry.now page)) c.self.inside.tree c.split.new.self × (pages_in c.split.new.self ≡ pages_in c.self.inside.tree)
+    → IsKept c.split.new.self × Maps c.args.entry.now.extent (λ page. Some
+    (part_of c.args.entry.now page)) c.self.inside.tree c.split.new.self × (pages_in c.split.new.self ≡ pages_in c.self.inside.tree)
 after g c =
     let entry = c.args.entry.now in
-    split_kept c.self.inside.tree c.split.new.self entry c.parts_from-parts.result c.self.invariant.0 c.requires.large (there g (goal.at.After-split g c).After-self)
-    (λ part small. c.parts_from-parts.ensures part small ∙ ap (λ n. Some (moved_by (part * n) entry.mapping)) (pages g (goal.at.After-split g c).After-pages))
+    split_kept c.self.inside.tree c.split.new.self entry c.parts_from-parts.result c.self.invariant.0 c.requires.large
+    (there g (goal.at.After-split g c).After-self)
+    (λ part small. c.parts_from-parts.ensures part small ∙ ap (λ n. Some (moved_by (part * n) entry.mapping))
+    (pages g (goal.at.After-split g c).After-pages))
     c.split.ensures.rows c.split.ensures.splits
 
 pub subtract-requires : goal.subtract-requires
@@ -45,14 +54,19 @@ subtract-requires g c =
     let entry = c.args.entry.now in
     let at = there g (goal.at.subtract-requires g c).After-self in
     let entries = kept_entries t c.self.invariant.0 in
-    one_there t entry c.self.inside.counts (is_extent t entry.extent.first entry entries at) (entries.in_space entry.extent.first entry at) (entry_of_all t entry c.self.invariant.0 at) c.self.invariant.1
+    one_there t entry c.self.inside.counts (is_extent t entry.extent.first entry entries at) (entries.in_space entry.extent.first entry at)
+    (entry_of_all t entry c.self.invariant.0 at) c.self.invariant.1
 
 pub add-requires : goal.add-requires
 add-requires g c =
     let t = c.self.inside.tree in
     let entry = c.args.entry.now in
     let low = (kept_entries t c.self.invariant.0).low entry.extent.first entry (there g (goal.at.add-requires g c).After-self) in
-    omega (arith, few_between t c.self.inside.counts c.subtract.new.counts entry.extent.size 1 c.smaller-part.result (omega (arith, low, c.smaller-part.ensures)) c.self.invariant.1 c.subtract.ensures)
+    omega (
+      arith,
+      few_between t c.self.inside.counts c.subtract.new.counts entry.extent.size 1 c.smaller-part.result
+          (omega (arith, low, c.smaller-part.ensures)) c.self.invariant.1 c.subtract.ensures,
+    )
 
 pub invariant_of-self : goal.invariant_of-self
 invariant_of-self g c =
@@ -62,13 +76,16 @@ invariant_of-self g c =
     let entries = kept_entries t c.self.invariant.0 in
     let is = after g (goal.at.invariant_of-self g c).After-split in (
       is.0,
-      split_counts t c.split.new.self entry c.self.inside.counts c.subtract.new.counts c.add.new.counts c.requires.large (is_extent t entry.extent.first entry entries at) (entries.in_space entry.extent.first entry at)
-          (entry_of_all t entry c.self.invariant.0 at) is.1 c.self.invariant.1 c.subtract.ensures (subst (λ k. Grows k 8 c.subtract.new.counts c.add.new.counts) c.smaller-part.ensures c.add.ensures),
+      split_counts t c.split.new.self entry c.self.inside.counts c.subtract.new.counts c.add.new.counts c.requires.large
+          (is_extent t entry.extent.first entry entries at) (entries.in_space entry.extent.first entry at)
+          (entry_of_all t entry c.self.invariant.0 at) is.1 c.self.invariant.1 c.subtract.ensures
+          (subst (λ k. Grows k 8 c.subtract.new.counts c.add.new.counts) c.smaller-part.ensures c.add.ensures),
     )
 
 pub returns-clause-entries : goal.returns-clause-entries
 returns-clause-entries g c =
-    subst (λ t. Maps c.args.entry.now.extent (λ page. Some (part_of c.args.entry.now page)) t c.split.new.self) c.self.view_is (after g (goal.at.returns-clause-entries g c).After-split).1
+    subst (λ t. Maps c.args.entry.now.extent (λ page. Some (part_of c.args.entry.now page)) t c.split.new.self) c.self.view_is
+    (after g (goal.at.returns-clause-entries g c).After-split).1
 
 pub returns-clause-pages : goal.returns-clause-pages
 returns-clause-pages g c = (after g (goal.at.returns-clause-pages g c).After-split).2 ∙ ap pages_in c.self.view_is

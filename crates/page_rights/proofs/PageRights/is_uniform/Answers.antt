@@ -10,4 +10,5 @@ pub returns-in-Uniform : goal.returns-in-Uniform
 returns-in-Uniform c equal p here =
     let block = get_or_read c.self.inside.blocks.items _ _ (omega (arith, c.self.invariant.0.blocks, c.requires)) c.index.ensures plain in
     let same : c.in-Uniform.all ≡ c.args.rights = search rules in
-    rw (← c.self.view_is) (rights_of-at (the_view c.self.inside) p c.args.block (Uniform c.in-Uniform.all c.in-Uniform.leaf) here (sym block ∙ c.in-Uniform.is) ∙ same)
+    rw (← c.self.view_is) (rights_of-at (the_view c.self.inside) p c.args.block (Uniform c.in-Uniform.all c.in-Uniform.leaf) here
+    (sym block ∙ c.in-Uniform.is) ∙ same)

@@ -7,10 +7,15 @@ use Rattle.page_rights.proofs.PageRights.set_whole.Goals as goal
 
 pub invariant_of-self : goal.invariant_of-self
 invariant_of-self c =
-    let block = get_or_read c.self.inside.blocks.items _ _ (omega (arith, c.self.invariant.0.blocks, c.requires)) c.index.ensures plain in
-    (whole_tree (the_view c.self.inside) c.self.invariant.0 c.args.block c.requires c.args.rights c.leaf-leaf.result (c.leaf-leaf.ensures ∙ ap leaf_of block), c.self.invariant.1)
+    let block = get_or_read c.self.inside.blocks.items _ _ (omega (arith, c.self.invariant.0.blocks, c.requires)) c.index.ensures plain in (
+      whole_tree (the_view c.self.inside) c.self.invariant.0 c.args.block c.requires c.args.rights c.leaf-leaf.result
+          (c.leaf-leaf.ensures ∙ ap leaf_of block),
+      c.self.invariant.1,
+    )
 
 pub returns : goal.returns
 returns c =
     let block = get_or_read c.self.inside.blocks.items _ _ (omega (arith, c.self.invariant.0.blocks, c.requires)) c.index.ensures plain in
-    rw (← c.self.view_is) (whole_rights (the_view c.self.inside) c.self.invariant.0 c.args.block c.requires c.args.rights c.leaf-leaf.result (c.leaf-leaf.ensures ∙ ap leaf_of block))
+    rw (← c.self.view_is)
+    (whole_rights (the_view c.self.inside) c.self.invariant.0 c.args.block c.requires c.args.rights c.leaf-leaf.result
+    (c.leaf-leaf.ensures ∙ ap leaf_of block))

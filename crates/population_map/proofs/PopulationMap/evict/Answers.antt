@@ -16,4 +16,5 @@ invariant_of-self g c =
 
 pub returns-clause-count : goal.returns-clause-count
 returns-clause-count g c =
-    same_count c.self.inside.tree c.change.new.tree c.change.ensures.room.roots c.change.ensures.populated.ids ∙ ap placed_pages c.self.view_is
+    same_count c.self.inside.tree c.change.new.tree c.change.ensures.room.roots c.change.ensures.populated.ids
+    ∙ ap placed_pages c.self.view_is

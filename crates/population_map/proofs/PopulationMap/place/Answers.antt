@@ -5,4 +5,5 @@ use Rattle.population_map.proofs.PopulationMap.place.Goals as goal
 
 pub place-requires-clause-aligned : goal.place-requires-clause-aligned
 place-requires-clause-aligned c =
-    subst (IsExtent c.args.extent.size) (sym c.page_at.ensures) (aligned_at c.args.extent.size c.args.space c.args.extent.first c.requires.aligned)
+    subst (IsExtent c.args.extent.size) (sym c.page_at.ensures)
+    (aligned_at c.args.extent.size c.args.space c.args.extent.first c.requires.aligned)

@@ -5,4 +5,5 @@ use Rattle.population_map.proofs.PopulationMap.remove.Goals as goal
 
 pub remove-requires-clause-aligned : goal.remove-requires-clause-aligned
 remove-requires-clause-aligned c =
-    subst (IsExtent c.args.extent.size) (sym c.page_at.ensures) (aligned_at c.args.extent.size c.args.space c.args.extent.first c.requires.aligned)
+    subst (IsExtent c.args.extent.size) (sym c.page_at.ensures)
+    (aligned_at c.args.extent.size c.args.space c.args.extent.first c.requires.aligned)

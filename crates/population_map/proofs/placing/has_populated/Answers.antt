@@ -23,7 +23,8 @@ returns g c =
     let page = c.args.page in
     let mark = c.mark_at.result in
     let byte : mark.some < 256 = omega arith in (
-      λ some. some_page m c.requires size page (omega arith) (subst (λ v. HasBit v.some) c.mark_at.ensures (has_bit mark.some byte (eqb-false _ _ (not-true _ some)))),
+      λ some. some_page m c.requires size page (omega arith) (subst (λ v. HasBit v.some) c.mark_at.ensures
+          (has_bit mark.some byte (eqb-false _ _ (not-true _ some)))),
       λ has.
           let bit = bits_over m c.requires size has.0 (omega arith) (omega arith) has.2 in
           let here = subst (λ v. HasBit v.some) (mark_alike m size has.0 page (omega arith) has.1 ∙ sym c.mark_at.ensures) bit in

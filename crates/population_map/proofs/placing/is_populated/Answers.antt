@@ -7,5 +7,6 @@ use Rattle.population_map.proofs.placing.is_populated.Goals as goal
 pub returns : goal.returns
 unfolding is_populated
 returns g c =
-    sym (ap (λ m. bit_at m.some (c.args.page % 8) == 1) (sym (c.mark_at-mark.ensures ∙ ap (λ k. mark_of c.args.tree.now k c.args.page) c.at_level.ensures))
+    sym (ap (λ m. bit_at m.some (c.args.page % 8) == 1)
+    (sym (c.mark_at-mark.ensures ∙ ap (λ k. mark_of c.args.tree.now k c.args.page) c.at_level.ensures))
     ∙ (ap (λ b. b == 1) c.has_bit.ensures ∙ bit_of_test c.has_bit.result))

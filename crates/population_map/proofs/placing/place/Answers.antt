@@ -5,7 +5,8 @@ use Rattle.population_map.proofs.placing.place.Goals.{After-put}
 use Rattle.population_map.proofs.placing.place.Given.{Over}
 
 pub put-requires-clause-room : goal.put-requires-clause-room
-put-requires-clause-room g c = place_room c.args.tree.now c.args.size c.args.first c.requires.marks c.requires.aligned.0 c.requires.aligned.1 c.requires.page c.requires.apart c.requires.room
+put-requires-clause-room g c =
+    place_room c.args.tree.now c.args.size c.args.first c.requires.marks c.requires.aligned.0 c.requires.aligned.1 c.requires.page c.requires.apart c.requires.room
 
 done : (g : Over) (c : After-put g) → Placed c.args.tree.now c.put.new.self c.args.size c.args.first (Some c.args.id)
 done g c = placed_extent c.args.tree.now c.put.new.self c.args.size c.args.first c.args.id c.requires.marks c.requires.aligned.0 c.requires.apart c.put.ensures.row c.put.ensures.splits

@@ -7,7 +7,8 @@ use Rattle.population_map.proofs.placing.remove.Given.{Over}
 
 pub remove-requires : goal.remove-requires
 remove-requires g c =
-    row_if_id c.evict_all.new.tree c.args.size c.args.first (ap is_some (c.evict_all.ensures.ids c.args.size c.args.first c.requires.aligned.0) ∙ c.requires.placed)
+    row_if_id c.evict_all.new.tree c.args.size c.args.first (ap is_some
+    (c.evict_all.ensures.ids c.args.size c.args.first c.requires.aligned.0) ∙ c.requires.placed)
 
 done : (g : Over) (c : After-remove g) → Placed c.evict_all.new.tree c.remove.new.self c.args.size c.args.first None
 done g c =
@@ -38,5 +39,6 @@ returns-clause-count g c =
     let d = done g (goal.at.returns-clause-count g c).After-remove in
     let evicted = c.evict_all.ensures in
     sym (sym (same_count c.args.tree.now c.evict_all.new.tree evicted.room.roots evicted.ids)
-    ∙ removed_count c.evict_all.new.tree c.remove.new.self c.args.size c.args.first evicted.marks c.requires.aligned.0 c.requires.aligned.1 (omega (arith, c.requires.page, evicted.room.roots)) c.remove.ensures.row.roots
+    ∙ removed_count c.evict_all.new.tree c.remove.new.self c.args.size c.args.first evicted.marks c.requires.aligned.0 c.requires.aligned.1
+    (omega (arith, c.requires.page, evicted.room.roots)) c.remove.ensures.row.roots
     (ap is_some (evicted.ids c.args.size c.args.first c.requires.aligned.0) ∙ c.requires.placed) d.placed)

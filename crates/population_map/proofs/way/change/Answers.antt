@@ -17,10 +17,13 @@ asks : (g : Over) (c : After-at_level g)
     → Asks c.args.tree.now c.args.page c.args.is_in c.with_page-small.result c.with_part-middle.result c.with_part-large.result
 asks g c = record {
   small_id = c.with_page-small.ensures.id ∙ ap (λ v. v.id) c.read-way.ensures.small;
-  small_some = subst (λ v. WithBit v.some c.with_page-small.result.some (c.args.page % 8) c.args.is_in) c.read-way.ensures.small c.with_page-small.ensures.some;
+  small_some = subst (λ v. WithBit v.some c.with_page-small.result.some
+      (c.args.page % 8) c.args.is_in) c.read-way.ensures.small c.with_page-small.ensures.some;
   small_full = c.with_page-small.ensures.full;
-  middle_is = subst (λ v. IsCarried v c.with_part-middle.result (c.args.page / 8 % 8) c.with_page-small.result) c.read-way.ensures.middle c.with_part-middle.ensures;
-  large_is = subst (λ v. IsCarried v c.with_part-large.result (c.args.page / 64 % 8) c.with_part-middle.result) c.read-way.ensures.large c.with_part-large.ensures;
+  middle_is = subst (λ v. IsCarried v c.with_part-middle.result
+      (c.args.page / 8 % 8) c.with_page-small.result) c.read-way.ensures.middle c.with_part-middle.ensures;
+  large_is = subst (λ v. IsCarried v c.with_part-large.result
+      (c.args.page / 64 % 8) c.with_part-middle.result) c.read-way.ensures.large c.with_part-large.ensures;
 }
 
 -- the rows at first are round placed pages
@@ -36,7 +39,8 @@ room m n size page enough roots same rows_of placed =
 
 pub write-requires-clause-room : goal.write-requires-clause-room
 write-requires-clause-room g c =
-    room c.args.tree.now c.args.tree.now c.at_level.result c.args.page c.requires.room refl refl (rows c.args.tree.now c.requires.marks) c.requires.placed
+    room c.args.tree.now c.args.tree.now c.at_level.result c.args.page c.requires.room refl refl
+    (rows c.args.tree.now c.requires.marks) c.requires.placed
 
 pub write-requires-clause-row : goal.write-requires-clause-row
 write-requires-clause-row g c none =
@@ -44,10 +48,12 @@ write-requires-clause-row g c none =
     ∙ (may_go c.args.tree.now c.args.page c.args.is_in c.with_page-small.result c.with_part-middle.result c.with_part-large.result c.requires.marks c.requires.before (asks g (goal.at.write-requires-clause-row g c).After-at_level)).0 none
 
 first : (g : Over) (c : After-write g) → ChangesOnly c.args.tree.now c.write.new.tree 1 c.args.page (kept c.with_page-small.result)
-first g c = subst (λ k. ChangesOnly c.args.tree.now c.write.new.tree k c.args.page (kept c.with_page-small.result)) c.at_level.ensures c.write.ensures.row
+first g c = subst (λ k. ChangesOnly c.args.tree.now c.write.new.tree k c.args.page
+    (kept c.with_page-small.result)) c.at_level.ensures c.write.ensures.row
 
 rows_first : (g : Over) (c : After-write g) → RowsIn c.write.new.tree (is_placed c.args.tree.now)
-rows_first g c = rows_in_after c.args.tree.now c.write.new.tree 1 c.args.page (kept c.with_page-small.result) (is_placed c.args.tree.now) (rows c.args.tree.now c.requires.marks) (first g c) c.write.ensures.splits c.requires.placed
+rows_first g c = rows_in_after c.args.tree.now c.write.new.tree 1 c.args.page (kept c.with_page-small.result) (is_placed c.args.tree.now)
+    (rows c.args.tree.now c.requires.marks) (first g c) c.write.ensures.splits c.requires.placed
 
 pub write-requires-2-clause-room : goal.write-requires-2-clause-room
 write-requires-2-clause-room g c =
@@ -62,13 +68,16 @@ write-requires-2-clause-row g c none =
     ∙ (may_go c.args.tree.now c.args.page c.args.is_in c.with_page-small.result c.with_part-middle.result c.with_part-large.result c.requires.marks c.requires.before (asks g at.After-at_level)).1 none)
 
 second : (g : Over) (c : After-write-2 g) → ChangesOnly c.write.new.tree c.write-2.new.tree 2 c.args.page (kept c.with_part-middle.result)
-second g c = subst (λ k. ChangesOnly c.write.new.tree c.write-2.new.tree k c.args.page (kept c.with_part-middle.result)) c.at_level-2.ensures c.write-2.ensures.row
+second g c = subst (λ k. ChangesOnly c.write.new.tree c.write-2.new.tree k c.args.page
+    (kept c.with_part-middle.result)) c.at_level-2.ensures c.write-2.ensures.row
 
 pub write-requires-3-clause-room : goal.write-requires-3-clause-room
 write-requires-3-clause-room g c =
     let at = goal.at.write-requires-3-clause-room g c in
-    room c.args.tree.now c.write-2.new.tree c.at_level-3.result c.args.page c.requires.room (c.write-2.ensures.row.roots ∙ c.write.ensures.row.roots) (c.write-2.ensures.row.room ∙ c.write.ensures.row.room)
-    (rows_in_after c.write.new.tree c.write-2.new.tree 2 c.args.page (kept c.with_part-middle.result) (is_placed c.args.tree.now) (rows_first g at.After-write) (second g at.After-write-2) c.write-2.ensures.splits c.requires.placed) c.requires.placed
+    room c.args.tree.now c.write-2.new.tree c.at_level-3.result c.args.page c.requires.room
+    (c.write-2.ensures.row.roots ∙ c.write.ensures.row.roots) (c.write-2.ensures.row.room ∙ c.write.ensures.row.room)
+    (rows_in_after c.write.new.tree c.write-2.new.tree 2 c.args.page (kept c.with_part-middle.result) (is_placed c.args.tree.now)
+    (rows_first g at.After-write) (second g at.After-write-2) c.write-2.ensures.splits c.requires.placed) c.requires.placed
 
 pub write-requires-3-clause-row : goal.write-requires-3-clause-row
 write-requires-3-clause-row g c none =
@@ -81,11 +90,13 @@ write-requires-3-clause-row g c none =
 -- what the three writes do
 changes : (g : Over) (c : After-write-3 g)
     → Asks c.args.tree.now c.args.page c.args.is_in c.with_page-small.result c.with_part-middle.result c.with_part-large.result
-    → ChangesOnly c.args.tree.now c.write.new.tree 1 c.args.page (kept c.with_page-small.result) → ChangesOnly c.write.new.tree c.write-2.new.tree 2 c.args.page (kept c.with_part-middle.result)
+    → ChangesOnly c.args.tree.now c.write.new.tree 1 c.args.page (kept c.with_page-small.result)
+    → ChangesOnly c.write.new.tree c.write-2.new.tree 2 c.args.page (kept c.with_part-middle.result)
     → ChangesPage c.args.tree.now c.write-3.new.tree c.args.page c.args.is_in c.with_page-small.result c.with_part-middle.result c.with_part-large.result
 changes g c asked a b = record {
   writes = way_written c.args.tree.now c.write.new.tree c.write-2.new.tree c.write-3.new.tree c.args.page c.with_page-small.result c.with_part-middle.result c.with_part-large.result a b
-      (subst (λ k. ChangesOnly c.write-2.new.tree c.write-3.new.tree k c.args.page (kept c.with_part-large.result)) c.at_level-3.ensures c.write-3.ensures.row) c.write-3.ensures.splits;
+      (subst (λ k. ChangesOnly c.write-2.new.tree c.write-3.new.tree k c.args.page
+      (kept c.with_part-large.result)) c.at_level-3.ensures c.write-3.ensures.row) c.write-3.ensures.splits;
   asks = asked;
 }
 

@@ -19,7 +19,10 @@ none c = IsUnlisted-from_false _ _ (rw (← c.self.view_is) at c.requires.unlist
 
 -- the member is told in the list of the size
 told : (c : After-index_mut) (size : ℕ) → c.args.size ≡ size
-    → AreTold c.self.inside.frames (set c.self.inside.listed.items c.args.frame (Some (record { size = c.args.size; stamp = c.args.stamp }))) (with_list (lists_in c.self.inside) size (with_member (record { stamp = c.args.stamp; frame = c.args.frame }) (list_at (lists_in c.self.inside) size)))
+    → AreTold c.self.inside.frames (set c.self.inside.listed.items c.args.frame
+    (Some (record { size = c.args.size; stamp = c.args.stamp })))
+    (with_list (lists_in c.self.inside) size (with_member (record { stamp = c.args.stamp; frame = c.args.frame })
+    (list_at (lists_in c.self.inside) size)))
 told c size same = rw same (AreTold-with _ _ _ size _ c.self.invariant.3 (omega arith) (known c) (none c))
 
 pub insert_in-requires-clause-room : goal.insert_in-requires-clause-room
@@ -32,8 +35,12 @@ pub invariant_of-self : goal.invariant_of-self
 invariant_of-self c =
     let w = (goal.at.invariant_of-self c).After-index_mut in
     let has = c.self.invariant in
-    let items = c.insert_in.ensures.items in
-    (rw items (HasRoom-with_member _ _ _ _ _ has.0 c.insert_in.ensures.capacity (known w) (none w).base), has.1, has.2, rw items (told w 0 (sym c.level.ensures.level ∙ c.in-0.is)))
+    let items = c.insert_in.ensures.items in (
+      rw items (HasRoom-with_member _ _ _ _ _ has.0 c.insert_in.ensures.capacity (known w) (none w).base),
+      has.1,
+      has.2,
+      rw items (told w 0 (sym c.level.ensures.level ∙ c.in-0.is)),
+    )
 
 pub insert_in-requires-in-1-clause-room : goal.insert_in-requires-in-1-clause-room
 insert_in-requires-in-1-clause-room c =
@@ -45,8 +52,12 @@ pub invariant_of-self-in-1 : goal.invariant_of-self-in-1
 invariant_of-self-in-1 c =
     let w = (goal.at.invariant_of-self-in-1 c).After-index_mut in
     let has = c.self.invariant in
-    let items = c.insert_in-in-1.ensures.items in
-    (has.0, rw items (HasRoom-with_member _ _ _ _ _ has.1 c.insert_in-in-1.ensures.capacity (known w) (none w).small), has.2, rw items (told w 1 (sym c.level.ensures.level ∙ c.in-1.is)))
+    let items = c.insert_in-in-1.ensures.items in (
+      has.0,
+      rw items (HasRoom-with_member _ _ _ _ _ has.1 c.insert_in-in-1.ensures.capacity (known w) (none w).small),
+      has.2,
+      rw items (told w 1 (sym c.level.ensures.level ∙ c.in-1.is)),
+    )
 
 pub insert_in-requires-in_default-clause-room : goal.insert_in-requires-in_default-clause-room
 insert_in-requires-in_default-clause-room c =
@@ -58,5 +69,9 @@ pub invariant_of-self-in_default : goal.invariant_of-self-in_default
 invariant_of-self-in_default c =
     let w = (goal.at.invariant_of-self-in_default c).After-index_mut in
     let has = c.self.invariant in
-    let items = c.insert_in-in_default.ensures.items in
-    (has.0, has.1, rw items (HasRoom-with_member _ _ _ _ _ has.2 c.insert_in-in_default.ensures.capacity (known w) (none w).middle), rw items (told w 2 (omega arith)))
+    let items = c.insert_in-in_default.ensures.items in (
+      has.0,
+      has.1,
+      rw items (HasRoom-with_member _ _ _ _ _ has.2 c.insert_in-in_default.ensures.capacity (known w) (none w).middle),
+      rw items (told w 2 (omega arith)),
+    )

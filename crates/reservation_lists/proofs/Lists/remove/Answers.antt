@@ -1,9 +1,9 @@
 use Rattle.std.proofs.Common.{◌≡◌, ◌<◌, ◌≤◌, ℕ, Some, None, get_or, set, length, ◌∙◌, refl, sym, ap, subst, arith}
 use Rattle.std.proofs.lemmas.List.{get_or_default}
-use Rattle.pager_model.specs.Ages.{Lists, list_at, with_list, without_member}
+use Rattle.pager_model.specs.Ages.{Lists, list_at, with_list}
 use Rattle.pager_model.proofs.Options.{in_some}
 use Rattle.reservation_lists.specs.declared.Listed.{Listed}
-use Rattle.reservation_lists.specs.Kept.{AreTold, lists_in, without_frame}
+use Rattle.reservation_lists.specs.Kept.{AreTold, lists_in, without_frame, without_member}
 use Rattle.reservation_lists.proofs.Members.{HasRoom-without_member}
 use Rattle.reservation_lists.proofs.ToldMembers.{AreTold-without, without_frame-told, without_frame-untold}
 use Rattle.reservation_lists.proofs.Lists.remove.Goals as goal
@@ -17,7 +17,8 @@ taken c =
     c.take.ensures.value ∙ c.index_mut.ensures.value ∙ get_or_default _ _ _ None within
 
 told : (c : After-take)
-    → AreTold c.self.inside.frames (set c.self.inside.listed.items c.args.frame c.take.new.self) (without_frame c.args.frame (lists_in c.self.inside))
+    → AreTold c.self.inside.frames (set c.self.inside.listed.items c.args.frame c.take.new.self)
+    (without_frame c.args.frame (lists_in c.self.inside))
 told c = rw c.take.ensures.after (AreTold-without _ _ _ _ c.self.invariant.3)
 
 -- where none was, the lists are those without it
@@ -26,7 +27,8 @@ untold c none = without_frame-untold _ _ _ _ c.self.invariant.3 (sym (taken c) �
 
 -- where one was, it goes out of its list
 gone : (c : After-take) (listed : Listed) (size : ℕ) → c.take.result ≡ Some listed → listed.size ≡ size
-    → with_list (lists_in c.self.inside) size (without_member (record { stamp = listed.stamp; frame = c.args.frame }) (list_at (lists_in c.self.inside) size)) ≡ without_frame c.args.frame (lists_in c.self.inside)
+    → with_list (lists_in c.self.inside) size (without_member (record { stamp = listed.stamp; frame = c.args.frame })
+    (list_at (lists_in c.self.inside) size)) ≡ without_frame c.args.frame (lists_in c.self.inside)
 gone c listed size is same =
     let stood = sym (taken c) ∙ is ∙ ap (λ k. Some (record { size = k; stamp = listed.stamp })) same in
     without_frame-told _ _ (lists_in c.self.inside) size (record { stamp = listed.stamp; frame = c.args.frame }) c.self.invariant.3 stood
@@ -51,8 +53,12 @@ pub invariant_of-self-in-0 : goal.invariant_of-self-in-0
 invariant_of-self-in-0 c =
     let w = (goal.at.invariant_of-self-in-0 c).After-take in
     let has = c.self.invariant in
-    let lists = gone w c.in-Some.listed 0 c.in-Some.is (sym c.level.ensures.level ∙ c.in-0.is) in
-    (rw (c.remove_from.ensures.items, c.remove_from.ensures.capacity) (HasRoom-without_member _ _ _ _ has.0), has.1, has.2, rw c.remove_from.ensures.items (subst (AreTold _ _) (sym lists) (told w)))
+    let lists = gone w c.in-Some.listed 0 c.in-Some.is (sym c.level.ensures.level ∙ c.in-0.is) in (
+      rw (c.remove_from.ensures.items, c.remove_from.ensures.capacity) (HasRoom-without_member _ _ _ _ has.0),
+      has.1,
+      has.2,
+      rw c.remove_from.ensures.items (subst (AreTold _ _) (sym lists) (told w)),
+    )
 
 pub returns-in-0 : goal.returns-in-0
 returns-in-0 c =
@@ -64,8 +70,12 @@ pub invariant_of-self-in-1 : goal.invariant_of-self-in-1
 invariant_of-self-in-1 c =
     let w = (goal.at.invariant_of-self-in-1 c).After-take in
     let has = c.self.invariant in
-    let lists = gone w c.in-Some.listed 1 c.in-Some.is (sym c.level.ensures.level ∙ c.in-1.is) in
-    (has.0, rw (c.remove_from-in-1.ensures.items, c.remove_from-in-1.ensures.capacity) (HasRoom-without_member _ _ _ _ has.1), has.2, rw c.remove_from-in-1.ensures.items (subst (AreTold _ _) (sym lists) (told w)))
+    let lists = gone w c.in-Some.listed 1 c.in-Some.is (sym c.level.ensures.level ∙ c.in-1.is) in (
+      has.0,
+      rw (c.remove_from-in-1.ensures.items, c.remove_from-in-1.ensures.capacity) (HasRoom-without_member _ _ _ _ has.1),
+      has.2,
+      rw c.remove_from-in-1.ensures.items (subst (AreTold _ _) (sym lists) (told w)),
+    )
 
 pub returns-in-1 : goal.returns-in-1
 returns-in-1 c =
@@ -77,8 +87,13 @@ pub invariant_of-self-in_default-level : goal.invariant_of-self-in_default-level
 invariant_of-self-in_default-level c =
     let w = (goal.at.invariant_of-self-in_default-level c).After-take in
     let has = c.self.invariant in
-    let lists = gone w c.in-Some.listed 2 c.in-Some.is (last w c.in-Some.listed c.in-Some.is (omega arith)) in
-    (has.0, has.1, rw (c.remove_from-in_default-level.ensures.items, c.remove_from-in_default-level.ensures.capacity) (HasRoom-without_member _ _ _ _ has.2), rw c.remove_from-in_default-level.ensures.items (subst (AreTold _ _) (sym lists) (told w)))
+    let lists = gone w c.in-Some.listed 2 c.in-Some.is (last w c.in-Some.listed c.in-Some.is (omega arith)) in (
+      has.0,
+      has.1,
+      rw (c.remove_from-in_default-level.ensures.items, c.remove_from-in_default-level.ensures.capacity)
+          (HasRoom-without_member _ _ _ _ has.2),
+      rw c.remove_from-in_default-level.ensures.items (subst (AreTold _ _) (sym lists) (told w)),
+    )
 
 pub returns-in_default-level : goal.returns-in_default-level
 returns-in_default-level c =

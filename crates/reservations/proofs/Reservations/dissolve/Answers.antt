@@ -12,10 +12,13 @@ invariant_of-self c =
     let none = rw (← c.self.view_is) at none_of in
     let filled = rw c.as_mut_slice-2.ensures.value at c.write.ensures.ids in
     let noted = c.write.ensures.records ∙ ap (λ rs. set rs c.args.id None) c.as_mut_slice.ensures.value in
-    let ids_long : length c.write.new.ids ≡ length c.self.inside.ids.items = omega (arith, c.write.auto.ids, c.as_mut_slice-2.ensures.len, c.self.inside.ids.ok.0) in
+    let ids_long : length c.write.new.ids ≡ length c.self.inside.ids.items =
+    omega (arith, c.write.auto.ids, c.as_mut_slice-2.ensures.len, c.self.inside.ids.ok.0) in
     rw (
-      whole_slice c.self.inside.records.len c.write.new.records c.self.inside.records.items (omega (arith, c.write.auto.records, c.as_mut_slice.ensures.len)),
-      whole_slice c.self.inside.ids.len c.write.new.ids c.self.inside.ids.items (omega (arith, c.write.auto.ids, c.as_mut_slice-2.ensures.len)),
+      whole_slice c.self.inside.records.len c.write.new.records c.self.inside.records.items
+          (omega (arith, c.write.auto.records, c.as_mut_slice.ensures.len)),
+      whole_slice c.self.inside.ids.len c.write.new.ids c.self.inside.ids.items
+          (omega (arith, c.write.auto.ids, c.as_mut_slice-2.ensures.len)),
       noted,
     )
     (AreKept-dissolve _ _ _ _ c.args.id r c.self.invariant is none filled ids_long)

@@ -15,7 +15,8 @@ write_parts-requires-clause-placed c =
     let found : reservation_at c.args.self.now c.args.id ≡ Some r = sym c.get.ensures.record ∙ c.unwrap-whole.ensures in
     let is = rw (← c.self.view_is) at found in
     let known = get_or_within records c.args.id r is in
-    subst ArePlaced (sym c.as_mut_slice.ensures.value) (ArePlaced-set records c.args.id None c.self.invariant.placed known (λ q e. absurd (none-some q e)))
+    subst ArePlaced (sym c.as_mut_slice.ensures.value) (ArePlaced-set records c.args.id None c.self.invariant.placed known
+    (λ q e. absurd (none-some q e)))
 
 pub write_parts-requires-clause-noted : goal.write_parts-requires-clause-noted
 write_parts-requires-clause-noted c =
@@ -32,10 +33,13 @@ pub invariant_of-self : goal.invariant_of-self
 invariant_of-self c =
     let parts = c.write_parts in
     let are = c.self.invariant in
-    let records_long : length parts.new.records ≡ length c.self.inside.records.items = omega (arith, parts.auto.records, c.as_mut_slice.ensures.len, c.self.inside.records.ok.0) in
-    let ids_long : length parts.new.ids ≡ length c.self.inside.ids.items = omega (arith, parts.auto.ids, c.as_mut_slice-2.ensures.len, c.self.inside.ids.ok.0) in
+    let records_long : length parts.new.records ≡ length c.self.inside.records.items =
+    omega (arith, parts.auto.records, c.as_mut_slice.ensures.len, c.self.inside.records.ok.0) in
+    let ids_long : length parts.new.ids ≡ length c.self.inside.ids.items =
+    omega (arith, parts.auto.ids, c.as_mut_slice-2.ensures.len, c.self.inside.ids.ok.0) in
     rw (
-      whole_slice c.self.inside.records.len parts.new.records (set c.self.inside.records.items c.args.id None) (omega (arith, parts.auto.records, c.as_mut_slice.ensures.len)),
+      whole_slice c.self.inside.records.len parts.new.records (set c.self.inside.records.items c.args.id None)
+          (omega (arith, parts.auto.records, c.as_mut_slice.ensures.len)),
       whole_slice c.self.inside.ids.len parts.new.ids c.self.inside.ids.items (omega (arith, parts.auto.ids, c.as_mut_slice-2.ensures.len)),
     )
     (record {
@@ -53,7 +57,8 @@ returns-clause-records c =
     let is = rw (← c.self.view_is) at found in
     let placed = c.self.invariant.placed c.args.id r is in
     let parts = c.write_parts in
-    let whole = whole_slice c.self.inside.records.len parts.new.records (set records c.args.id None) (omega (arith, parts.auto.records, c.as_mut_slice.ensures.len)) in
+    let whole = whole_slice c.self.inside.records.len parts.new.records (set records c.args.id None)
+    (omega (arith, parts.auto.records, c.as_mut_slice.ensures.len)) in
     let split : parts.new.records ≡ split_records (is_used c.self.inside.used) r records =
     parts.ensures.records
     ∙ ap (split_records (is_used c.self.inside.used) r) c.as_mut_slice.ensures.value

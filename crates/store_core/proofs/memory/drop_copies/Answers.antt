@@ -19,7 +19,8 @@ loop-page-preserved-in-Some c =
 pub returns : goal.returns
 returns c =
     let outside = λ (p : ℕ). not (in_range c.args.first c.args.length p) in
-    sym (filter_whole outside c.loop-page.copies.entries (λ p refused. c.in_default.ensures.none p (inside (in_range c.args.first c.args.length p) refused)))
+    sym (filter_whole outside c.loop-page.copies.entries (λ p refused. c.in_default.ensures.none p
+    (inside (in_range c.args.first c.args.length p) refused)))
     ∙ c.loop-page.invariant
   where
     inside : (b : Bool) → not b ≡ false → b ≡ true

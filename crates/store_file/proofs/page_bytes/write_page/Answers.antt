@@ -5,7 +5,13 @@ use Rattle.store_file.proofs.PageMoves.{MovesFirst, moves_none, moves_more}
 use Rattle.store_file.proofs.page_bytes.write_page.Goals as goal
 
 pub loop-at-init : goal.loop-at-init
-loop-at-init g c = record { most = omega arith; moves = moves_none c.args.page c.args.file.now.took; gave = refl; opened = refl; there = λ some. absurd (omega arith) }
+loop-at-init g c = record {
+  most = omega arith;
+  moves = moves_none c.args.page c.args.file.now.took;
+  gave = refl;
+  opened = refl;
+  there = λ some. absurd (omega arith);
+}
 
 pub loop-at-preserved : goal.loop-at-preserved
 loop-at-preserved g c =
@@ -15,7 +21,8 @@ loop-at-preserved g c =
     let some : 0 < n = omega arith in
     let most : at + n ≤ 8192 = omega (arith, c.write_at-count.ensures.most) in
     let none : nat_eq n 0 ≡ false = grind (arith, nat_tests) in
-    let is : c.write_at-count.new.self ≡ record file { took = moved file.took (8192 * c.args.page + at) n } = rw (c.place.ensures, none) at c.write_at-count.ensures.counted in
+    let is : c.write_at-count.new.self ≡ record file { took = moved file.took (8192 * c.args.page + at) n } =
+    rw (c.place.ensures, none) at c.write_at-count.ensures.counted in
     let P = λ (t : FileSeen). MovesFirst c.args.page (at + n) c.args.file.now.took t.took in
     record {
       most = most;

@@ -7,6 +7,10 @@ pub returns : goal.returns
 returns c i low =
     let xs = c.args.levels.now in
     let k = c.args.end - c.args.from in
-    let count : length (take k (drop c.args.from xs)) ≡ k = omega (arith, length-take k (drop c.args.from xs), length-drop c.args.from xs) in
+    let count : length (take k (drop c.args.from xs)) ≡ k = omega (
+      arith,
+      length-take k (drop c.args.from xs),
+      length-drop c.args.from xs,
+    ) in
     let filled = c.fill.ensures.after (λ y same. search rules) ∙ ap (λ n. replicate n c.args.level) count in
     filled_at xs c.fill.new.self c.args.from c.args.end c.args.level 0 i c.requires.range (omega arith) filled

@@ -24,7 +24,8 @@ loop-entry-preserved g c =
     let w = c.in-Some.whole in
     let so_far = c.loop-entry.invariant in
     let larger : w.extent.size ≡ c.at_level-larger.result = ap (λ (x : Extent). x.size) c.in-Some.ensures.whole.0 in
-    let round : w.extent ≡ extent_round w.extent.size c.args.page = c.in-Some.ensures.whole.0 ∙ ap (λ s. extent_round s c.args.page) (sym larger) in
+    let round : w.extent ≡ extent_round w.extent.size c.args.page = c.in-Some.ensures.whole.0
+    ∙ ap (λ s. extent_round s c.args.page) (sym larger) in
     let parts = c.in-Some.ensures.whole.1 in
     let maps = c.join.ensures.entries in
     let low : w.extent.size ≤ 3 = omega arith in

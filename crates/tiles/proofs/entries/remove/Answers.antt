@@ -10,7 +10,8 @@ remove-requires g c =
 pub returns-clause-tiles : goal.returns-clause-tiles
 returns-clause-tiles g c =
     let split = c.split_to-base.ensures in
-    removed_tiles c.split_to-base.new.map c.remove.new.self c.split_to-base.result c.args.page _ split.there (split.size ∙ c.at_level.ensures) split.tiles c.remove.ensures.entries
+    removed_tiles c.split_to-base.new.map c.remove.new.self c.split_to-base.result c.args.page _ split.there
+    (split.size ∙ c.at_level.ensures) split.tiles c.remove.ensures.entries
 
 pub returns-clause-pages : goal.returns-clause-pages
 returns-clause-pages g c p =
@@ -18,4 +19,5 @@ returns-clause-pages g c p =
     let m = c.split_to-base.new.map in
     let base = c.split_to-base.result in
     let size : base.extent.size ≡ 0 = split.size ∙ c.at_level.ensures in
-    one_says c.args.map.now m c.remove.new.self base.extent c.args.page None None size (base_first m c.args.page base split.tiles.entries split.there size) refl split.pages c.remove.ensures.entries p
+    one_says c.args.map.now m c.remove.new.self base.extent c.args.page None None size
+    (base_first m c.args.page base split.tiles.entries split.there size) refl split.pages c.remove.ensures.entries p

@@ -12,15 +12,18 @@ join_up-requires-clause-tiles g c =
     let m = c.args.map.now in
     let entry = c.args.entry in
     rw c.round-part.ensures
-    (set_tiles m c.replace.new.self entry c.args.size c.args.page 0 (mapping_of entry c.args.page) c.args.mapping c.requires.there (eqb-true _ _ (sym c.eq.ensures ∙ c.if-eq.true)) c.requires.first
-    (entry_says m c.args.page entry c.requires.there) c.requires.frame (tiles_but m c.args.page 0 c.requires.tiles) (rw c.round-part.ensures at c.replace.ensures.entries))
+    (set_tiles m c.replace.new.self entry c.args.size c.args.page 0 (mapping_of entry c.args.page) c.args.mapping c.requires.there
+    (eqb-true _ _ (sym c.eq.ensures ∙ c.if-eq.true)) c.requires.first
+    (entry_says m c.args.page entry c.requires.there) c.requires.frame (tiles_but m c.args.page 0 c.requires.tiles)
+    (rw c.round-part.ensures at c.replace.ensures.entries))
 
 pub returns-then-eq-clause-pages : goal.returns-then-eq-clause-pages
 returns-then-eq-clause-pages g c p =
     let m = c.args.map.now in
     let low : c.args.size ≤ 3 = omega (arith, c.requires.tiles.entries.low c.args.page c.args.entry c.requires.there) in
     c.join_up.ensures.pages.at p
-    ∙ set_says m m c.replace.new.self c.args.size c.args.page c.args.mapping low c.requires.first (alike_all m) (rw c.round-part.ensures at c.replace.ensures.entries) p
+    ∙ set_says m m c.replace.new.self c.args.size c.args.page c.args.mapping low c.requires.first (alike_all m)
+    (rw c.round-part.ensures at c.replace.ensures.entries) p
 
 pub returns-clause-pages : goal.returns-clause-pages
 returns-clause-pages g c =
@@ -35,7 +38,9 @@ returns-clause-tiles g c =
     let split = c.split_to.ensures in
     let maps = rw c.round-part.ensures at c.replace-2.ensures.entries in
     let low : c.args.size ≤ 3 = omega (arith, c.requires.tiles.entries.low c.args.page entry c.requires.there) in
-    set_apart m n entry c.args.size c.args.page c.args.mapping c.requires.tiles.entries c.requires.there (is_less c.args.size entry.extent.size c.requires.size (sym c.eq.ensures ∙ c.if-eq.false)) c.requires.frame c.requires.other
+    set_apart m n entry c.args.size c.args.page c.args.mapping c.requires.tiles.entries c.requires.there
+    (is_less c.args.size entry.extent.size c.requires.size (sym c.eq.ensures ∙ c.if-eq.false)) c.requires.frame c.requires.other
     (set_says m c.split_to.new.map n c.args.size c.args.page c.args.mapping low c.requires.first split.pages maps)
-    (set_tiles c.split_to.new.map n c.split_to.result c.args.size c.args.page _ (mapping_of entry c.args.page) c.args.mapping split.there split.size c.requires.first
+    (set_tiles c.split_to.new.map n c.split_to.result c.args.size c.args.page _
+    (mapping_of entry c.args.page) c.args.mapping split.there split.size c.requires.first
     (split.pages.at c.args.page ∙ entry_says m c.args.page entry c.requires.there) c.requires.frame split.tiles maps)

@@ -3,7 +3,8 @@ use Rattle.tiles.proofs.EntryTiles.{alike_on, first_there, split_alike, split_fi
 use Rattle.tiles.proofs.entries.split_to.Goals as goal
 
 pub split-requires-clause-there : goal.split-requires-clause-there
-split-requires-clause-there g c = first_there c.loop-size.map c.loop-size.invariant.tiles.entries c.args.page c.loop-size.entry c.loop-size.invariant.there
+split-requires-clause-there g c =
+    first_there c.loop-size.map c.loop-size.invariant.tiles.entries c.args.page c.loop-size.entry c.loop-size.invariant.there
 
 pub loop-size-preserved : goal.loop-size-preserved
 loop-size-preserved g c =
@@ -19,6 +20,7 @@ loop-size-preserved g c =
       size = omega arith;
       fits = omega (arith, fits, so_far.fits);
       tiles = split_tiles m n entry c.args.page so_far.tiles.entries so_far.there large maps so_far.tiles;
-      pages = alike_on c.args.map.now m n so_far.pages (split_alike m n entry c.args.page so_far.tiles.entries so_far.there large maps c.split.ensures.pages);
+      pages = alike_on c.args.map.now m n so_far.pages
+          (split_alike m n entry c.args.page so_far.tiles.entries so_far.there large maps c.split.ensures.pages);
       cost = omega (arith, so_far.cost, c.split.ensures.cost);
     })

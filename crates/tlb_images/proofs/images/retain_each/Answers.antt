@@ -10,7 +10,8 @@ use Rattle.tlb_images.proofs.images.retain_each.Goals.{then-not-all, else-not-al
 
 pub sift-requires-clause-counted : goal.sift-requires-clause-counted
 sift-requires-clause-counted g c =
-    AreCounted-has c.loop-image.begun c.loop-image.images c.loop-image.image-index c.image-item.result (omega arith) c.loop-image.invariant.counted
+    AreCounted-has c.loop-image.begun c.loop-image.images c.loop-image.image-index c.image-item.result
+    (omega arith) c.loop-image.invariant.counted
 
 pub sift-requires-clause-room : goal.sift-requires-clause-room
 sift-requires-clause-room g c = λ r below.
@@ -25,7 +26,8 @@ loop-image-preserved g c = elim c.if-not-all.branch [
         w.sift.ensures.counts w.sift.ensures.short);
     kept = λ test told.
         w.images-is
-        ∙ mapped-more (filter test) c.args.images.now c.loop-image.images c.loop-image.image-index c.image-item.result w.sift.new.image (omega arith) (c.loop-image.invariant.kept test told)
+        ∙ mapped-more (filter test) c.args.images.now c.loop-image.images c.loop-image.image-index c.image-item.result w.sift.new.image
+        (omega arith) (c.loop-image.invariant.kept test told)
         c.image-item.is (w.sift.ensures.kept test (λ t b answers. told t b (search rules)) ∙ ap (filter test) (sym c.image-item.is));
   }
   | else-not-all w ↦ record {
@@ -33,9 +35,12 @@ loop-image-preserved g c = elim c.if-not-all.branch [
     kept = λ test told.
         let tiles = c.tiles.result.now in
         let all : c.all.result ≡ list_all test tiles =
-        all_from_yields_List test _ _ _ c.all.ensures.ran (YieldsList-from_slice tiles cc) (λ x b q k. (search rules, told x.now b (search rules))) in
+        all_from_yields_List test _ _ _ c.all.ensures.ran (YieldsList-from_slice tiles cc)
+        (λ x b q k. (search rules, told x.now b (search rules))) in
         w.images-is
-        ∙ mapped-more (filter test) c.args.images.now c.loop-image.images c.loop-image.image-index c.image-item.result _ (omega arith) (c.loop-image.invariant.kept test told)
-        c.image-item.is (sym c.tiles.ensures.tiles ∙ sym (filter-all test tiles (sym all ∙ w.if-not-all.false)) ∙ ap (filter test) (c.tiles.ensures.tiles ∙ sym c.image-item.is));
+        ∙ mapped-more (filter test) c.args.images.now c.loop-image.images c.loop-image.image-index c.image-item.result _ (omega arith)
+        (c.loop-image.invariant.kept test told)
+        c.image-item.is (sym c.tiles.ensures.tiles ∙ sym (filter-all test tiles (sym all ∙ w.if-not-all.false))
+        ∙ ap (filter test) (c.tiles.ensures.tiles ∙ sym c.image-item.is));
   }
 ]

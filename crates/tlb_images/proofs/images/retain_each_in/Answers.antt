@@ -10,7 +10,8 @@ use Rattle.tlb_images.proofs.images.retain_each_in.Goals.{then-any_begins_in, el
 
 pub sift-requires-clause-counted : goal.sift-requires-clause-counted
 sift-requires-clause-counted g c =
-    AreCounted-has c.loop-image.begun c.loop-image.images c.loop-image.image-index c.image-item.result (omega arith) c.loop-image.invariant.counted
+    AreCounted-has c.loop-image.begun c.loop-image.images c.loop-image.image-index c.image-item.result
+    (omega arith) c.loop-image.invariant.counted
 
 pub sift-requires-clause-room : goal.sift-requires-clause-room
 sift-requires-clause-room g c = λ r below.
@@ -26,7 +27,8 @@ loop-image-preserved g c = elim c.if-any_begins_in.branch [
     kept = λ test told.
         let passes : Tile → Bool = λ t. not (begins_in c.args.range t) || test t in
         w.images-is
-        ∙ mapped-more (filter passes) c.args.images.now c.loop-image.images c.loop-image.image-index c.image-item.result w.sift.new.image (omega arith) (c.loop-image.invariant.kept test told)
+        ∙ mapped-more (filter passes) c.args.images.now c.loop-image.images c.loop-image.image-index c.image-item.result w.sift.new.image
+        (omega arith) (c.loop-image.invariant.kept test told)
         c.image-item.is (w.sift.ensures.kept passes (λ t b answers. search (rules, told)) ∙ ap (filter passes) (sym c.image-item.is));
   }
   | else-any_begins_in w ↦ record {
@@ -37,7 +39,8 @@ loop-image-preserved g c = elim c.if-any_begins_in.branch [
         let none : list_any (begins_in c.args.range) tiles ≡ false = rw c.any_begins_in.ensures at w.if-any_begins_in.false in
         let same : filter passes tiles ≡ tiles = kept-outside c.args.range test tiles none in
         w.images-is
-        ∙ mapped-more (filter passes) c.args.images.now c.loop-image.images c.loop-image.image-index c.image-item.result _ (omega arith) (c.loop-image.invariant.kept test told)
+        ∙ mapped-more (filter passes) c.args.images.now c.loop-image.images c.loop-image.image-index c.image-item.result _ (omega arith)
+        (c.loop-image.invariant.kept test told)
         c.image-item.is (sym c.tiles.ensures.tiles ∙ sym same ∙ ap (filter passes) (c.tiles.ensures.tiles ∙ sym c.image-item.is));
   }
 ]

@@ -9,5 +9,6 @@ abbrev pub invariant-loop-image : goal.invariant-loop-image
 invariant-loop-image g l = record {
   counted : AreCounted l.begun l.images;
   kept : (test : Tile → Bool) → AnswersTest (FnReturnsAt g.F.Fn l.is_tile) test
-      → l.images ≡ map (filter (λ t. not (begins_in l.range t) || test t)) (take l.image-index l.fn.images) ++ drop l.image-index l.fn.images;
+      → l.images ≡ map (filter (λ t. not (begins_in l.range t) || test t))
+      (take l.image-index l.fn.images) ++ drop l.image-index l.fn.images;
 }

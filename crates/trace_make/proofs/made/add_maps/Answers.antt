@@ -11,4 +11,5 @@ loop-space-preserved c =
     c.in_ok-push.ensures.items ∙ ap (λ l. l ++ c.map_line.result ∷ []) c.loop-space.invariant
     ∙ append_assoc lines maps (c.map_line.result ∷ [])
     ∙ ap (λ x. lines ++ (maps ++ x ∷ [])) c.map_line.ensures
-    ∙ ap (λ l. lines ++ l) (sym (map-range_with_len_more (map_line c.args.processors) 0 c.loop-space.space c.loop-space.space (omega arith)))
+    ∙ ap (λ l. lines ++ l)
+    (sym (map-range_with_len_more (map_line c.args.processors) 0 c.loop-space.space c.loop-space.space (omega arith)))

@@ -11,8 +11,25 @@ of-requires-2 c =
     let drawn = drawn_lines args.processors args.spaces (args.calls - args.spaces) in
     let maps = map (map_line args.processors) (range_with_len 0 args.spaces) in
     let are =
-    c.in_ok-add_drawn.ensures ∙ ap (λ l. l ++ drawn c.of.result) (c.in_ok-add_maps.ensures ∙ ap (λ l. l ++ maps) c.in_ok-lines.ensures.items)
+    c.in_ok-add_drawn.ensures ∙ ap (λ l. l ++ drawn c.of.result) (c.in_ok-add_maps.ensures
+    ∙ ap (λ l. l ++ maps) c.in_ok-lines.ensures.items)
     ∙ ap (λ x. maps ++ drawn x) c.of.ensures in
-    subst (λ l. HasText (record { version = 1; frames = args.frames; processors = args.processors; spaces = args.spaces; sizes = c.all.result; daemon = None; calls = l })) (sym are)
-    (subst (λ z. HasText (record { version = 1; frames = args.frames; processors = args.processors; spaces = args.spaces; sizes = z; daemon = None; calls = maps ++ drawn args.number })) (sym c.all.ensures)
+    subst (λ l. HasText (record {
+      version = 1;
+      frames = args.frames;
+      processors = args.processors;
+      spaces = args.spaces;
+      sizes = c.all.result;
+      daemon = None;
+      calls = l;
+    })) (sym are)
+    (subst (λ z. HasText (record {
+      version = 1;
+      frames = args.frames;
+      processors = args.processors;
+      spaces = args.spaces;
+      sizes = z;
+      daemon = None;
+      calls = maps ++ drawn args.number;
+    })) (sym c.all.ensures)
     (HasText-made args.number args.calls args.processors args.spaces args.frames c.requires))

@@ -11,7 +11,8 @@ returns-in_err-put_line-clause-puts g c =
     let trace = c.args.trace.now in
     let from = outgoing (g.K.Sink.taken c.args.sink.now) (g.K.Sink.faults c.args.sink.now) c.args.room.now.bytes.items in
     let to = outgoing (g.K.Sink.taken c.put_line.new.sink) (g.K.Sink.faults c.put_line.new.sink) c.put_line.new.self.bytes.items in
-    puts_failed c.from_residual.result (first_line trace) (daemon_line trace.daemon ∷ flat_map call_line trace.calls ∷ line_of_words (codes "end" ∷ []) ∷ []) c.from_residual.ensures.0
+    puts_failed c.from_residual.result (first_line trace) (daemon_line trace.daemon ∷ flat_map call_line trace.calls ∷ line_of_words
+    (codes "end" ∷ []) ∷ []) c.from_residual.ensures.0
     (subst (λ (l : List ℕ). SentPart from to l) c.line_of_first.ensures c.in_err-put_line.ensures)
 
 pub returns-in_err-put_daemon-clause-puts : goal.returns-in_err-put_daemon-clause-puts
@@ -20,7 +21,8 @@ returns-in_err-put_daemon-clause-puts g c =
     let from = outgoing (g.K.Sink.taken c.args.sink.now) (g.K.Sink.faults c.args.sink.now) c.args.room.now.bytes.items in
     let one = outgoing (g.K.Sink.taken c.put_line.new.sink) (g.K.Sink.faults c.put_line.new.sink) c.put_line.new.self.bytes.items in
     let to = outgoing (g.K.Sink.taken c.put_daemon.new.sink) (g.K.Sink.faults c.put_daemon.new.sink) c.put_daemon.new.room.bytes.items in
-    puts_failed c.from_residual-in_err-put_daemon.result (first_line trace ++ daemon_line trace.daemon) (flat_map call_line trace.calls ∷ line_of_words (codes "end" ∷ []) ∷ []) c.from_residual-in_err-put_daemon.ensures.0
+    puts_failed c.from_residual-in_err-put_daemon.result (first_line trace ++ daemon_line trace.daemon)
+    (flat_map call_line trace.calls ∷ line_of_words (codes "end" ∷ []) ∷ []) c.from_residual-in_err-put_daemon.ensures.0
     (sent_part (first_line trace) (daemon_line trace.daemon)
     (subst (λ (l : List ℕ). Sent from one l) c.line_of_first.ensures c.in_ok-put_line.ensures)
     (subst (λ (d : Option Daemon). SentPart one to (daemon_line d)) c.daemon.ensures.daemon c.in_err-put_daemon.ensures))
@@ -32,7 +34,8 @@ returns-in_err-put_calls-clause-puts g c =
     let one = outgoing (g.K.Sink.taken c.put_line.new.sink) (g.K.Sink.faults c.put_line.new.sink) c.put_line.new.self.bytes.items in
     let two = outgoing (g.K.Sink.taken c.put_daemon.new.sink) (g.K.Sink.faults c.put_daemon.new.sink) c.put_daemon.new.room.bytes.items in
     let to = outgoing (g.K.Sink.taken c.put_calls.new.sink) (g.K.Sink.faults c.put_calls.new.sink) c.put_calls.new.room.bytes.items in
-    puts_failed c.from_residual-in_err-put_calls.result ((first_line trace ++ daemon_line trace.daemon) ++ flat_map call_line trace.calls) (line_of_words (codes "end" ∷ []) ∷ []) c.from_residual-in_err-put_calls.ensures.0
+    puts_failed c.from_residual-in_err-put_calls.result ((first_line trace ++ daemon_line trace.daemon) ++ flat_map call_line trace.calls)
+    (line_of_words (codes "end" ∷ []) ∷ []) c.from_residual-in_err-put_calls.ensures.0
     (sent_part (first_line trace ++ daemon_line trace.daemon) (flat_map call_line trace.calls)
     (sent_sent (first_line trace) (daemon_line trace.daemon)
     (subst (λ (l : List ℕ). Sent from one l) c.line_of_first.ensures c.in_ok-put_line.ensures)
@@ -47,7 +50,9 @@ returns-in_err-put_line-2-clause-puts g c =
     let two = outgoing (g.K.Sink.taken c.put_daemon.new.sink) (g.K.Sink.faults c.put_daemon.new.sink) c.put_daemon.new.room.bytes.items in
     let three = outgoing (g.K.Sink.taken c.put_calls.new.sink) (g.K.Sink.faults c.put_calls.new.sink) c.put_calls.new.room.bytes.items in
     let to = outgoing (g.K.Sink.taken c.put_line-2.new.sink) (g.K.Sink.faults c.put_line-2.new.sink) c.put_line-2.new.self.bytes.items in
-    puts_failed c.from_residual-in_err-put_line-2.result (((first_line trace ++ daemon_line trace.daemon) ++ flat_map call_line trace.calls) ++ line_of_words (codes "end" ∷ [])) [] c.from_residual-in_err-put_line-2.ensures.0
+    puts_failed c.from_residual-in_err-put_line-2.result
+    (((first_line trace ++ daemon_line trace.daemon) ++ flat_map call_line trace.calls) ++ line_of_words
+    (codes "end" ∷ [])) [] c.from_residual-in_err-put_line-2.ensures.0
     (sent_part ((first_line trace ++ daemon_line trace.daemon) ++ flat_map call_line trace.calls) (line_of_words (codes "end" ∷ []))
     (sent_sent (first_line trace ++ daemon_line trace.daemon) (flat_map call_line trace.calls)
     (sent_sent (first_line trace) (daemon_line trace.daemon)

@@ -3,4 +3,10 @@ use Rattle.trace_reader.proofs.Forms.{call_too_long}
 use Rattle.trace_reader.proofs.line.call.Goals as goal
 
 pub returns-in_default : goal.returns-in_default
-returns-in_default c = record { range = tt; text = tt; err = call_too_long c.args.head.now.processors c.args.head.now.spaces (words_of c.args.line.now) c.in_default.ensures.none }
+returns-in_default c =
+    record {
+      range = tt;
+      text = tt;
+      err = call_too_long c.args.head.now.processors c.args.head.now.spaces
+          (words_of c.args.line.now) c.in_default.ensures.none;
+    }

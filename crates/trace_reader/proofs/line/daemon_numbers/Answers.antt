@@ -7,7 +7,8 @@ use denote.Ref.{Bor}
 abbrev word_at : List (Bor (List ℕ)) → ℕ → List ℕ
 word_at words i = (slice_index_or words i (record { ref_ptr = (0, 0); now = [] })).now
 
-three : (words : List (Bor (List ℕ))) → 3 ≤ length words → length words < 4 → seen words ≡ word_at words 0 ∷ word_at words 1 ∷ word_at words 2 ∷ []
+three : (words : List (Bor (List ℕ))) → 3 ≤ length words → length words < 4
+    → seen words ≡ word_at words 0 ∷ word_at words 1 ∷ word_at words 2 ∷ []
 three [] some few = absurd (omega arith)
 three (a ∷ []) some few = absurd (omega arith)
 three (a ∷ b ∷ []) some few = absurd (omega arith)
@@ -18,4 +19,5 @@ pub returns-in-len3-clause-some : goal.returns-in-len3-clause-some
 returns-in-len3-clause-some c =
     let words = c.as_slice.result.now in
     let name : word_at words 0 ≡ codes "daemon" = (bytes_eq-Decides (word_at words 0) (codes "daemon")).0 (sym c.if-eq.ensures) in
-    sym c.in_ok-words.ensures.words ∙ ap seen (sym c.as_slice.ensures.value) ∙ three words c.in-len3.len_at_least c.in-len3.len_below ∙ ap (λ (w : List ℕ). w ∷ word_at words 1 ∷ word_at words 2 ∷ []) name
+    sym c.in_ok-words.ensures.words ∙ ap seen (sym c.as_slice.ensures.value) ∙ three words c.in-len3.len_at_least c.in-len3.len_below
+    ∙ ap (λ (w : List ℕ). w ∷ word_at words 1 ∷ word_at words 2 ∷ []) name

@@ -9,7 +9,8 @@ invariant-lines l = record {
   lines : All (IsLine l.head.processors l.head.spaces) l.calls.items;
   few : length l.calls.items ≤ 262144;
   parts : l.text ≡ flat_map call_line l.calls.items ++ l.rest;
-  refusal : calls_refusal (call_forms l.head.processors l.head.spaces) l.first 0 (lines_of l.text) ≡ calls_refusal (call_forms l.head.processors l.head.spaces) (l.first + length l.calls.items) (length l.calls.items) (lines_of l.rest);
+  refusal : calls_refusal (call_forms l.head.processors l.head.spaces) l.first 0 (lines_of l.text) ≡ calls_refusal
+      (call_forms l.head.processors l.head.spaces) (l.first + length l.calls.items) (length l.calls.items) (lines_of l.rest);
 }
 
 abbrev pub decreases-lines : goal.decreases-lines

@@ -25,7 +25,13 @@ returns-in_err-calls-clause-refused c =
     let head = c.in-Ok.head in
     let p = err_from_is_err_and c.from_residual.result c.from_residual.ensures.1 in
     let behind = behind_first_line c.args.text.now c.in-Some.line.now c.in-Some.rest.now head c.if-text-gt-MAX_BYTES.false c.in-Some.ensures.first c.in-Ok.ensures.text c.in-Ok.ensures.range in
-    rw (p.1, p.2, behind, c.in-Ok-second_line.ensures.rest (call_forms head.processors head.spaces), ← c.first_call.ensures) c.in_err-calls.ensures.refused
+    rw (
+      p.1,
+      p.2,
+      behind,
+      c.in-Ok-second_line.ensures.rest (call_forms head.processors head.spaces),
+      ← c.first_call.ensures,
+    ) c.in_err-calls.ensures.refused
 
 pub returns-clause-ok : goal.returns-clause-ok
 returns-clause-ok c =

@@ -11,8 +11,10 @@ returns-in_err-daemon-clause-refused c =
 
 pub returns-clause-text : goal.returns-clause-text
 returns-clause-text c =
-    line_is c.args.text.now c.in-Some.line.now c.in-Some.rest.now (daemon_words c.in_ok-daemon.daemon) c.in-Some.ensures.parts (c.in-Some-daemon_numbers.ensures.some ∙ c.in_ok-daemon.ensures.text)
+    line_is c.args.text.now c.in-Some.line.now c.in-Some.rest.now (daemon_words c.in_ok-daemon.daemon) c.in-Some.ensures.parts
+    (c.in-Some-daemon_numbers.ensures.some ∙ c.in_ok-daemon.ensures.text)
 
 pub returns-clause-rest : goal.returns-clause-rest
 returns-clause-rest c =
-    λ forms. behind_daemon forms c.args.text.now c.in-Some.line.now c.in-Some.rest.now c.in_ok-daemon.daemon c.in-Some.ensures.first (c.in-Some-daemon_numbers.ensures.some ∙ c.in_ok-daemon.ensures.text) c.in_ok-daemon.ensures.range
+    λ forms. behind_daemon forms c.args.text.now c.in-Some.line.now c.in-Some.rest.now c.in_ok-daemon.daemon c.in-Some.ensures.first
+    (c.in-Some-daemon_numbers.ensures.some ∙ c.in_ok-daemon.ensures.text) c.in_ok-daemon.ensures.range

@@ -16,4 +16,5 @@ returns-clause-found c =
 pub returns-clause-none : goal.returns-clause-none
 returns-clause-none c =
     if_none c.flatten.result
-    (λ none frame claims. let listed = claim_listed _ _ _ c.self.invariant frame c.args.processor (rw (← c.self.view_is) at claims) in let is = read c in cc)
+    (λ none frame claims. let listed = claim_listed _ _ _ c.self.invariant frame c.args.processor (rw (← c.self.view_is) at claims) in
+    let is = read c in cc)

@@ -24,7 +24,8 @@ listed c processor claims_it =
 cleared : (c : After-set) (processor : ℕ) → c.unwrap-used.result.claim ≡ Some processor
     → AreMutual (map claim_in (set c.self.inside.notes c.args.frame None)) (set c.self.inside.claims.items processor None)
 cleared c processor claims_it =
-    AreMutual-cleared _ _ _ c.self.invariant c.args.frame processor c.unwrap-used.result (noted c) (listed c processor claims_it) None refl (ap claim_in (noted c) ∙ claims_it)
+    AreMutual-cleared _ _ _ c.self.invariant c.args.frame processor c.unwrap-used.result (noted c) (listed c processor claims_it) None refl
+    (ap claim_in (noted c) ∙ claims_it)
 
 unclaimed : (c : After-set) → c.unwrap-used.result.claim ≡ None
     → AreMutual (map claim_in (set c.self.inside.notes c.args.frame None)) c.self.inside.claims.items
@@ -37,18 +38,25 @@ record IsReleased (left : List (Option Used)) (links : Links) (fields : Inside) 
   claimed : AreMutual (map claim_in left) fields.claims.items
 
 pub index_mut-requires : goal.index_mut-requires
-index_mut-requires c = omega (arith, listed (goal.at.index_mut-requires c).After-set c.in-Some.processor c.in-Some.is, c.self.inside.claims.ok.0)
+index_mut-requires c = omega (
+  arith,
+  listed (goal.at.index_mut-requires c).After-set c.in-Some.processor c.in-Some.is,
+  c.self.inside.claims.ok.0,
+)
 
 pub invariant_of-self : goal.invariant_of-self
 invariant_of-self c =
     let after = (goal.at.invariant_of-self c).After-set in
     let notes = c.self.inside.notes in
     let released : IsReleased (set notes c.args.frame None) c.self.inside.order c.match-used.self-inside = elim c.match-used.branch [
-      | in-Some w ↦ rw w.self-inside-is (record { notes = c.set.ensures; order = refl; claimed = cleared after w.in-Some.processor w.in-Some.is })
+      | in-Some w ↦ rw w.self-inside-is
+          (record { notes = c.set.ensures; order = refl; claimed = cleared after w.in-Some.processor w.in-Some.is })
       | in_default w ↦ rw w.self-inside-is (record { notes = c.set.ensures; order = refl; claimed = unclaimed after w.in_default.is })
     ] in
-    let in_order = link_age_at notes c.args.frame ∙ ap link_age (noted after) ∙ link_age-unwired c.unwrap-used.result (not-true _ c.if-not-used.true) in
-    let ordered = c.remove.ensures.removed (map link_age notes) c.unwrap-used.result.age (rw released.order c.self.invariant.ordered) in_order in
+    let in_order = link_age_at notes c.args.frame ∙ ap link_age (noted after)
+    ∙ link_age-unwired c.unwrap-used.result (not-true _ c.if-not-used.true) in
+    let ordered = c.remove.ensures.removed (map link_age notes) c.unwrap-used.result.age
+    (rw released.order c.self.invariant.ordered) in_order in
     rw released.notes (record { ordered = rw (map-set link_age notes c.args.frame None) ordered; claimed = released.claimed })
 
 pub invariant_of-self-else-not-used : goal.invariant_of-self-else-not-used
@@ -56,9 +64,13 @@ invariant_of-self-else-not-used c =
     let after = (goal.at.invariant_of-self-else-not-used c).After-set in
     let notes = c.self.inside.notes in
     let released : IsReleased (set notes c.args.frame None) c.self.inside.order c.match-used.self-inside = elim c.match-used.branch [
-      | in-Some w ↦ rw w.self-inside-is (record { notes = c.set.ensures; order = refl; claimed = cleared after w.in-Some.processor w.in-Some.is })
+      | in-Some w ↦ rw w.self-inside-is
+          (record { notes = c.set.ensures; order = refl; claimed = cleared after w.in-Some.processor w.in-Some.is })
       | in_default w ↦ rw w.self-inside-is (record { notes = c.set.ensures; order = refl; claimed = unclaimed after w.in_default.is })
     ] in
     let out = ap link_age (noted after) ∙ link_age-wired c.unwrap-used.result (not-false _ c.if-not-used.false) in
     rw (released.notes, released.order)
-    (record { ordered = rw (map-set_same link_age notes c.args.frame None None (sym out)) c.self.invariant.ordered; claimed = released.claimed })
+    (record {
+      ordered = rw (map-set_same link_age notes c.args.frame None None (sym out)) c.self.invariant.ordered;
+      claimed = released.claimed;
+    })

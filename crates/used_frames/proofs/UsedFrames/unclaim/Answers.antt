@@ -9,7 +9,8 @@ claims_it : (c : After-unwrap-frame) → claim_in (get_or c.self.inside.notes c.
 claims_it c = rw (← c.self.view_is) at (rw c.unwrap-frame.ensures at c.claimed_by.ensures.found)
 
 known : (c : After-unwrap-frame) → c.args.processor < length c.self.inside.claims.items
-known c = get_or_within c.self.inside.claims.items c.args.processor c.unwrap-frame.result (claim_listed _ _ _ c.self.invariant c.unwrap-frame.result c.args.processor (claims_it c))
+known c = get_or_within c.self.inside.claims.items c.args.processor c.unwrap-frame.result
+    (claim_listed _ _ _ c.self.invariant c.unwrap-frame.result c.args.processor (claims_it c))
 
 pub index_mut-requires : goal.index_mut-requires
 index_mut-requires c = omega (arith, known (goal.at.index_mut-requires c).After-unwrap-frame, c.self.inside.claims.ok.0)
@@ -20,4 +21,5 @@ invariant_of-self c =
     let after = (goal.at.invariant_of-self c).After-unwrap-frame in
     let some = some_from_claim _ c.args.processor (claims_it after) in
     rw c.set_claim.ensures
-    (AreKept-unclaim inside.notes inside.order inside.claims.items c.self.invariant c.unwrap-frame.result c.args.processor some.0 some.1 (known after) (claims_it after))
+    (AreKept-unclaim inside.notes inside.order inside.claims.items c.self.invariant c.unwrap-frame.result c.args.processor some.0 some.1
+    (known after) (claims_it after))

@@ -11,19 +11,22 @@ loop-next-init c = IsReached-first c.self.inside.notes c.first-next.result (c.fi
 
 pub returns-then-not-is_claimed-clause-found : goal.returns-then-not-is_claimed-clause-found
 returns-then-not-is_claimed-clause-found c =
-    rw (← c.self.view_is) (IsLeast-reached c.self.inside.notes c.in-Some.frame (reached (goal.at.returns-then-not-is_claimed-clause-found c).In-Some) (sym c.if-not-is_claimed.ensures))
+    rw (← c.self.view_is) (IsLeast-reached c.self.inside.notes c.in-Some.frame
+    (reached (goal.at.returns-then-not-is_claimed-clause-found c).In-Some) (sym c.if-not-is_claimed.ensures))
 
 pub loop-next-preserved : goal.loop-next-preserved
 loop-next-preserved c =
     let was = reached (goal.at.loop-next-preserved c).In-Some in
     let own = was.in_order in
-    IsReached-after c.self.inside.notes c.self.inside.order c.in-Some.frame own.0 c.after-next.result c.self.invariant.ordered was own.1 (sym c.if-not-is_claimed.ensures) (c.after-next.ensures _ own.0 c.self.invariant.ordered own.1)
+    IsReached-after c.self.inside.notes c.self.inside.order c.in-Some.frame own.0 c.after-next.result c.self.invariant.ordered was own.1
+    (sym c.if-not-is_claimed.ensures) (c.after-next.ensures _ own.0 c.self.invariant.ordered own.1)
 
 pub loop-next-smaller : goal.loop-next-smaller
 loop-next-smaller c =
     let own = (reached (goal.at.loop-next-smaller c).In-Some).in_order in
     rw c.in-Some.is
-    (fewer_left c.self.inside.notes c.self.inside.order c.in-Some.frame own.0 c.after-next.result c.self.invariant.ordered own.1 (c.after-next.ensures _ own.0 c.self.invariant.ordered own.1))
+    (fewer_left c.self.inside.notes c.self.inside.order c.in-Some.frame own.0 c.after-next.result c.self.invariant.ordered own.1
+    (c.after-next.ensures _ own.0 c.self.invariant.ordered own.1))
 
 pub returns-clause-none : goal.returns-clause-none
 returns-clause-none c = rw (← c.self.view_is) (none_reached c.self.inside.notes (rw c.in_default.is at c.loop-next.invariant))

@@ -5,7 +5,8 @@ use Rattle.bit_set.proofs.level.Level.next_in_word.Goals as goal
 
 pub returns-in_err-next-clause-next : goal.returns-in_err-next-clause-next
 returns-in_err-next-clause-next g c =
-    rw (c.from_residual.ensures, ← c.self.view_is) (none_by_lowest c.self.inside.store.words.items c.args.bit (rw c.get.ensures.word at c.in_err-next.ensures.none))
+    rw (c.from_residual.ensures, ← c.self.view_is) (none_by_lowest c.self.inside.store.words.items c.args.bit
+    (rw c.get.ensures.word at c.in_err-next.ensures.none))
 
 pub returns-clause-next : goal.returns-clause-next
 returns-clause-next g c =

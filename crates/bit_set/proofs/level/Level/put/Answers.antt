@@ -12,14 +12,17 @@ pub returns-clause-bits : goal.returns-clause-bits
 returns-clause-bits g c =
     let words = c.self.inside.store.words.items in
     ap bits_of c.set.ensures.words
-    ∙ (bits_of-set words c.args.bit c.with_bit-word.result c.args.is_set (omega (arith, word_of_bit words c.args.self.now c.args.bit c.self.view_is c.requires)) c.with_bit-word.ensures.same (rw c.get.ensures.word at c.with_bit-word.ensures.others)
+    ∙ (bits_of-set words c.args.bit c.with_bit-word.result c.args.is_set
+    (omega (arith, word_of_bit words c.args.self.now c.args.bit c.self.view_is c.requires)) c.with_bit-word.ensures.same
+    (rw c.get.ensures.word at c.with_bit-word.ensures.others)
     ∙ ap (λ bits. set bits c.args.bit c.args.is_set) c.self.view_is)
 
 pub returns-clause-some : goal.returns-clause-some
 returns-clause-some g c =
     let words = c.set.new.self.words.items in
     let written = word_written c.self.inside.store.words.items words c.args.self.now c.args.bit c.with_bit-word.result c.self.view_is c.requires c.set.ensures.words in
-    OnTrue_from _ _ (λ some. has_by_word words (c.args.bit / 64) c.with_bit-word.result written (not_zero c.with_bit-word.result some) (omega arith))
+    OnTrue_from _ _ (λ some. has_by_word words (c.args.bit / 64) c.with_bit-word.result written (not_zero c.with_bit-word.result some)
+    (omega arith))
 
 pub returns-clause-none : goal.returns-clause-none
 returns-clause-none g c =

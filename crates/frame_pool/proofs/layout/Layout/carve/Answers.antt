@@ -25,4 +25,5 @@ returns c =
     let v = c.vacate.ensures in
     let whole = same_alone l frame c.self.invariant.0 (rw (← c.self.view_is) at c.narrow.ensures.alone) v.whole v.stood v.had in
     let out = ap (with_free l.free) v.left ∙ without_only l frame v.whole whole.0 whole.1 in
-    λ id. IfSome_then (record_at c.args.self.now id) (c.narrow.ensures.narrowed id) (λ q narrowed has. out ∙ ap (take_out frame) (c.self.view_is ∙ narrowed has))
+    λ id. IfSome_then (record_at c.args.self.now id) (c.narrow.ensures.narrowed id)
+    (λ q narrowed has. out ∙ ap (take_out frame) (c.self.view_is ∙ narrowed has))

@@ -5,4 +5,7 @@ use Rattle.frame_pool.proofs.layout.Layout.create.Goals as goal
 
 pub invariant_of-result : goal.invariant_of-result
 invariant_of-result c =
-    rw (c.in_ok-create.ensures, c.in_ok-create-2.ensures) (IsLaid-start c.args.sizes c.args.frames, omega (arith, length-replicate c.args.frames true, c.requires.most))
+    rw (c.in_ok-create.ensures, c.in_ok-create-2.ensures) (
+      IsLaid-start c.args.sizes c.args.frames,
+      omega (arith, length-replicate c.args.frames true, c.requires.most),
+    )

@@ -20,8 +20,10 @@ returns-in-Some-clause-found c =
     let l = layout_in c.self.inside in
     let found : Found = record { layout = l; size = c.args.size; first = c.in-Some.first; broken = 0 } in
     let chosen = sym c.in-Some.ensures.chosen in
-    let finds : extent_of c.args.size c.args.self.now ≡ Some found = ap (extent_of c.args.size) (sym c.self.view_is) ∙ extent_of-free c.args.size c.in-Some.first l chosen in
-    rw c.in-Some.ensures.taken (FindsExtent-chosen found c.self.invariant.0 chosen (extent_of c.args.size c.args.self.now) (omega arith) finds)
+    let finds : extent_of c.args.size c.args.self.now ≡ Some found = ap (extent_of c.args.size) (sym c.self.view_is)
+    ∙ extent_of-free c.args.size c.in-Some.first l chosen in
+    rw c.in-Some.ensures.taken (FindsExtent-chosen found c.self.invariant.0 chosen (extent_of c.args.size c.args.self.now)
+    (omega arith) finds)
 
 pub break_at-requires : goal.break_at-requires
 break_at-requires c =
@@ -51,10 +53,13 @@ returns-clause-found c =
     let first = c.unwrap-first.result in
     let found : Found = record { layout = l; size = c.args.size; first = first; broken = 1 } in
     let chosen : choice l.free c.args.size ≡ Some first = sym c.take-2.ensures.chosen ∙ c.unwrap-first.ensures in
-    let none : choice c.take.new.free c.args.size ≡ None = ap (λ free. choice free c.args.size) c.in_default.ensures.taken ∙ sym c.in_default.ensures.chosen in
-    let same : c.args.self.now ≡ with_free c.take.new.free reserved = sym c.self.view_is ∙ sym (ap (λ free. with_free free reserved) c.in_default.ensures.taken) in
+    let none : choice c.take.new.free c.args.size ≡ None = ap (λ free. choice free c.args.size) c.in_default.ensures.taken
+    ∙ sym c.in_default.ensures.chosen in
+    let same : c.args.self.now ≡ with_free c.take.new.free reserved = sym c.self.view_is
+    ∙ sym (ap (λ free. with_free free reserved) c.in_default.ensures.taken) in
     let finds : extent_of c.args.size c.args.self.now ≡ Some found =
     ap (extent_of c.args.size) same
-    ∙ extent_of-broken c.args.size c.in_ok-id.id first (with_free c.take.new.free reserved) l none (sym c.in_ok-id.ensures) (c.self-2.view_is ∙ c.break_at.ensures) chosen in
+    ∙ extent_of-broken c.args.size c.in_ok-id.id first (with_free c.take.new.free reserved) l none (sym c.in_ok-id.ensures)
+    (c.self-2.view_is ∙ c.break_at.ensures) chosen in
     let taken = rw c.unwrap-first.ensures at c.take-2.ensures.taken in
     rw taken (FindsExtent-chosen found c.self-2.invariant.0 chosen (extent_of c.args.size c.args.self.now) (omega arith) finds)

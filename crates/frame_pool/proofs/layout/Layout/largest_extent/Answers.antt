@@ -19,7 +19,8 @@ loop-level-preserved c =
     let l = c.loop-level.self in
     let of = rw c.unwrap-size.ensures at c.of.ensures in
     let next : c.loop-level.level ≡ suc c.unwrap-size.result = omega (arith, of.1, c.loop-level-test.true) in
-    let missed = IfNone-holds c.extent_there-found.result (extent_there c.unwrap-size.result l ≡ None × c.extent_there-found.new.self ≡ l) (sym c.is_some.ensures ∙ c.if-is_some.false) c.extent_there-found.ensures.none in
+    let missed = IfNone-holds c.extent_there-found.result (extent_there c.unwrap-size.result l ≡ None × c.extent_there-found.new.self ≡ l)
+    (sym c.is_some.ensures ∙ c.if-is_some.false) c.extent_there-found.ensures.none in
     record {
       same = missed.1 ∙ c.loop-level.invariant.same;
       rest =

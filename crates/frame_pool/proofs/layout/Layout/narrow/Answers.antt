@@ -6,7 +6,8 @@ use Rattle.pager_laws.proofs.LayoutBreak.{Settles-split}
 use Rattle.frame_pool.proofs.layout.Layout.narrow.Goals as goal
 
 pub unwrap-part-requires : goal.unwrap-part-requires
-unwrap-part-requires c = reservation_is c.args.self.now c.args.frame c.reservation_of.result c.reservation_of.ensures.laid c.requires c.reservation_of.ensures.none
+unwrap-part-requires c =
+    reservation_is c.args.self.now c.args.frame c.reservation_of.result c.reservation_of.ensures.laid c.requires c.reservation_of.ensures.none
 
 pub loop-part-init : goal.loop-part-init
 loop-part-init c =
@@ -20,7 +21,8 @@ pub unwrap-part-requires-in-loop-part : goal.unwrap-part-requires-in-loop-part
 unwrap-part-requires-in-loop-part c =
     let was = c.loop-part.invariant in
     let split : c.split_down.new.self ≡ split_layout c.loop-part.part c.loop-part.self = rw was.stands at c.split_down.ensures in
-    reservation_is c.split_down.new.self c.args.frame c.reservation_of-in-loop-part.result c.reservation_of-in-loop-part.ensures.laid (rw split was.used) c.reservation_of-in-loop-part.ensures.none
+    reservation_is c.split_down.new.self c.args.frame c.reservation_of-in-loop-part.result c.reservation_of-in-loop-part.ensures.laid
+    (rw split was.used) c.reservation_of-in-loop-part.ensures.none
 
 pub loop-part-smaller : goal.loop-part-smaller
 loop-part-smaller c =
@@ -58,9 +60,11 @@ returns-clause-narrowed c =
     let part = c.loop-part.part in
     let found = rw c.unwrap-part.ensures at c.reservation_of.ensures.found in
     let one : part.size ≡ 0 = omega (arith, c.loop-part-test.false, c.level.ensures.level) in
-    let stops : narrow_layout frame part c.loop-part.self ≡ c.loop-part.self = ap (λ k. split_on (narrows_to c.loop-part.self.sizes frame) k part c.loop-part.self) one in
+    let stops : narrow_layout frame part c.loop-part.self ≡ c.loop-part.self =
+    ap (λ k. split_on (narrows_to c.loop-part.self.sizes frame) k part c.loop-part.self) one in
     λ id. IfSome-from (record_at l id) _ (λ r is has.
-    sym stops ∙ was.narrows ∙ ap (λ q. narrow_layout frame q l) (same_reservation l first.frame first c.reservation_of.ensures.laid found.0 frame id r found.1 is has))
+    sym stops ∙ was.narrows ∙ ap (λ q. narrow_layout frame q l)
+    (same_reservation l first.frame first c.reservation_of.ensures.laid found.0 frame id r found.1 is has))
 
 pub returns-clause-alone : goal.returns-clause-alone
 returns-clause-alone c =

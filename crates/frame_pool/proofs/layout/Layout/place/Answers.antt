@@ -18,7 +18,8 @@ populate-frame-requires-clause-has c =
 
 pub populate-frame-requires-clause-unused : goal.populate-frame-requires-clause-unused
 populate-frame-requires-clause-unused c =
-    unused_covered (layout_in c.self.inside) c.args.space c.args.page c.in-Some.reservation c.self.invariant.0 (sym c.in-Some.ensures) (rw (← c.self.view_is) at c.requires.unplaced)
+    unused_covered (layout_in c.self.inside) c.args.space c.args.page c.in-Some.reservation c.self.invariant.0 (sym c.in-Some.ensures)
+    (rw (← c.self.view_is) at c.requires.unplaced)
 
 pub invariant_of-self : goal.invariant_of-self
 invariant_of-self c =
@@ -27,8 +28,11 @@ invariant_of-self c =
     let laid = c.self.invariant.0 in
     let covers = sym c.in-Some.ensures in
     let unused = unused_covered l c.args.space c.args.page r laid covers (rw (← c.self.view_is) at c.requires.unplaced) in
-    rw c.populate-frame.ensures.populated
-    (IsLaid-populated l r c.args.stamp c.args.page laid (record_at-covered l c.args.space c.args.page r laid covers) (HasPage-covered l c.args.space c.args.page r laid covers) unused, c.self.invariant.1)
+    rw c.populate-frame.ensures.populated (
+      IsLaid-populated l r c.args.stamp c.args.page laid (record_at-covered l c.args.space c.args.page r laid covers)
+          (HasPage-covered l c.args.space c.args.page r laid covers) unused,
+      c.self.invariant.1,
+    )
 
 pub returns-in-Some-clause-placed : goal.returns-in-Some-clause-placed
 returns-in-Some-clause-placed c =
@@ -36,7 +40,8 @@ returns-in-Some-clause-placed c =
     let r = c.in-Some.reservation in
     let is = placing-covered l c.args.stamp c.args.space c.args.page c.args.want.now r (sym c.in-Some.ensures) in
     rw (c.populate-frame.ensures.populated, c.populate-frame.ensures.frame, ← c.self.view_is)
-    (PlacesPage-from l (populated c.args.stamp c.args.page l r).layout c.args.stamp c.args.space c.args.page c.args.want.now (populated c.args.stamp c.args.page l r) c.self.invariant.0 (rw (← c.self.view_is) at c.requires.unplaced) is refl (omega arith))
+    (PlacesPage-from l (populated c.args.stamp c.args.page l r).layout c.args.stamp c.args.space c.args.page c.args.want.now
+    (populated c.args.stamp c.args.page l r) c.self.invariant.0 (rw (← c.self.view_is) at c.requires.unplaced) is refl (omega arith))
 
 pub put-frame-requires-clause-has : goal.put-frame-requires-clause-has
 put-frame-requires-clause-has c =
@@ -44,16 +49,26 @@ put-frame-requires-clause-has c =
 
 -- the extent that was found is one of the layout
 finds : (c : After-extent_round-pages)
-    → FindsExtent c.largest_extent.new.self (largest_extent c.preferred-size.result (layout_in c.self.inside)) c.in_ok-found.found.size c.in_ok-found.found.first c.in_ok-found.found.broken
+    → FindsExtent c.largest_extent.new.self (largest_extent c.preferred-size.result
+    (layout_in c.self.inside)) c.in_ok-found.found.size c.in_ok-found.found.first c.in_ok-found.found.broken
 finds c = rw (← c.self.view_is) at c.in_ok-found.ensures.found
 
 -- which is sound with the new reservation
 laid_with : (c : After-extent_round-pages)
-    → IsLaid (with_reservation (record { space = c.args.space; first = c.extent_round-pages.result.first; size = c.in_ok-found.found.size; frame = c.in_ok-found.found.first; stamp = c.args.stamp }) c.args.page c.largest_extent.new.self)
-laid_with c = IsLaid-added (layout_in c.self.inside) c.largest_extent.new.self c.args.stamp c.args.space c.args.page c.args.want.now c.preferred-size.result _ _ _ c.extent_round-pages.result.first (sym c.in_default.ensures) c.preferred-size.ensures (finds c) c.extent_round-pages.ensures.first c.self.invariant.0 (rw (← c.self.view_is) at c.requires.unplaced)
+    → IsLaid (with_reservation
+    (record {
+      space = c.args.space;
+      first = c.extent_round-pages.result.first;
+      size = c.in_ok-found.found.size;
+      frame = c.in_ok-found.found.first;
+      stamp = c.args.stamp;
+    }) c.args.page c.largest_extent.new.self)
+laid_with c = IsLaid-added
+    (layout_in c.self.inside) c.largest_extent.new.self c.args.stamp c.args.space c.args.page c.args.want.now c.preferred-size.result _ _ _ c.extent_round-pages.result.first (sym c.in_default.ensures) c.preferred-size.ensures (finds c) c.extent_round-pages.ensures.first c.self.invariant.0 (rw (← c.self.view_is) at c.requires.unplaced)
 
 pub put-frame-requires-clause-laid : goal.put-frame-requires-clause-laid
-put-frame-requires-clause-laid c = (c.self-2.inside.free, rw (← c.self-2.view_is) at (laid_with (goal.at.put-frame-requires-clause-laid c).After-extent_round-pages))
+put-frame-requires-clause-laid c =
+    (c.self-2.inside.free, rw (← c.self-2.view_is) at (laid_with (goal.at.put-frame-requires-clause-laid c).After-extent_round-pages))
 
 pub invariant_of-self-2 : goal.invariant_of-self-2
 invariant_of-self-2 c =
@@ -64,7 +79,8 @@ pub returns-clause-placed : goal.returns-clause-placed
 returns-clause-placed c =
     let found = rw (← c.self-2.view_is) at (finds (goal.at.returns-clause-placed c).After-extent_round-pages) in
     rw (c.put-frame.ensures.put, c.put-frame.ensures.frame, ← c.self.view_is)
-    (PlacesPage-added (layout_in c.self.inside) (layout_in c.self-2.inside) c.args.stamp c.args.space c.args.page c.args.want.now c.preferred-size.result _ _ _ c.extent_round-pages.result.first (sym c.in_default.ensures) c.preferred-size.ensures found c.extent_round-pages.ensures.first c.self.invariant.0 (rw (← c.self.view_is) at c.requires.unplaced))
+    (PlacesPage-added (layout_in c.self.inside)
+    (layout_in c.self-2.inside) c.args.stamp c.args.space c.args.page c.args.want.now c.preferred-size.result _ _ _ c.extent_round-pages.result.first (sym c.in_default.ensures) c.preferred-size.ensures found c.extent_round-pages.ensures.first c.self.invariant.0 (rw (← c.self.view_is) at c.requires.unplaced))
 
 pub returns-in_err-found-clause-none : goal.returns-in_err-found-clause-none
 returns-in_err-found-clause-none c =
@@ -72,6 +88,7 @@ returns-in_err-found-clause-none c =
     let none = rw (← c.self.view_is) at c.in_err-found.ensures.none in
     rw (c.from_residual.ensures, ← c.self.view_is) (
       ap (placing_in c.args.stamp c.args.space c.args.page c.args.want.now l) (sym c.in_default.ensures)
-          ∙ ap (option_map (reserved c.args.stamp c.args.space c.args.page)) (ap (λ k. largest_extent k l) (sym c.preferred-size.ensures) ∙ none.0),
+          ∙ ap (option_map (reserved c.args.stamp c.args.space c.args.page))
+          (ap (λ k. largest_extent k l) (sym c.preferred-size.ensures) ∙ none.0),
       none.1,
     )

@@ -12,7 +12,8 @@ pub give_parts-requires-clause-placed : goal.give_parts-requires-clause-placed
 give_parts-requires-clause-placed c =
     let r = c.unwrap-whole.result in
     let laid = c.self.invariant.0 in
-    subst (λ n. IsPlaced n r.frame r) laid.records_long (placed_own (layout_in c.self.inside) c.args.id r laid (sym c.get.ensures ∙ c.unwrap-whole.ensures))
+    subst (λ n. IsPlaced n r.frame r) laid.records_long (placed_own (layout_in c.self.inside) c.args.id r laid
+    (sym c.get.ensures ∙ c.unwrap-whole.ensures))
 
 pub give_parts-requires-clause-taken : goal.give_parts-requires-clause-taken
 give_parts-requires-clause-taken c =

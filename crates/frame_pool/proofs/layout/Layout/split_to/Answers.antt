@@ -16,25 +16,31 @@ loop-next-init c =
     let l = c.args.self.now in
     let r = c.unwrap-whole.result in
     let laid = subst IsLaid c.self.view_is c.self.invariant.0 in
-    let is : record_at l c.args.id ≡ Some r = sym (ap (λ m. record_at m c.args.id) c.self.view_is) ∙ sym c.get.ensures ∙ c.unwrap-whole.ensures in
+    let is : record_at l c.args.id ≡ Some r = sym (ap (λ m. record_at m c.args.id) c.self.view_is) ∙ sym c.get.ensures
+    ∙ c.unwrap-whole.ensures in
     let less : c.args.size < r.size = rw is at c.requires in
     IsGoing-start c.args.size (c.args.id + c.pages.result) c.args.id l r laid is less (omega (arith, c.pages.ensures))
 
 pub loop-next-smaller-then-is_larger : goal.loop-next-smaller-then-is_larger
 loop-next-smaller-then-is_larger c =
     let going = c.loop-next.invariant in
-    let nearer = split_nearer c.args.size c.loop-next.next (c.args.id + c.pages.result) c.args.id c.args.self.now c.loop-next.self going c.split.new.self c.loop-next-test.true (sym c.is_larger.ensures ∙ c.if-is_larger.true) c.split.ensures in
+    let nearer = split_nearer c.args.size c.loop-next.next
+    (c.args.id + c.pages.result) c.args.id c.args.self.now c.loop-next.self going c.split.new.self c.loop-next-test.true
+    (sym c.is_larger.ensures ∙ c.if-is_larger.true) c.split.ensures in
     omega (arith, nearer)
 
 pub loop-next-preserved-then-is_larger : goal.loop-next-preserved-then-is_larger
 loop-next-preserved-then-is_larger c =
-    IsGoing-split c.args.size c.loop-next.next (c.args.id + c.pages.result) c.args.id c.args.self.now c.loop-next.self c.loop-next.invariant c.split.new.self c.loop-next-test.true (sym c.is_larger.ensures ∙ c.if-is_larger.true) c.split.ensures
+    IsGoing-split c.args.size c.loop-next.next
+    (c.args.id + c.pages.result) c.args.id c.args.self.now c.loop-next.self c.loop-next.invariant c.split.new.self c.loop-next-test.true (sym c.is_larger.ensures ∙ c.if-is_larger.true) c.split.ensures
 
 pub overflow_add-next : goal.overflow_add-next
 overflow_add-next c =
     let l = c.args.self.now in
     let going = c.loop-next.invariant in
-    let skips = IsGoing-skip c.args.size c.loop-next.next (c.args.id + c.pages.result) c.args.id l c.loop-next.self going c.loop-next-test.true (sym c.is_larger.ensures ∙ c.if-is_larger.false) in
+    let skips = IsGoing-skip c.args.size c.loop-next.next
+    (c.args.id + c.pages.result) c.args.id l c.loop-next.self going c.loop-next-test.true
+    (sym c.is_larger.ensures ∙ c.if-is_larger.false) in
     let within = (going.laid.placed c.args.id going.whole going.is).within in
     let few : length l.free ≤ 32768 = subst (λ (m : Layout). length m.free ≤ 32768) c.self.view_is c.self.invariant.1 in
     omega (arith, skips.low, c.pages-next.ensures, going.ends, within, going.laid.records_long, few)
@@ -46,8 +52,12 @@ loop-next-smaller c =
 
 pub loop-next-preserved : goal.loop-next-preserved
 loop-next-preserved c =
-    subst (λ n. IsGoing c.args.size (c.loop-next.next + n) (c.args.id + c.pages.result) c.args.id c.args.self.now c.loop-next.self) (sym c.pages-next.ensures)
-    (IsGoing-skip c.args.size c.loop-next.next (c.args.id + c.pages.result) c.args.id c.args.self.now c.loop-next.self c.loop-next.invariant c.loop-next-test.true (sym c.is_larger.ensures ∙ c.if-is_larger.false))
+    subst (λ n. IsGoing c.args.size (c.loop-next.next + n) (c.args.id + c.pages.result) c.args.id c.args.self.now c.loop-next.self)
+    (sym c.pages-next.ensures)
+    (IsGoing-skip c.args.size c.loop-next.next
+    (c.args.id + c.pages.result) c.args.id c.args.self.now c.loop-next.self c.loop-next.invariant c.loop-next-test.true
+    (sym c.is_larger.ensures ∙ c.if-is_larger.false))
 
 pub returns : goal.returns
-returns c = going_done c.args.size c.loop-next.next (c.args.id + c.pages.result) c.args.id c.args.self.now c.loop-next.self c.loop-next.invariant c.loop-next-test.false
+returns c = going_done c.args.size c.loop-next.next
+    (c.args.id + c.pages.result) c.args.id c.args.self.now c.loop-next.self c.loop-next.invariant c.loop-next-test.false

@@ -16,7 +16,9 @@ stood c = sym (ap (λ (m : Layout). record_at m c.args.id) c.self.view_is) ∙ s
 
 -- its yield is told
 told : (c : After-level) → c.yields-yields.result ≡ yield_in c.args.self.now.sizes (is_used c.args.self.now.used) c.unwrap-whole.result
-told c = rw (stood c) at (subst (λ (m : Layout). IfSome (record_at m c.args.id) (λ r. c.yields-yields.result ≡ yield_in m.sizes (is_used m.used) r)) c.self.view_is c.yields-yields.ensures)
+told c = rw (stood c) at
+    (subst (λ (m : Layout). IfSome (record_at m c.args.id) (λ r. c.yields-yields.result ≡ yield_in m.sizes
+    (is_used m.used) r)) c.self.view_is c.yields-yields.ensures)
 
 -- where it isn't the size of the parts, which are of more than a frame, none of these is empty
 fills : (c : After-level) → same_size c.yields-yields.result (Some c.part_size-size.result) ≡ false → 0 < c.part_size-size.result
@@ -25,8 +27,11 @@ fills c other large =
     let l = c.args.self.now in
     let r = c.unwrap-whole.result in
     let size = c.part_size-size.ensures in
-    let of_size : same_size (yield_in l.sizes (is_used l.used) r) (Some (part_size l.sizes r)) ≡ false = ap (λ o. same_size o (Some (part_size l.sizes r))) (sym (told c)) ∙ ap (λ n. same_size c.yields-yields.result (Some n)) (sym size) ∙ other in
-    Fills-from l c.split_down.new.self c.args.id r (subst IsLaid c.self.view_is c.self.invariant.0) (stood c) c.requires (rw (stood c) at c.split_down.ensures) (omega (arith, size, large)) of_size
+    let of_size : same_size (yield_in l.sizes (is_used l.used) r) (Some (part_size l.sizes r)) ≡ false =
+    ap (λ o. same_size o (Some (part_size l.sizes r))) (sym (told c)) ∙ ap (λ n. same_size c.yields-yields.result (Some n)) (sym size)
+    ∙ other in
+    Fills-from l c.split_down.new.self c.args.id r (subst IsLaid c.self.view_is c.self.invariant.0) (stood c) c.requires
+    (rw (stood c) at c.split_down.ensures) (omega (arith, size, large)) of_size
 
 pub lowest_as_wide-requires-clause-aligned : goal.lowest_as_wide-requires-clause-aligned
 lowest_as_wide-requires-clause-aligned c =
@@ -45,7 +50,8 @@ returns-then-is_size-clause-next c =
     let l = c.args.self.now in
     let r = c.unwrap-whole.result in
     let is : yield_in l.sizes (is_used l.used) r ≡ Some (part_size l.sizes r) =
-    sym (told w) ∙ same_size_from c.yields-yields.result c.part_size-size.result (sym c.is_size.ensures ∙ c.if-is_size.true) ∙ ap Some c.part_size-size.ensures in
+    sym (told w) ∙ same_size_from c.yields-yields.result c.part_size-size.result (sym c.is_size.ensures ∙ c.if-is_size.true)
+    ∙ ap Some c.part_size-size.ensures in
     rw (stood w) (sym (stops_there l.sizes (is_used l.used) r is))
 
 pub lowest_as_wide-requires-clause-splits : goal.lowest_as_wide-requires-clause-splits
@@ -57,18 +63,24 @@ pub lowest_as_wide-requires-clause-parts : goal.lowest_as_wide-requires-clause-p
 lowest_as_wide-requires-clause-parts c =
     let l = c.args.self.now in
     let r = c.unwrap-whole.result in
-    let full = fills (goal.at.lowest_as_wide-requires-clause-parts c).After-level (sym c.is_size.ensures ∙ c.if-is_size.false) (omega (arith, c.level.ensures.level, c.if-level-eq0.false)) in
-    rw c.part_size-size.ensures (λ i one. subst (λ m. record_at m (part_at (part_size l.sizes r) r i).frame ≡ Some (part_at (part_size l.sizes r) r i)) (sym c.self-2.view_is) (part_stands l c.split_down.new.self c.args.id r full i one))
+    let full = fills (goal.at.lowest_as_wide-requires-clause-parts c).After-level (sym c.is_size.ensures ∙ c.if-is_size.false)
+    (omega (arith, c.level.ensures.level, c.if-level-eq0.false)) in
+    rw c.part_size-size.ensures
+    (λ i one. subst (λ m. record_at m (part_at (part_size l.sizes r) r i).frame ≡ Some (part_at (part_size l.sizes r) r i))
+    (sym c.self-2.view_is) (part_stands l c.split_down.new.self c.args.id r full i one))
 
 pub returns-clause-next : goal.returns-clause-next
 returns-clause-next c =
     let l = c.args.self.now in
     let r = c.unwrap-whole.result in
     let next = c.lowest_as_wide.result in
-    let full = fills (goal.at.returns-clause-next c).After-level (sym c.is_size.ensures ∙ c.if-is_size.false) (omega (arith, c.level.ensures.level, c.if-level-eq0.false)) in
+    let full = fills (goal.at.returns-clause-next c).After-level (sym c.is_size.ensures ∙ c.if-is_size.false)
+    (omega (arith, c.level.ensures.level, c.if-level-eq0.false)) in
     let used = ap (λ (m : Layout). m.used) (c.self-2.view_is ∙ full.split) in
     let sizes = ap (λ (m : Layout). m.sizes) (c.self-2.view_is ∙ full.split) in
-    let lowest : next ≡ first_of (option_map (part_at (part_size l.sizes r) r) (lowest_as_wide l.sizes (part_size l.sizes r) (is_used l.used) r)) = rw (← c.part_size-size.ensures, ← used, ← sizes) c.lowest_as_wide.ensures in
+    let lowest : next ≡ first_of (option_map (part_at (part_size l.sizes r) r)
+    (lowest_as_wide l.sizes (part_size l.sizes r) (is_used l.used) r)) =
+    rw (← c.part_size-size.ensures, ← used, ← sizes) c.lowest_as_wide.ensures in
     rw full.is (goes_on-lowest l c.split_down.new.self c.args.id r full next lowest)
 
 pub returns-clause-breaks : goal.returns-clause-breaks
@@ -76,8 +88,11 @@ returns-clause-breaks c =
     let l = c.args.self.now in
     let r = c.unwrap-whole.result in
     let next = c.lowest_as_wide.result in
-    let full = fills (goal.at.returns-clause-breaks c).After-level (sym c.is_size.ensures ∙ c.if-is_size.false) (omega (arith, c.level.ensures.level, c.if-level-eq0.false)) in
+    let full = fills (goal.at.returns-clause-breaks c).After-level (sym c.is_size.ensures ∙ c.if-is_size.false)
+    (omega (arith, c.level.ensures.level, c.if-level-eq0.false)) in
     let used = ap (λ (m : Layout). m.used) (c.self-2.view_is ∙ full.split) in
     let sizes = ap (λ (m : Layout). m.sizes) (c.self-2.view_is ∙ full.split) in
-    let lowest : next ≡ first_of (option_map (part_at (part_size l.sizes r) r) (lowest_as_wide l.sizes (part_size l.sizes r) (is_used l.used) r)) = rw (← c.part_size-size.ensures, ← used, ← sizes) c.lowest_as_wide.ensures in
+    let lowest : next ≡ first_of (option_map (part_at (part_size l.sizes r) r)
+    (lowest_as_wide l.sizes (part_size l.sizes r) (is_used l.used) r)) =
+    rw (← c.part_size-size.ensures, ← used, ← sizes) c.lowest_as_wide.ensures in
     CanBreak-lowest l c.split_down.new.self c.args.id r full next lowest

@@ -34,12 +34,17 @@ give-requires-clause-within c =
 pub give-requires-clause-taken : goal.give-requires-clause-taken
 give-requires-clause-taken c =
     let v = c.in-Some.ensures in
-    rw v.frames.1 (λ f low high. not_free_there (layout_in c.self.inside) v.whole.frame v.whole c.self.invariant.0 v.stood f (has_frame_from f v.whole low high))
+    rw v.frames.1 (λ f low high. not_free_there (layout_in c.self.inside) v.whole.frame v.whole c.self.invariant.0 v.stood f
+    (has_frame_from f v.whole low high))
 
 pub invariant_of-self : goal.invariant_of-self
 invariant_of-self c =
     let v = c.in_default.ensures in
-    rw v.left (IsLaid-without_place (layout_in c.self.inside) c.args.frame v.whole c.self.invariant.0 v.stood v.had (rw (← c.self.view_is) at c.requires), c.self.invariant.1)
+    rw v.left (
+      IsLaid-without_place (layout_in c.self.inside) c.args.frame v.whole c.self.invariant.0 v.stood v.had
+          (rw (← c.self.view_is) at c.requires),
+      c.self.invariant.1,
+    )
 
 pub returns-in_default : goal.returns-in_default
 returns-in_default c =
@@ -55,12 +60,14 @@ invariant_of-self-2 c =
     let v = c.in-Some.ensures in
     let after = given l c.args.frame v.whole c.give.new.free true v.frames.0 (rw v.frames.1 at c.give.ensures) in
     let gives = Gives-vacate l v.whole.frame c.args.frame v.whole c.self.invariant.0 v.stood v.had (rw (← c.self.view_is) at c.requires) in
-    rw v.left (subst (λ (m : Layout). IsLaid m × (length m.free ≤ 32768)) (sym after) (gives.laid, omega (arith, gives.long, c.self.invariant.1)))
+    rw v.left (subst (λ (m : Layout). IsLaid m × (length m.free ≤ 32768)) (sym after)
+    (gives.laid, omega (arith, gives.long, c.self.invariant.1)))
 
 pub returns : goal.returns
 returns c =
     let l = layout_in c.self.inside in
     let frame = c.args.frame in
     let v = c.in-Some.ensures in
-    let is = ap (with_free c.give.new.free) v.left ∙ given l frame v.whole c.give.new.free true v.frames.0 (rw v.frames.1 at c.give.ensures) in
+    let is = ap (with_free c.give.new.free) v.left ∙ given l frame v.whole c.give.new.free true v.frames.0
+    (rw v.frames.1 at c.give.ensures) in
     vacated_any l c.args.self.now _ frame v.whole c.self.invariant.0 v.stood v.had c.self.view_is is

@@ -11,7 +11,8 @@ pub unwrap-reservation-requires : goal.unwrap-reservation-requires
 unwrap-reservation-requires c =
     let st = state_of c.self.inside in
     let noted = noted_evictable st c.in-Some.frame c.in-Some.ensures.found.evictable in
-    reservation_is (layout_of st) c.in-Some.frame c.reservation_of.result c.self.invariant.sound.laid (used_if_noted st c.in-Some.frame noted) c.reservation_of.ensures.none
+    reservation_is (layout_of st) c.in-Some.frame c.reservation_of.result c.self.invariant.sound.laid
+    (used_if_noted st c.in-Some.frame noted) c.reservation_of.ensures.none
 
 pub claim-requires-clause-used : goal.claim-requires-clause-used
 claim-requires-clause-used c =
@@ -32,7 +33,8 @@ pub invariant_of-self : goal.invariant_of-self
 invariant_of-self c =
     let known = rw (← c.self.view_is) at c.requires.known in
     let nothing = rw (← c.self.view_is) at c.requires.nothing in
-    rw c.claim.ensures (IsPool-claimed _ _ _ (state_of c.self.inside) c.in-Some.frame c.args.processor c.self.invariant known nothing c.in-Some.ensures.found.evictable)
+    rw c.claim.ensures (IsPool-claimed _ _ _
+    (state_of c.self.inside) c.in-Some.frame c.args.processor c.self.invariant known nothing c.in-Some.ensures.found.evictable)
 
 pub page_at-requires-clause-pages : goal.page_at-requires-clause-pages
 page_at-requires-clause-pages c =

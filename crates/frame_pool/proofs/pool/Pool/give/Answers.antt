@@ -20,16 +20,20 @@ pub remove-claim-requires : goal.remove-claim-requires
 remove-claim-requires c =
     let p = c.self.inside in
     let n = c.number-number.result in
-    let is : frame_of (state_of p) c.args.space c.args.page ≡ Some n = rw (← c.self.view_is) at c.requires ∙ ap Some (sym c.number-number.ensures) in
+    let is : frame_of (state_of p) c.args.space c.args.page ≡ Some n = rw (← c.self.view_is) at c.requires
+    ∙ ap Some (sym c.number-number.ensures) in
     frame_noted p c.args.space c.args.page n c.self.invariant is
 
 pub invariant_of-self : goal.invariant_of-self
 invariant_of-self c =
     let p = c.self.inside in
     let n = c.number-number.result in
-    let is : frame_of (state_of p) c.args.space c.args.page ≡ Some n = rw (← c.self.view_is) at c.requires ∙ ap Some (sym c.number-number.ensures) in
+    let is : frame_of (state_of p) c.args.space c.args.page ≡ Some n = rw (← c.self.view_is) at c.requires
+    ∙ ap Some (sym c.number-number.ensures) in
     let claims = sym c.in-None.is ∙ c.remove-claim.ensures.claimer in
-    rw c.remove-claim.ensures.removed (IsPool-given p c.args.space c.args.page n c.self.invariant is None _ claims c.vacate.ensures c.args.frame (sym c.number-number.ensures))
+    rw c.remove-claim.ensures.removed
+    (IsPool-given p c.args.space c.args.page n c.self.invariant is None _ claims c.vacate.ensures c.args.frame
+    (sym c.number-number.ensures))
 
 pub index_mut-requires-in-Some : goal.index_mut-requires-in-Some
 index_mut-requires-in-Some c =
@@ -41,15 +45,18 @@ pub invariant_of-self-in-Some : goal.invariant_of-self-in-Some
 invariant_of-self-in-Some c =
     let p = c.self.inside in
     let n = c.number-number.result in
-    let is : frame_of (state_of p) c.args.space c.args.page ≡ Some n = rw (← c.self.view_is) at c.requires ∙ ap Some (sym c.number-number.ensures) in
+    let is : frame_of (state_of p) c.args.space c.args.page ≡ Some n = rw (← c.self.view_is) at c.requires
+    ∙ ap Some (sym c.number-number.ensures) in
     let claims = sym c.in-Some.is ∙ c.remove-claim.ensures.claimer in
-    rw c.remove-claim.ensures.removed (IsPool-given p c.args.space c.args.page n c.self.invariant is (Some c.in-Some.processor) _ claims c.carve.ensures c.args.frame (sym c.number-number.ensures))
+    rw c.remove-claim.ensures.removed (IsPool-given p c.args.space c.args.page n c.self.invariant is
+    (Some c.in-Some.processor) _ claims c.carve.ensures c.args.frame (sym c.number-number.ensures))
 
 pub returns-in-None-clause-given : goal.returns-in-None-clause-given
 returns-in-None-clause-given c =
     let p = c.self.inside in
     let n = c.number-number.result in
-    let is : frame_of (state_of p) c.args.space c.args.page ≡ Some n = rw (← c.self.view_is) at c.requires ∙ ap Some (sym c.number-number.ensures) in
+    let is : frame_of (state_of p) c.args.space c.args.page ≡ Some n = rw (← c.self.view_is) at c.requires
+    ∙ ap Some (sym c.number-number.ensures) in
     let claims = sym c.in-None.is ∙ c.remove-claim.ensures.claimer in
     rw c.remove-claim.ensures.removed (give_page-is p c.args.space c.args.page n c.self.invariant is None _ claims c.vacate.ensures)
     ∙ ap (λ (st : FrameState). give_page st c.args.space c.args.page) c.self.view_is
@@ -58,15 +65,19 @@ pub returns-in-Some-clause-given : goal.returns-in-Some-clause-given
 returns-in-Some-clause-given c =
     let p = c.self.inside in
     let n = c.number-number.result in
-    let is : frame_of (state_of p) c.args.space c.args.page ≡ Some n = rw (← c.self.view_is) at c.requires ∙ ap Some (sym c.number-number.ensures) in
+    let is : frame_of (state_of p) c.args.space c.args.page ≡ Some n = rw (← c.self.view_is) at c.requires
+    ∙ ap Some (sym c.number-number.ensures) in
     let claims = sym c.in-Some.is ∙ c.remove-claim.ensures.claimer in
-    rw c.remove-claim.ensures.removed (give_page-is p c.args.space c.args.page n c.self.invariant is (Some c.in-Some.processor) _ claims c.carve.ensures)
+    rw c.remove-claim.ensures.removed (give_page-is p c.args.space c.args.page n c.self.invariant is
+    (Some c.in-Some.processor) _ claims c.carve.ensures)
     ∙ ap (λ (st : FrameState). give_page st c.args.space c.args.page) c.self.view_is
 
 pub returns-in-None-clause-places : goal.returns-in-None-clause-places
 returns-in-None-clause-places c =
-    places_given c.self.inside c.args.space c.args.page c.args.frame.number c.self.invariant c.args.self.now _ c.self.view_is c.requires (returns-in-None-clause-given c)
+    places_given c.self.inside c.args.space c.args.page c.args.frame.number c.self.invariant c.args.self.now _ c.self.view_is c.requires
+    (returns-in-None-clause-given c)
 
 pub returns-in-Some-clause-places : goal.returns-in-Some-clause-places
 returns-in-Some-clause-places c =
-    places_given c.self.inside c.args.space c.args.page c.args.frame.number c.self.invariant c.args.self.now _ c.self.view_is c.requires (returns-in-Some-clause-given c)
+    places_given c.self.inside c.args.space c.args.page c.args.frame.number c.self.invariant c.args.self.now _ c.self.view_is c.requires
+    (returns-in-Some-clause-given c)

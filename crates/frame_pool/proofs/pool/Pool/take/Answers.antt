@@ -12,15 +12,21 @@ pub returns-in_default-clause-full : goal.returns-in_default-clause-full
 returns-in_default-clause-full c =
     let p = c.self.inside in
     let unplaced = rw (← c.self.view_is) at c.requires.unplaced in
-    let none = ap (placing p.entries c.args.space c.args.page c.args.want.now) (layout_of-pool p c.self.invariant) ∙ c.in_default.ensures.none.0 in
-    let full = full-placing (layout_of (state_of p)) p.entries c.args.space c.args.page c.args.want.now c.self.invariant.sound.laid unplaced none in
+    let none = ap (placing p.entries c.args.space c.args.page c.args.want.now) (layout_of-pool p c.self.invariant)
+    ∙ c.in_default.ensures.none.0 in
+    let full = full-placing
+    (layout_of (state_of p)) p.entries c.args.space c.args.page c.args.want.now c.self.invariant.sound.laid unplaced none in
     rw (c.in_default.ensures.none.1, ← c.self.view_is) (full, refl)
 
 pub index_mut-requires : goal.index_mut-requires
 index_mut-requires c =
     let p = c.self.inside in
     let unplaced = rw (← c.self.view_is) at c.requires.unplaced in
-    omega (arith, frame_known p c.args.space c.args.page c.args.want.now _ _ _ c.self.invariant unplaced c.in-Some.ensures.placed, p.frames.ok.0)
+    omega (
+      arith,
+      frame_known p c.args.space c.args.page c.args.want.now _ _ _ c.self.invariant unplaced c.in-Some.ensures.placed,
+      p.frames.ok.0,
+    )
 
 pub unreachable-requires : goal.unreachable-requires
 unreachable-requires c =
@@ -48,7 +54,8 @@ add-requires-clause-youngest c = c.self.invariant.sound.ages_past
 pub invariant_of-self-2 : goal.invariant_of-self-2
 invariant_of-self-2 c =
     let unplaced = rw (← c.self.view_is) at c.requires.unplaced in
-    rw (c.take.ensures.after, c.add.ensures) (IsPool-taken c.self.inside c.args.space c.args.page c.args.want.now _ _ _ c.self.invariant unplaced c.in-Some.ensures.placed)
+    rw (c.take.ensures.after, c.add.ensures)
+    (IsPool-taken c.self.inside c.args.space c.args.page c.args.want.now _ _ _ c.self.invariant unplaced c.in-Some.ensures.placed)
 
 pub returns-clause-taken : goal.returns-clause-taken
 returns-clause-taken c =
@@ -61,7 +68,8 @@ returns-clause-taken c =
     let there = frame_there p space page want _ _ _ c.self.invariant unplaced placed c.index_mut.result.now c.index_mut.ensures.value in
     let number : Some c.in-Some-take.frame.number ≡ number_in c.index_mut.result.now = ap number_in c.in-Some-take.ensures.value in (
       taking_of p space page want _ _ _ c.self.invariant unplaced placed,
-      ap (λ st. take_frame st space page want) (sym c.self.view_is) ∙ take_frame-placed p space page want _ _ _ c.self.invariant unplaced placed,
+      ap (λ st. take_frame st space page want) (sym c.self.view_is)
+          ∙ take_frame-placed p space page want _ _ _ c.self.invariant unplaced placed,
       rw c.add.ensures (state_taken-is p space page want _ _ _ c.self.invariant unplaced placed),
       same_Some _ _ (number ∙ there) ∙ placed.same_frame,
     )
@@ -71,8 +79,10 @@ returns-clause-full_is_told c = λ told.
     let p = c.self.inside in
     let unplaced = rw (← c.self.view_is) at c.requires.unplaced in
     let full : IsFull (state_of p) = subst IsFull (sym c.self.view_is) told in
-    let none = placing-full (layout_of (state_of p)) p.entries c.args.space c.args.page c.args.want.now c.self.invariant.sound.laid unplaced full in
-    absurd (none-some _ (sym none ∙ ap (placing p.entries c.args.space c.args.page c.args.want.now) (layout_of-pool p c.self.invariant) ∙ c.in-Some.ensures.placed.is))
+    let none = placing-full
+    (layout_of (state_of p)) p.entries c.args.space c.args.page c.args.want.now c.self.invariant.sound.laid unplaced full in
+    absurd (none-some _ (sym none ∙ ap (placing p.entries c.args.space c.args.page c.args.want.now) (layout_of-pool p c.self.invariant)
+    ∙ c.in-Some.ensures.placed.is))
 
 pub returns-clause-unused : goal.returns-clause-unused
 returns-clause-unused c =

@@ -18,7 +18,11 @@ nonzero_div-i-end c = omega (arith, c.pages-pages.ensures, eight_pos c.args.size
 pub overflow_add-first : goal.overflow_add-first
 overflow_add-first c =
     let r = c.args.whole.now in
-    let one : c.loop-i.i < part_count c.args.size r = omega (arith, c.loop-i-test.true, counted c.args.size r.size c.pages.result c.pages-pages.result c.requires.splits c.pages.ensures c.pages-pages.ensures) in
+    let one : c.loop-i.i < part_count c.args.size r = omega (
+      arith,
+      c.loop-i-test.true,
+      counted c.args.size r.size c.pages.result c.pages-pages.result c.requires.splits c.pages.ensures c.pages-pages.ensures,
+    ) in
     let ends = part_ends c.args.size c.loop-i.i r (omega (arith, c.requires.splits)) one in
     let last = aligned_end r.size r.frame c.requires.aligned.0 c.requires.aligned.1 (omega arith) in
     rw c.pages-pages.ensures (omega (arith, ends, last, eight_pos c.args.size))
@@ -26,7 +30,11 @@ overflow_add-first c =
 pub yields-requires : goal.yields-requires
 yields-requires c =
     let r = c.args.whole.now in
-    let one : c.loop-i.i < part_count c.args.size r = omega (arith, c.loop-i-test.true, counted c.args.size r.size c.pages.result c.pages-pages.result c.requires.splits c.pages.ensures c.pages-pages.ensures) in
+    let one : c.loop-i.i < part_count c.args.size r = omega (
+      arith,
+      c.loop-i-test.true,
+      counted c.args.size r.size c.pages.result c.pages-pages.result c.requires.splits c.pages.ensures c.pages-pages.ensures,
+    ) in
     let is = c.requires.parts c.loop-i.i one in
     rw (c.pages-pages.ensures, is)
 
@@ -36,13 +44,18 @@ returns-then-eq c =
     let i = c.loop-i.i in
     let z = c.args.self.now.sizes in
     let used = is_used c.args.self.now.used in
-    let one : i < part_count c.args.size r = omega (arith, c.loop-i-test.true, counted c.args.size r.size c.pages.result c.pages-pages.result c.requires.splits c.pages.ensures c.pages-pages.ensures) in
+    let one : i < part_count c.args.size r = omega (
+      arith,
+      c.loop-i-test.true,
+      counted c.args.size r.size c.pages.result c.pages-pages.result c.requires.splits c.pages.ensures c.pages-pages.ensures,
+    ) in
     let is = c.requires.parts i one in
     let yields = rw (c.pages-pages.ensures, is) at c.yields.ensures in
     let tells : c.eq.result ≡ same_size c.yields.result c.args.yields = c.eq.ensures ∙ same_size-is c.yields.result c.args.yields in
     let test : ℕ → Bool = λ k. same_size (yield_in z used (part_at c.args.size r k)) (yield_in z used r) in
     let same : test i ≡ true = rw (← yields, ← c.requires.yields) (sym tells ∙ c.if-eq.true) in
-    let found = find_first test 0 (part_count c.args.size r) i (λ k _ below. c.loop-i.invariant k below) (omega arith) (omega (arith, one)) same in
+    let found = find_first test 0 (part_count c.args.size r) i (λ k _ below. c.loop-i.invariant k below) (omega arith)
+    (omega (arith, one)) same in
     rw c.pages-pages.ensures (ap (λ o. first_of (option_map (part_at c.args.size r) o)) (sym found))
 
 pub loop-i-preserved : goal.loop-i-preserved
@@ -51,7 +64,11 @@ loop-i-preserved c =
     let i = c.loop-i.i in
     let z = c.args.self.now.sizes in
     let used = is_used c.args.self.now.used in
-    let one : i < part_count c.args.size r = omega (arith, c.loop-i-test.true, counted c.args.size r.size c.pages.result c.pages-pages.result c.requires.splits c.pages.ensures c.pages-pages.ensures) in
+    let one : i < part_count c.args.size r = omega (
+      arith,
+      c.loop-i-test.true,
+      counted c.args.size r.size c.pages.result c.pages-pages.result c.requires.splits c.pages.ensures c.pages-pages.ensures,
+    ) in
     let is = c.requires.parts i one in
     let yields = rw (c.pages-pages.ensures, is) at c.yields.ensures in
     let tells : c.eq.result ≡ same_size c.yields.result c.args.yields = c.eq.ensures ∙ same_size-is c.yields.result c.args.yields in
@@ -66,5 +83,6 @@ returns c =
     let used = is_used c.args.self.now.used in
     let test : ℕ → Bool = λ k. same_size (yield_in z used (part_at c.args.size r k)) (yield_in z used r) in
     let count = counted c.args.size r.size c.pages.result c.pages-pages.result c.requires.splits c.pages.ensures c.pages-pages.ensures in
-    let none = find_none test 0 (part_count c.args.size r) (λ k _ below. c.loop-i.invariant k (omega (arith, below, count, c.loop-i-test.false))) in
+    let none = find_none test 0 (part_count c.args.size r) (λ k _ below. c.loop-i.invariant k
+    (omega (arith, below, count, c.loop-i-test.false))) in
     ap (λ o. first_of (option_map (part_at c.args.size r) o)) (sym none)

@@ -15,7 +15,10 @@ use Rattle.frame_pool.proofs.reserved.Reserved.populate.Goals as goal
 pub remove-requires : goal.remove-requires
 remove-requires c =
     let there = rw (← c.self.view_is) at c.requires.there in
-    record { known = known_to_lists (reserved_in c.self.inside) _ c.args.reservation.now c.self.invariant.laid there c.self.inside.lists c.self.inside.map c.self.invariant }
+    record {
+      known = known_to_lists
+          (reserved_in c.self.inside) _ c.args.reservation.now c.self.invariant.laid there c.self.inside.lists c.self.inside.map c.self.invariant;
+    }
 
 pub enlist-requires-clause-unlisted : goal.enlist-requires-clause-unlisted
 enlist-requires-clause-unlisted c = rw c.remove.ensures (is_listed-without c.args.reservation.now.frame c.self.inside.lists.lists)
@@ -29,14 +32,19 @@ invariant_of-self c =
     let is : record_at l r.frame ≡ Some r = rw (← c.self.view_is) at c.requires.there in
     let unused : is_used l.used (frame_for page r) ≡ false = rw (← c.self.view_is) at c.requires.unused in
     let laid = IsLaid-populated l r c.args.stamp page c.self.invariant.laid is c.requires.has unused in
-    let done : c.populate.new.self ≡ with_used (with_record inside.reservations r.frame (Some (stamped r c.args.stamp))) (frame_for page r) true = rw is at c.populate.ensures in
+    let done : c.populate.new.self ≡ with_used (with_record inside.reservations r.frame (Some (stamped r c.args.stamp)))
+    (frame_for page r) true = rw is at c.populate.ensures in
     let m = c.enlist.new.lists.frames in
     let room : m ≡ inside.lists.frames = c.enlist.ensures.room ∙ ap (λ (k : KeptLists). k.frames) c.remove.ensures in
     let after : ℕ → Records → Layout = λ n st. record { sizes = l.sizes; free = replicate n false; records = st.records; used = st.used } in
-    IsInOrder-again l r.frame r c.self.invariant.laid is (frame_for page r) true (Some (stamped r c.args.stamp)) (after m c.populate.new.self) inside.lists c.enlist.new.lists inside.map inside.map c.self.invariant (place_has r page c.requires.has)
-    (subst (λ n. IsLaid (after n c.populate.new.self)) (sym room) (subst (λ st. IsLaid (after inside.lists.frames st)) (sym done) laid)) refl (length-replicate m false) (ap (λ (st : Records). st.used) done) (ap (λ (st : Records). st.records) done)
+    IsInOrder-again l r.frame r c.self.invariant.laid is (frame_for page r) true (Some (stamped r c.args.stamp))
+    (after m c.populate.new.self) inside.lists c.enlist.new.lists inside.map inside.map c.self.invariant
+    (place_has r page c.requires.has)
+    (subst (λ n. IsLaid (after n c.populate.new.self)) (sym room) (subst (λ st. IsLaid (after inside.lists.frames st))
+    (sym done) laid)) refl (length-replicate m false) (ap (λ (st : Records). st.used) done) (ap (λ (st : Records). st.records) done)
     room (rw c.remove.ensures at c.enlist.ensures.listed)
-    (subst (λ (st : Records). IsMapped inside.map st.records) (sym done) (IsMapped-alike inside.map l.records r.frame r (stamped r c.args.stamp) c.self.invariant.mapped is refl refl refl))
+    (subst (λ (st : Records). IsMapped inside.map st.records) (sym done)
+    (IsMapped-alike inside.map l.records r.frame r (stamped r c.args.stamp) c.self.invariant.mapped is refl refl refl))
 
 pub frame_for-requires-clause-frames : goal.frame_for-requires-clause-frames
 frame_for-requires-clause-frames c =

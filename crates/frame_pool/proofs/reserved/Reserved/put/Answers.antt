@@ -20,7 +20,8 @@ enlist-requires-clause-unlisted c =
     let inside = c.self.inside in
     let was = c.self.invariant in
     let apart = rw (← c.self.view_is) at c.requires.apart in
-    let none = none_begins inside.reservations.records r.frame was.laid.placed (apart r.frame r.frame (has_frame_from r.frame r (omega arith) (omega (arith, eight_pos r.size)))) in
+    let none = none_begins inside.reservations.records r.frame was.laid.placed
+    (apart r.frame r.frame (has_frame_from r.frame r (omega arith) (omega (arith, eight_pos r.size)))) in
     is_listed-none inside.sizes inside.lists.lists inside.reservations.used inside.reservations.records r.frame was.listed was.laid.placed none
 
 pub insert-requires : goal.insert-requires
@@ -30,8 +31,12 @@ insert-requires c =
     let was = c.self.invariant in
     let apart = rw (← c.self.view_is) at c.requires.apart in
     let laid = rw (← c.self.view_is) at c.requires.laid in
-    let placed = rw (← c.self.view_is) at c.requires.placed in
-    (l.records, was.mapped, MayEnter-added l r c.args.page was.laid placed c.requires.few c.requires.within apart (IsLaid-with l r c.args.page c.self.inside.lists.frames was.laid was.known laid.0 laid.1))
+    let placed = rw (← c.self.view_is) at c.requires.placed in (
+      l.records,
+      was.mapped,
+      MayEnter-added l r c.args.page was.laid placed c.requires.few c.requires.within apart
+          (IsLaid-with l r c.args.page c.self.inside.lists.frames was.laid was.known laid.0 laid.1),
+    )
 
 pub invariant_of-self : goal.invariant_of-self
 invariant_of-self c =
@@ -43,16 +48,22 @@ invariant_of-self c =
     let sound = rw (← c.self.view_is) at c.requires.laid in
     let placed = rw (← c.self.view_is) at c.requires.placed in
     let laid = IsLaid-with l r c.args.page inside.lists.frames was.laid was.known sound.0 sound.1 in
-    let none = none_begins l.records r.frame was.laid.placed (apart r.frame r.frame (has_frame_from r.frame r (omega arith) (omega (arith, eight_pos r.size)))) in
+    let none = none_begins l.records r.frame was.laid.placed (apart r.frame r.frame
+    (has_frame_from r.frame r (omega arith) (omega (arith, eight_pos r.size)))) in
     let place = frame_for c.args.page r in
-    let listed = AreListed-used l.sizes inside.lists.lists l.used l.records place true was.listed (λ id has. false≢true (sym (apart place id (place_has r c.args.page c.requires.has)) ∙ has)) in
+    let listed = AreListed-used l.sizes inside.lists.lists l.used l.records place true was.listed
+    (λ id has. false≢true (sym (apart place id (place_has r c.args.page c.requires.has)) ∙ has)) in
     let known : r.frame < length l.records = omega (arith, placed.within, eight_pos r.size) in
-    let enlists : (rs : List (Option Reservation)) → get_or rs r.frame None ≡ None → r.frame < length rs → AreListed l.sizes inside.lists.lists (set l.used place true) rs → AreListed l.sizes c.enlist.new.lists.lists (set l.used place true) (set rs r.frame (get_or (set l.records r.frame (Some r)) r.frame None)) =
+    let enlists : (rs : List (Option Reservation)) → get_or rs r.frame None ≡ None → r.frame < length rs
+    → AreListed l.sizes inside.lists.lists (set l.used place true) rs
+    → AreListed l.sizes c.enlist.new.lists.lists (set l.used place true)
+    (set rs r.frame (get_or (set l.records r.frame (Some r)) r.frame None)) =
     rw c.add.ensures at c.enlist.ensures.listed in
     rw c.add.ensures (record {
       known = length-replicate c.enlist.new.lists.frames false;
       few = omega (arith, c.enlist.ensures.room, was.few);
       laid = IsLaid-with l r c.args.page c.enlist.new.lists.frames was.laid (was.known ∙ sym c.enlist.ensures.room) sound.0 sound.1;
       listed = rw (get_or-set_same l.records r.frame (Some r) None known) at (enlists l.records none known listed);
-      mapped = c.insert.ensures l.records was.mapped (MayEnter-added l r c.args.page was.laid placed c.requires.few c.requires.within apart laid);
+      mapped = c.insert.ensures l.records was.mapped
+          (MayEnter-added l r c.args.page was.laid placed c.requires.few c.requires.within apart laid);
     })

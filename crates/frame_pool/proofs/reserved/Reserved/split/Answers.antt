@@ -18,20 +18,26 @@ stood c = sym c.get.ensures.record ∙ c.unwrap-whole.ensures
 
 -- and was split into its eight parts
 split : (c : After-split-parts)
-    → c.split-parts.new.self.records ≡ split_records (is_used c.self.inside.reservations.used) c.unwrap-whole.result c.self.inside.reservations.records
+    → c.split-parts.new.self.records ≡ split_records
+    (is_used c.self.inside.reservations.used) c.unwrap-whole.result c.self.inside.reservations.records
 split c = rw (stood c) at c.split-parts.ensures.records
 
 eight : (c : After-split-parts)
-    → c.split-parts.new.self.records ≡ parted_records (c.unwrap-whole.result.size - 1) (is_used c.self.inside.reservations.used) c.unwrap-whole.result c.self.inside.reservations.records
+    → c.split-parts.new.self.records ≡ parted_records (c.unwrap-whole.result.size - 1)
+    (is_used c.self.inside.reservations.used) c.unwrap-whole.result c.self.inside.reservations.records
 eight c =
     let some = rw (← c.self.view_is) at c.requires in
     let splits : 0 < c.unwrap-whole.result.size = rw (stood c) at some in
-    split c ∙ sym (parted_records-eight (is_used c.self.inside.reservations.used) c.unwrap-whole.result c.self.inside.reservations.records splits)
+    split c ∙ sym (parted_records-eight
+    (is_used c.self.inside.reservations.used) c.unwrap-whole.result c.self.inside.reservations.records splits)
 
 pub remove-requires : goal.remove-requires
 remove-requires c =
     let stands = sym c.get.ensures.record ∙ c.unwrap-whole.ensures in
-    record { known = known_to_lists (reserved_in c.self.inside) c.args.id c.unwrap-whole.result c.self.invariant.laid stands c.self.inside.lists c.self.inside.map c.self.invariant }
+    record {
+      known = known_to_lists
+          (reserved_in c.self.inside) c.args.id c.unwrap-whole.result c.self.invariant.laid stands c.self.inside.lists c.self.inside.map c.self.invariant;
+    }
 
 pub enlist_parts-requires-clause-split : goal.enlist_parts-requires-clause-split
 enlist_parts-requires-clause-split c =
@@ -44,7 +50,9 @@ enlist_parts-requires-clause-split c =
 pub insert_parts-requires-clause-split : goal.insert_parts-requires-clause-split
 insert_parts-requires-clause-split c =
     let w = (goal.at.insert_parts-requires-clause-split c).After-split-parts in
-    WasSplitFrom-left (reserved_in c.self.inside) c.args.id c.unwrap-whole.result c.self.invariant.laid (stood w) c.self.inside.map c.remove-2.new.map c.split-parts.new.self c.self.invariant.mapped c.remove-2.ensures (split w) c.split-parts.ensures.used
+    WasSplitFrom-left (reserved_in c.self.inside) c.args.id c.unwrap-whole.result c.self.invariant.laid
+    (stood w) c.self.inside.map c.remove-2.new.map c.split-parts.new.self c.self.invariant.mapped c.remove-2.ensures
+    (split w) c.split-parts.ensures.used
 
 -- the lists are of as many frames then
 room : (c : After-enlist_parts) → c.enlist_parts.new.lists.frames ≡ c.self.inside.lists.frames

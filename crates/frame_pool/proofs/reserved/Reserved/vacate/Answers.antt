@@ -17,7 +17,8 @@ use Rattle.frame_pool.proofs.reserved.Reserved.vacate.Goals.{After-vacate, After
 
 -- the reservation stands, and has the frame
 owner : (c : After-vacate)
-    → (record_at (reserved_in c.self.inside) c.unwrap-reservation.result.frame ≡ Some c.unwrap-reservation.result) × (has_frame c.args.frame (Some c.unwrap-reservation.result) ≡ true)
+    → (record_at (reserved_in c.self.inside) c.unwrap-reservation.result.frame ≡ Some c.unwrap-reservation.result)
+    × (has_frame c.args.frame (Some c.unwrap-reservation.result) ≡ true)
 owner c = rw (c.unwrap-reservation.ensures, ← c.self.view_is) at c.reservation_of.ensures.found
 
 -- the frame is a used place no more
@@ -33,7 +34,8 @@ tells c =
     sym last
 
 laid_without : (c : After-vacate) → IsLaid (without_place c.args.frame c.unwrap-reservation.result (reserved_in c.self.inside))
-laid_without c = IsLaid-without_place (reserved_in c.self.inside) c.args.frame c.unwrap-reservation.result c.self.invariant.laid (owner c).0 (owner c).1 (rw (← c.self.view_is) at c.requires)
+laid_without c = IsLaid-without_place (reserved_in c.self.inside) c.args.frame c.unwrap-reservation.result c.self.invariant.laid
+    (owner c).0 (owner c).1 (rw (← c.self.view_is) at c.requires)
 
 pub page_at-requires-clause-pages : goal.page_at-requires-clause-pages
 page_at-requires-clause-pages c =
@@ -44,11 +46,15 @@ page_at-requires-clause-pages c =
 pub remove-requires : goal.remove-requires
 remove-requires c =
     let found = rw (c.unwrap-reservation.ensures, ← c.self.view_is) at c.reservation_of.ensures.found in
-    record { known = known_to_lists (reserved_in c.self.inside) _ c.unwrap-reservation.result c.self.invariant.laid found.0 c.self.inside.lists c.self.inside.map c.self.invariant }
+    record {
+      known = known_to_lists
+          (reserved_in c.self.inside) _ c.unwrap-reservation.result c.self.invariant.laid found.0 c.self.inside.lists c.self.inside.map c.self.invariant;
+    }
 
 pub remove-requires-then-vacate-clause-mapped : goal.remove-requires-then-vacate-clause-mapped
 remove-requires-then-vacate-clause-mapped c =
-    subst (λ (st : Records). IsMapped c.self.inside.map st.records) (sym (unused (goal.at.remove-requires-then-vacate-clause-mapped c).After-vacate)) c.self.invariant.mapped
+    subst (λ (st : Records). IsMapped c.self.inside.map st.records) (sym
+    (unused (goal.at.remove-requires-then-vacate-clause-mapped c).After-vacate)) c.self.invariant.mapped
 
 pub enlist-requires-clause-unlisted : goal.enlist-requires-clause-unlisted
 enlist-requires-clause-unlisted c = rw c.remove.ensures (is_listed-without c.unwrap-reservation.result.frame c.self.inside.lists.lists)
@@ -62,8 +68,10 @@ invariant_of-self c =
     let gone = c.dissolve.ensures ∙ ap (λ st. with_record st r.frame None) (unused w) in
     let after = vacated l c.args.frame r true c.dissolve.new.self (tells w ∙ c.if-vacate.true) gone in
     rw c.remove.ensures
-    (IsInOrder-gone l r.frame r c.self.invariant.laid (owner w).0 c.args.frame _ inside.lists inside.map c.remove-then-vacate.new.map c.self.invariant (owner w).1
-    (subst IsLaid (sym after) (laid_without w)) refl (length-replicate inside.lists.frames false) (ap (λ (st : Records). st.used) gone) (ap (λ (st : Records). st.records) gone)
+    (IsInOrder-gone l r.frame r c.self.invariant.laid
+    (owner w).0 c.args.frame _ inside.lists inside.map c.remove-then-vacate.new.map c.self.invariant (owner w).1
+    (subst IsLaid (sym after) (laid_without w)) refl (length-replicate inside.lists.frames false) (ap (λ (st : Records). st.used) gone)
+    (ap (λ (st : Records). st.records) gone)
     (subst (λ (st : Records). IsMapped c.remove-then-vacate.new.map st.records) (sym c.dissolve.ensures) c.remove-then-vacate.ensures))
 
 pub returns-then-vacate : goal.returns-then-vacate
@@ -72,7 +80,15 @@ returns-then-vacate c =
     let r = c.unwrap-reservation.result in
     let gone = c.dissolve.ensures ∙ ap (λ st. with_record st r.frame None) (unused w) in
     let last = tells w ∙ c.if-vacate.true in
-    rw (c.remove.ensures, ← c.self.view_is) (record { whole = r; stood = (owner w).0; had = (owner w).1; left = vacated (reserved_in c.self.inside) c.args.frame r true c.dissolve.new.self last gone; frames = (last, refl) })
+    rw (c.remove.ensures, ← c.self.view_is)
+    (record {
+      whole = r;
+      stood = (owner w).0;
+      had = (owner w).1;
+      left = vacated
+          (reserved_in c.self.inside) c.args.frame r true c.dissolve.new.self last gone;
+      frames = (last, refl);
+    })
 
 -- the lists are of as many frames then
 room : (c : After-enlist) → c.enlist.new.lists.frames ≡ c.self.inside.lists.frames
@@ -86,9 +102,12 @@ invariant_of-self-2 c =
     let r = c.unwrap-reservation.result in
     let m = c.enlist.new.lists.frames in
     let after = vacated l c.args.frame r false c.vacate.new.self (tells w ∙ c.if-vacate.false) (unused w) in
-    let left : ℕ → Layout = λ n. record { sizes = l.sizes; free = replicate n false; records = c.vacate.new.self.records; used = c.vacate.new.self.used } in
-    IsInOrder-again l r.frame r c.self.invariant.laid (owner w).0 c.args.frame false (record_at l r.frame) (left m) inside.lists c.enlist.new.lists inside.map inside.map c.self.invariant (owner w).1
-    (subst (λ n. IsLaid (left n)) (sym (room (goal.at.invariant_of-self-2 c).After-enlist)) (subst IsLaid (sym after) (laid_without w))) refl (length-replicate m false) (ap (λ (st : Records). st.used) (unused w))
+    let left : ℕ → Layout =
+    λ n. record { sizes = l.sizes; free = replicate n false; records = c.vacate.new.self.records; used = c.vacate.new.self.used } in
+    IsInOrder-again l r.frame r c.self.invariant.laid (owner w).0 c.args.frame false (record_at l r.frame)
+    (left m) inside.lists c.enlist.new.lists inside.map inside.map c.self.invariant (owner w).1
+    (subst (λ n. IsLaid (left n)) (sym (room (goal.at.invariant_of-self-2 c).After-enlist))
+    (subst IsLaid (sym after) (laid_without w))) refl (length-replicate m false) (ap (λ (st : Records). st.used) (unused w))
     (ap (λ (st : Records). st.records) (unused w) ∙ sym (set-get_or inside.reservations.records r.frame None))
     (room (goal.at.invariant_of-self-2 c).After-enlist) (rw c.remove.ensures at c.enlist.ensures.listed)
     (subst (λ (st : Records). IsMapped inside.map st.records) (sym (unused w)) c.self.invariant.mapped)
@@ -98,4 +117,12 @@ returns c =
     let w = (goal.at.returns c).After-vacate in
     let r = c.unwrap-reservation.result in
     let keeps = tells w ∙ c.if-vacate.false in
-    rw (room (goal.at.returns c).After-enlist, ← c.self.view_is) (record { whole = r; stood = (owner w).0; had = (owner w).1; left = vacated (reserved_in c.self.inside) c.args.frame r false c.vacate.new.self keeps (unused w); frames = keeps })
+    rw (room (goal.at.returns c).After-enlist, ← c.self.view_is)
+    (record {
+      whole = r;
+      stood = (owner w).0;
+      had = (owner w).1;
+      left = vacated
+          (reserved_in c.self.inside) c.args.frame r false c.vacate.new.self keeps (unused w);
+      frames = keeps;
+    })

@@ -12,12 +12,14 @@ pub nonzero_div-first : goal.nonzero_div-first
 nonzero_div-first c = omega (arith, c.pages-pages.ensures, eight_pos c.smaller-size.result)
 
 -- where the part begins
-start : (c : After-pages-pages) → c.args.page / c.pages-pages.result * c.pages-pages.result ≡ extent_start (c.args.self.now.extent.size - 1) c.args.page
+start : (c : After-pages-pages) → c.args.page / c.pages-pages.result * c.pages-pages.result ≡ extent_start
+    (c.args.self.now.extent.size - 1) c.args.page
 start c = ap (λ n. c.args.page / n * n) (c.pages-pages.ensures ∙ ap (λ k. 8 ^ k) c.smaller-size.ensures)
 
 -- it begins in the entry
 inside : (c : After-pages-pages)
-    → (c.args.self.now.extent.first ≤ extent_start (c.args.self.now.extent.size - 1) c.args.page) × (extent_start (c.args.self.now.extent.size - 1) c.args.page < c.args.self.now.extent.first + 8 ^ c.args.self.now.extent.size)
+    → (c.args.self.now.extent.first ≤ extent_start (c.args.self.now.extent.size - 1) c.args.page)
+    × (extent_start (c.args.self.now.extent.size - 1) c.args.page < c.args.self.now.extent.first + 8 ^ c.args.self.now.extent.size)
 inside c =
     let extent = c.args.self.now.extent in
     let is = c.requires.extent in
@@ -27,7 +29,16 @@ inside c =
     )
 
 pub overflow_sub-first : goal.overflow_sub-first
-overflow_sub-first c = omega (arith, start (goal.at.overflow_sub-first c).After-pages-pages, inside (goal.at.overflow_sub-first c).After-pages-pages)
+overflow_sub-first c = omega (
+  arith,
+  start (goal.at.overflow_sub-first c).After-pages-pages,
+  inside (goal.at.overflow_sub-first c).After-pages-pages,
+)
 
 pub moved-requires : goal.moved-requires
-moved-requires c = omega (arith, start (goal.at.moved-requires c).After-pages-pages, inside (goal.at.moved-requires c).After-pages-pages, c.requires.fits)
+moved-requires c = omega (
+  arith,
+  start (goal.at.moved-requires c).After-pages-pages,
+  inside (goal.at.moved-requires c).After-pages-pages,
+  c.requires.fits,
+)

@@ -20,8 +20,11 @@ pub is_empty-requires-clause-aligned : goal.is_empty-requires-clause-aligned
 is_empty-requires-clause-aligned c =
     let r = c.args.whole.now in
     let pages : c.pages.result ≡ 8 ^ (r.size - 1) = c.pages.ensures ∙ ap (λ k. 8 ^ k) c.smaller-size.ensures in
-    rw (pages, c.smaller-size.ensures)
-    (omega (arith, c.requires.placed.aligned.0), aligned_part (r.size - 1) r.size r.frame c.args.i (omega arith) c.requires.placed.aligned.1)
+    rw (pages, c.smaller-size.ensures) (
+      omega (arith, c.requires.placed.aligned.0),
+      aligned_part (r.size - 1) r.size r.frame c.args.i
+          (omega arith) c.requires.placed.aligned.1,
+    )
 
 pub is_empty-requires-clause-known : goal.is_empty-requires-clause-known
 is_empty-requires-clause-known c =

@@ -36,7 +36,8 @@ returns-then-contains c =
     let used = c.args.self.now in
     let size = c.at_level-size.result in
     let some = has_empty-counted used r size c.counts_in.result.now c.counts_in.ensures in
-    let found = yield_below-found (is_used used) r c.loop-level.level size (omega (arith, c.at_level-size.ensures, c.loop-level-test.true)) (sym some ∙ sym c.contains.ensures.value ∙ c.if-contains.true) in
+    let found = yield_below-found (is_used used) r c.loop-level.level size (omega (arith, c.at_level-size.ensures, c.loop-level-test.true))
+    (sym some ∙ sym c.contains.ensures.value ∙ c.if-contains.true) in
     sym found ∙ c.loop-level.invariant.1
 
 pub loop-level-preserved : goal.loop-level-preserved
@@ -45,8 +46,12 @@ loop-level-preserved c =
     let used = c.args.self.now in
     let size = c.at_level-size.result in
     let some = has_empty-counted used r size c.counts_in.result.now c.counts_in.ensures in
-    let missed = yield_below-missed (is_used used) r c.loop-level.level size (omega (arith, c.at_level-size.ensures, c.loop-level-test.true)) (sym some ∙ sym c.contains.ensures.value ∙ c.if-contains.false) in
-    (omega (arith, c.loop-level-test.true), ap (yield_below (is_used used) r) (sym c.at_level-size.ensures) ∙ sym missed ∙ c.loop-level.invariant.1)
+    let missed = yield_below-missed (is_used used) r c.loop-level.level size
+    (omega (arith, c.at_level-size.ensures, c.loop-level-test.true)) (sym some ∙ sym c.contains.ensures.value ∙ c.if-contains.false) in (
+      omega (arith, c.loop-level-test.true),
+      ap (yield_below (is_used used) r) (sym c.at_level-size.ensures) ∙ sym missed
+          ∙ c.loop-level.invariant.1,
+    )
 
 pub returns : goal.returns
 returns c =

@@ -9,6 +9,12 @@ use Rattle.swap_slots.proofs.store.SlotStoreStore.drop_pages.Goals as goal
 pub returns-clause-dropped : goal.returns-clause-dropped
 returns-clause-dropped g c =
     let before = c.args.self.now in
-    let after : SlotState = record { device = g.B.Blocks.device c.self.inside.blocks; slots = c.drop_range.new.self; reads = c.self.inside.reads; refused = c.self.inside.refused } in
+    let after : SlotState =
+    record {
+      device = g.B.Blocks.device c.self.inside.blocks;
+      slots = c.drop_range.new.self;
+      reads = c.self.inside.reads;
+      refused = c.self.inside.refused;
+    } in
     drops_copies before after c.args.first c.args.length (ap (λ s. s.device) c.self.view_is) (ap (λ s. s.refused) c.self.view_is)
     (λ p. c.drop_range.ensures.copies p ∙ ap (λ s. cond (in_range c.args.first c.args.length p) Zero (copy_of s.slots p)) c.self.view_is)

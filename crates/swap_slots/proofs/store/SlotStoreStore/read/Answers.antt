@@ -7,21 +7,38 @@ use Rattle.swap_slots.proofs.store.SlotStoreStore.read.Goals as goal
 
 pub returns-in_default-clause-read : goal.returns-in_default-clause-read
 returns-in_default-clause-read g c = λ told.
-    reads_zero c.args.self.now c.args.page (sym (ap (λ s. slot_in (copy_of s.slots c.args.page)) c.self.view_is) ∙ sym c.in_default.ensures.slot)
+    reads_zero c.args.self.now c.args.page (sym (ap (λ s. slot_in (copy_of s.slots c.args.page)) c.self.view_is)
+    ∙ sym c.in_default.ensures.slot)
 
 pub returns-in_default-read-clause-same : goal.returns-in_default-read-clause-same
 returns-in_default-read-clause-same g c =
-    let after : SlotState = record { device = g.B.Blocks.device c.read.new.self; slots = c.self.inside.table; reads = c.self.inside.reads; refused = c.self.inside.refused } in
+    let after : SlotState =
+    record {
+      device = g.B.Blocks.device c.read.new.self;
+      slots = c.self.inside.table;
+      reads = c.self.inside.reads;
+      refused = c.self.inside.refused;
+    } in
     let Same : Device → Type 0 = λ d. SameWords d after.device in
-    same_copies c.args.self.now after (ap (λ s. s.slots) c.self.view_is) (subst Same (ap (λ s. s.device) c.self.view_is) c.read.ensures.same)
+    same_copies c.args.self.now after (ap (λ s. s.slots) c.self.view_is)
+    (subst Same (ap (λ s. s.device) c.self.view_is) c.read.ensures.same)
 
 pub returns-clause-same : goal.returns-clause-same
 returns-clause-same g c =
-    let after : SlotState = record { device = g.B.Blocks.device c.read.new.self; slots = c.self.inside.table; reads = c.self.inside.reads; refused = c.self.inside.refused } in
+    let after : SlotState =
+    record {
+      device = g.B.Blocks.device c.read.new.self;
+      slots = c.self.inside.table;
+      reads = c.self.inside.reads;
+      refused = c.self.inside.refused;
+    } in
     let Same : Device → Type 0 = λ d. SameWords d after.device in
-    same_copies c.args.self.now after (ap (λ s. s.slots) c.self.view_is) (subst Same (ap (λ s. s.device) c.self.view_is) c.read.ensures.same)
+    same_copies c.args.self.now after (ap (λ s. s.slots) c.self.view_is)
+    (subst Same (ap (λ s. s.device) c.self.view_is) c.read.ensures.same)
 
 pub returns-clause-read : goal.returns-clause-read
 returns-clause-read g c = λ told.
     let Known : Device → Type 0 = λ d. d.tells ≡ true → IfSome (words_at d c.in-Some.slot) (λ known. c.read.new.words ≡ known) in
-    reads_slot c.args.self.now c.args.page c.in-Some.slot c.read.new.words (sym (ap (λ s. slot_in (copy_of s.slots c.args.page)) c.self.view_is) ∙ sym c.in-Some.ensures.slot) (subst Known (ap (λ s. s.device) c.self.view_is) c.in-Ok.ensures.read told)
+    reads_slot c.args.self.now c.args.page c.in-Some.slot c.read.new.words
+    (sym (ap (λ s. slot_in (copy_of s.slots c.args.page)) c.self.view_is) ∙ sym c.in-Some.ensures.slot)
+    (subst Known (ap (λ s. s.device) c.self.view_is) c.in-Ok.ensures.read told)

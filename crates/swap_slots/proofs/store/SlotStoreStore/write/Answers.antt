@@ -34,10 +34,17 @@ pub returns-in-Err-SlotsFull-clause-failed : goal.returns-in-Err-SlotsFull-claus
 returns-in-Err-SlotsFull-clause-failed g c = λ _.
     let before = c.args.self.now in
     let inside = c.self.inside in
-    let after : SlotState = record { device = g.B.Blocks.device inside.blocks; slots = c.set.new.self; reads = inside.reads; refused = c.saturating_add-self-inside.result } in
+    let after : SlotState =
+    record {
+      device = g.B.Blocks.device inside.blocks;
+      slots = c.set.new.self;
+      reads = inside.reads;
+      refused = c.saturating_add-self-inside.result;
+    } in
     let is = c.in-Err-SlotsFull.is ∙ ap (λ e. Err e) c.in-Err-SlotsFull.field-0-is in
     let same = c.self.view_is ∙ c.put.ensures.full_same is in
     let Sets : Slots → Type 0 = λ s. SetsPage c.args.page Lost s after.slots in (
       sets_lost before after c.args.page (ap (λ s. s.device) same) (subst Sets (ap (λ s. s.slots) same) c.set.ensures.set),
-      rises_refused before after (ap (λ s. s.device) same) (c.saturating_add-self-inside.ensures ∙ ap (λ s. min (s.refused + 1) last_count) same),
+      rises_refused before after (ap (λ s. s.device) same) (c.saturating_add-self-inside.ensures
+          ∙ ap (λ s. min (s.refused + 1) last_count) same),
     )

@@ -8,9 +8,11 @@ pub returns-in_default-clause-changes : goal.returns-in_default-clause-changes
 returns-in_default-clause-changes g c = c.none.ensures.changes c.args.self.now c.args.self.now (λ p. refl)
 
 pub returns-clause-changes : goal.returns-clause-changes
-returns-clause-changes g c = rw (← c.self.view_is) (c.of.ensures.changes c.self.inside.pages c.remove-turn.new.self None c.remove-turn.ensures.maps c.remove-turn.ensures.turn)
+returns-clause-changes g c = rw (← c.self.view_is)
+    (c.of.ensures.changes c.self.inside.pages c.remove-turn.new.self None c.remove-turn.ensures.maps c.remove-turn.ensures.turn)
 
 pub returns-clause-frame : goal.returns-clause-frame
 returns-clause-frame g c =
     rw (← c.self.view_is)
-    (c.of.ensures.frame ∙ ap (frame_within c.args.page) c.remove-turn.ensures.turn.before ∙ frame_by_tile (mapping_at c.self.inside.pages) c.args.page)
+    (c.of.ensures.frame ∙ ap (frame_within c.args.page) c.remove-turn.ensures.turn.before
+    ∙ frame_by_tile (mapping_at c.self.inside.pages) c.args.page)

@@ -16,31 +16,38 @@ so_far : (c : goal.After-after_rights_in_block)
     → ProtectsBlocks (c.in-Some.page / 512) c.args.first c.args.length c.args.rights c.args.self.now c.loop-page.self
 so_far c =
     blocks_to_next c.loop-page.from c.args.first c.args.length c.in-Some.page c.args.rights c.args.self.now c.loop-page.self
-    (subst (λ from. IsNextResident (mapping_at c.loop-page.self) from (c.args.first + c.args.length) c.in-Some.page) c.max.ensures c.in-Some.ensures.some) c.loop-page.invariant.protects
+    (subst (λ from. IsNextResident (mapping_at c.loop-page.self) from
+    (c.args.first + c.args.length) c.in-Some.page) c.max.ensures c.in-Some.ensures.some) c.loop-page.invariant.protects
 
 pub loop-page-preserved : goal.loop-page-preserved
 loop-page-preserved c = record {
   few = omega (arith, c.in-Some.ensures.some.before_end, c.requires);
-  protects = blocks_more (c.in-Some.page / 512) c.args.first c.args.length c.args.rights c.args.self.now c.loop-page.self c.after_rights_in_block.new.self (so_far c.before) c.after_rights_in_block.ensures.protects;
+  protects = blocks_more
+      (c.in-Some.page / 512) c.args.first c.args.length c.args.rights c.args.self.now c.loop-page.self c.after_rights_in_block.new.self
+      (so_far c.before) c.after_rights_in_block.ensures.protects;
   moves =
-      moves_more c.args.sizes (c.in-Some.page / 512) c.args.first c.args.length c.args.rights c.args.self.now c.loop-page.self c.after_rights_in_block.new.self c.loop-page.moves c.after_rights_in_block.result c.and-moves.result (so_far c.before) c.after_rights_in_block.ensures.protects
+      moves_more c.args.sizes
+      (c.in-Some.page / 512) c.args.first c.args.length c.args.rights c.args.self.now c.loop-page.self c.after_rights_in_block.new.self c.loop-page.moves c.after_rights_in_block.result c.and-moves.result (so_far c.before) c.after_rights_in_block.ensures.protects
       c.loop-page.invariant.moves c.after_rights_in_block.ensures.moves c.and-moves.ensures.promotions c.and-moves.ensures.demotions c.and-moves.ensures.in_space c.and-moves.ensures.touched;
 }
 
 pub returns-clause-protects : goal.returns-clause-protects
 returns-clause-protects c =
     blocks_end c.loop-page.from c.args.first c.args.length c.args.rights c.args.self.now c.loop-page.self c.loop-page.invariant.few c.requires
-    (subst (λ from. NoneResident (mapping_at c.loop-page.self) from (c.args.first + c.args.length)) c.max.ensures c.in_default.ensures.none) c.loop-page.invariant.protects
+    (subst (λ from. NoneResident (mapping_at c.loop-page.self) from
+    (c.args.first + c.args.length)) c.max.ensures c.in_default.ensures.none) c.loop-page.invariant.protects
 
 pub returns-clause-moves : goal.returns-clause-moves
 returns-clause-moves c = c.loop-page.invariant.moves
 
 pub and-moves-requires-clause-promotions : goal.and-moves-requires-clause-promotions
 and-moves-requires-clause-promotions c =
-    (moves_fit c.args.sizes (c.in-Some.page / 512) c.args.first c.args.length c.args.rights c.args.self.now c.loop-page.self c.after_rights_in_block.new.self c.loop-page.moves c.after_rights_in_block.result (so_far c) c.after_rights_in_block.ensures.protects
+    (moves_fit c.args.sizes
+    (c.in-Some.page / 512) c.args.first c.args.length c.args.rights c.args.self.now c.loop-page.self c.after_rights_in_block.new.self c.loop-page.moves c.after_rights_in_block.result (so_far c) c.after_rights_in_block.ensures.protects
     c.loop-page.invariant.moves c.after_rights_in_block.ensures.moves).0
 
 pub and-moves-requires-clause-demotions : goal.and-moves-requires-clause-demotions
 and-moves-requires-clause-demotions c =
-    (moves_fit c.args.sizes (c.in-Some.page / 512) c.args.first c.args.length c.args.rights c.args.self.now c.loop-page.self c.after_rights_in_block.new.self c.loop-page.moves c.after_rights_in_block.result (so_far c) c.after_rights_in_block.ensures.protects
+    (moves_fit c.args.sizes
+    (c.in-Some.page / 512) c.args.first c.args.length c.args.rights c.args.self.now c.loop-page.self c.after_rights_in_block.new.self c.loop-page.moves c.after_rights_in_block.result (so_far c) c.after_rights_in_block.ensures.protects
     c.loop-page.invariant.moves c.after_rights_in_block.ensures.moves).1

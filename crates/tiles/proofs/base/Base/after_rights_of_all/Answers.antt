@@ -15,11 +15,13 @@ loop-entry-preserved c =
       within = part.within;
       protects =
           protects_on c.args.first page c.after_rights_of_part-from.result c.args.rights c.args.self.now c.loop-entry.self c.after_rights_of_part-from.new.self (omega (arith, so_far.from_on, c.max-page.ensures)) (omega (arith, part.further))
-          (protects_bare c.args.first c.loop-entry.from page c.args.rights c.args.self.now c.loop-entry.self (omega (arith, c.max-page.ensures)) (rw c.max-page.ensures next.lowest) so_far.protects)
+          (protects_bare c.args.first c.loop-entry.from page c.args.rights c.args.self.now c.loop-entry.self
+          (omega (arith, c.max-page.ensures)) (rw c.max-page.ensures next.lowest) so_far.protects)
           part.protects;
     }
 
 pub returns : goal.returns
 returns c =
     let so_far = c.loop-entry.invariant in
-    protects_bare c.args.first c.loop-entry.from c.args.end c.args.rights c.args.self.now c.loop-entry.self so_far.within (subst (λ r. NoneResident (mapping_at r) c.loop-entry.from c.args.end) c.self.view_is c.in_default.ensures.none) so_far.protects
+    protects_bare c.args.first c.loop-entry.from c.args.end c.args.rights c.args.self.now c.loop-entry.self so_far.within
+    (subst (λ r. NoneResident (mapping_at r) c.loop-entry.from c.args.end) c.self.view_is c.in_default.ensures.none) so_far.protects

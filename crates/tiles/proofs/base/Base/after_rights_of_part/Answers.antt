@@ -13,7 +13,13 @@ returns-clause-further c = omega (arith, c.pages.ensures, eight_pos c.largest_pa
 pub returns-clause-protects : goal.returns-clause-protects
 returns-clause-protects c =
     let part = c.largest_part-size.ensures in
-    let given : Mapping = record { frame = c.mapping_of.result.frame; region = c.mapping_of.result.region; rights = c.args.rights; dirty = c.mapping_of.result.dirty } in
+    let given : Mapping =
+    record {
+      frame = c.mapping_of.result.frame;
+      region = c.mapping_of.result.region;
+      rights = c.args.rights;
+      dirty = c.mapping_of.result.dirty;
+    } in
     let is = ap (λ m. with_rights c.args.rights m) c.mapping_of.ensures in
     subst (λ n. ProtectsTo c.args.page (c.args.page + n) c.args.rights c.args.self.now c.set.new.pages) (sym c.pages.ensures)
     (protects_part c.largest_part-size.result c.args.page c.args.rights given c.args.entry c.args.self.now c.set.new.pages c.requires.fits part.within part.first is

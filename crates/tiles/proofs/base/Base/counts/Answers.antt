@@ -21,8 +21,10 @@ overflow_mul-counts c =
     let size = c.within-within.result in
     omega (
       arith,
-      parts_more z pages c.counts-whole.result level size c.pages.result c.pages-in-loop-level.result c.loop-level-test.true (c.within-within.ensures ∙ ap (size_within z) c.at_level-size.ensures)
-          (c.pages.ensures ∙ ap (λ n. 8 ^ n) c.at_level-size.ensures) c.pages-in-loop-level.ensures (rw c.self.view_is at c.counts-whole.ensures),
+      parts_more z pages c.counts-whole.result level size c.pages.result c.pages-in-loop-level.result c.loop-level-test.true
+          (c.within-within.ensures ∙ ap (size_within z) c.at_level-size.ensures)
+          (c.pages.ensures ∙ ap (λ n. 8 ^ n) c.at_level-size.ensures) c.pages-in-loop-level.ensures
+          (rw c.self.view_is at c.counts-whole.ensures),
       counted_few z pages size (level + 1),
     )
 
@@ -35,7 +37,8 @@ overflow_add-counts c =
     omega (
       arith,
       parts_more z pages c.counts-whole.result level size c.pages.result c.pages-in-loop-level.result c.loop-level-test.true
-          (c.level.ensures.level ∙ c.within-within.ensures ∙ ap (size_within z) c.at_level-size.ensures) (c.pages.ensures ∙ ap (λ n. 8 ^ n) c.at_level-size.ensures)
+          (c.level.ensures.level ∙ c.within-within.ensures ∙ ap (size_within z) c.at_level-size.ensures)
+          (c.pages.ensures ∙ ap (λ n. 8 ^ n) c.at_level-size.ensures)
           (c.pages-in-loop-level.ensures ∙ ap (λ n. 8 ^ n) (sym c.level.ensures.level)) (rw c.self.view_is at c.counts-whole.ensures),
       counted_few z pages size (level + 1),
       c.loop-level.invariant.at size (omega (arith, c.level.ensures.small)),
@@ -52,12 +55,15 @@ loop-level-preserved c =
       long = length-set c.loop-level.counts _ _ ∙ c.loop-level.invariant.long;
       at = λ size low. elim (cases_eq size within) [
         | inl same ↦
-            ap (slice_index _) same ∙ get_or-set_same c.loop-level.counts within _ 0 (omega (arith, c.level.ensures.small, c.loop-level.invariant.long))
+            ap (slice_index _) same ∙ get_or-set_same c.loop-level.counts within _ 0
+            (omega (arith, c.level.ensures.small, c.loop-level.invariant.long))
             ∙ omega (
               arith,
               c.loop-level.invariant.at within (omega (arith, c.level.ensures.small)),
-              parts_more z pages c.counts-whole.result level within c.pages.result c.pages-in-loop-level.result c.loop-level-test.true own (c.pages.ensures ∙ ap (λ n. 8 ^ n) c.at_level-size.ensures)
-                  (c.pages-in-loop-level.ensures ∙ ap (λ n. 8 ^ n) (sym c.level.ensures.level)) (rw c.self.view_is at c.counts-whole.ensures),
+              parts_more z pages c.counts-whole.result level within c.pages.result c.pages-in-loop-level.result c.loop-level-test.true own
+                  (c.pages.ensures ∙ ap (λ n. 8 ^ n) c.at_level-size.ensures)
+                  (c.pages-in-loop-level.ensures ∙ ap (λ n. 8 ^ n) (sym c.level.ensures.level))
+                  (rw c.self.view_is at c.counts-whole.ensures),
               ap (λ n. counted_below z pages n (level + 1)) same,
             )
         | inr apart ↦
@@ -71,5 +77,7 @@ returns c =
     let z = c.args.sizes in
     let pages = mapping_at c.args.self.now in
     let ended : c.loop-level.level ≡ 4 = omega (arith, c.loop-level-test.false, c.loop-level.auto.level-end) in
-    let at : (size : ℕ) → size < 4 → _ = λ size low. c.loop-level.invariant.at size low ∙ ap (counted_below z pages size) ended ∙ counted_all z pages size in
-    are_four c.loop-level.counts _ _ _ _ c.loop-level.invariant.long (at 0 (omega arith)) (at 1 (omega arith)) (at 2 (omega arith)) (at 3 (omega arith))
+    let at : (size : ℕ) → size < 4 → _ = λ size low. c.loop-level.invariant.at size low ∙ ap (counted_below z pages size) ended
+    ∙ counted_all z pages size in
+    are_four c.loop-level.counts _ _ _ _ c.loop-level.invariant.long (at 0 (omega arith)) (at 1 (omega arith)) (at 2 (omega arith))
+    (at 3 (omega arith))

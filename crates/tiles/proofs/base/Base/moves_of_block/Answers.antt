@@ -14,12 +14,29 @@ loop-i-init c = record {
 
 pub loop-i-preserved : goal.loop-i-preserved
 loop-i-preserved c = record {
-  few_promotions = omega (arith, c.loop-i.invariant.few_promotions, c.and-moves.ensures.promotions, c.at.ensures.promotions, one_most (is_grown_at (c.args.block * 512 + 8 * c.loop-i.i) (slice_index c.args.before.now c.loop-i.i) (slice_index c.sizes_of_block-after.result c.loop-i.i)));
-  few_demotions = omega (arith, c.loop-i.invariant.few_demotions, c.and-moves.ensures.demotions, c.at.ensures.demotions, one_most (is_grown_at (c.args.block * 512 + 8 * c.loop-i.i) (slice_index c.sizes_of_block-after.result c.loop-i.i) (slice_index c.args.before.now c.loop-i.i)));
+  few_promotions = omega (
+    arith,
+    c.loop-i.invariant.few_promotions,
+    c.and-moves.ensures.promotions,
+    c.at.ensures.promotions,
+    one_most (is_grown_at (c.args.block * 512 + 8 * c.loop-i.i) (slice_index c.args.before.now c.loop-i.i)
+        (slice_index c.sizes_of_block-after.result c.loop-i.i)),
+  );
+  few_demotions = omega (
+    arith,
+    c.loop-i.invariant.few_demotions,
+    c.and-moves.ensures.demotions,
+    c.at.ensures.demotions,
+    one_most (is_grown_at (c.args.block * 512 + 8 * c.loop-i.i) (slice_index c.sizes_of_block-after.result c.loop-i.i)
+        (slice_index c.args.before.now c.loop-i.i)),
+  );
   in_space = c.and-moves.ensures.in_space;
   counts = λ old sizes.
-      counts_more c.args.sizes c.args.block c.loop-i.i (slice_index c.args.before.now c.loop-i.i) (slice_index c.sizes_of_block-after.result c.loop-i.i) old (mapping_at c.args.self.now) c.loop-i.moves c.at.result c.and-moves.result (c.loop-i.invariant.counts old sizes)
-      (sizes c.loop-i.i c.loop-i-test.true) (c.sizes_of_block-after.ensures.sizes c.loop-i.i c.loop-i-test.true) c.at.ensures.promotions c.at.ensures.demotions c.and-moves.ensures.promotions c.and-moves.ensures.demotions;
+      counts_more c.args.sizes c.args.block c.loop-i.i (slice_index c.args.before.now c.loop-i.i)
+      (slice_index c.sizes_of_block-after.result c.loop-i.i) old
+      (mapping_at c.args.self.now) c.loop-i.moves c.at.result c.and-moves.result (c.loop-i.invariant.counts old sizes)
+      (sizes c.loop-i.i c.loop-i-test.true)
+      (c.sizes_of_block-after.ensures.sizes c.loop-i.i c.loop-i-test.true) c.at.ensures.promotions c.at.ensures.demotions c.and-moves.ensures.promotions c.and-moves.ensures.demotions;
 }
 
 pub returns : goal.returns
@@ -27,5 +44,7 @@ returns c old sizes outside =
     let past = c.loop-i-test.false in
     let ended = c.loop-i.auto.i-end in
     let all : c.loop-i.i ≡ 64 = omega arith in
-    let counts = subst (λ (i : ℕ). CountsTo c.args.sizes c.args.block i old (mapping_at c.args.self.now) c.loop-i.moves) all (c.loop-i.invariant.counts old sizes) in
-    counts_all c.args.sizes c.args.block old (mapping_at c.args.self.now) _ c.requires.block outside (record { promotions = counts.promotions; demotions = counts.demotions }) refl
+    let counts = subst (λ (i : ℕ). CountsTo c.args.sizes c.args.block i old (mapping_at c.args.self.now) c.loop-i.moves) all
+    (c.loop-i.invariant.counts old sizes) in
+    counts_all c.args.sizes c.args.block old (mapping_at c.args.self.now) _ c.requires.block outside
+    (record { promotions = counts.promotions; demotions = counts.demotions }) refl

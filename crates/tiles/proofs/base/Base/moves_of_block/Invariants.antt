@@ -12,5 +12,6 @@ invariant-loop-i l = record {
   few_promotions : l.moves.promotions ≤ l.i;
   few_demotions : l.moves.demotions ≤ l.i;
   in_space : IsInSpace l.moves.touched;
-  counts : (old : ℕ → Option Mapping) → AreSizesOfBlock l.fn.sizes l.block l.before old → CountsTo l.fn.sizes l.block l.i old (mapping_at l.self) l.moves;
+  counts : (old : ℕ → Option Mapping) → AreSizesOfBlock l.fn.sizes l.block l.before old
+      → CountsTo l.fn.sizes l.block l.i old (mapping_at l.self) l.moves;
 }

@@ -26,7 +26,8 @@ found c = subst (λ r. IsNextTile r c.loop-entry.from (c.args.block * 512 + 512)
 -- what stands at a place whose first page is q: the size there, or 0 where it isn't before the end of the places that were filled
 place : (first q i from page end begun past level size before after : ℕ) → q ≡ first + 8 * i → first ≤ from → from ≤ page → page ≤ end
     → begun ≡ div_ceil (page - first) 8 → past ≡ div_ceil (end - first) 8
-    → before ≡ (if nat_lt q from then size else 0) → after ≡ (if nat_le begun i && nat_lt i past then level else before) → (from ≤ q → q < page → size ≡ 0) → (page ≤ q → q < end → size ≡ level)
+    → before ≡ (if nat_lt q from then size else 0) → after ≡ (if nat_le begun i && nat_lt i past then level else before)
+    → (from ≤ q → q < page → size ≡ 0) → (page ≤ q → q < end → size ≡ level)
     → after ≡ (if nat_lt q (first + 8 * past) then size else 0)
 place first q i from page end begun past level size before after is low on more begins ends old new bare there = elim (cases_lt q from) [
   | inl known ↦ grind (arith, nat_tests)
@@ -55,17 +56,21 @@ loop-entry-preserved c =
       within = omega (arith, c.div_ceil-past.ensures, c.min.ensures);
       at = λ i low.
           let q = c.args.block * 512 + 8 * i in
-          place (c.args.block * 512) q i c.loop-entry.from page end c.div_ceil-begun.result c.div_ceil-past.result c.level.result (size_by z pages q) (slice_index c.loop-entry.levels i) (slice_index c.set_places.new.levels i)
-          refl so_far.from_on (omega (arith, begins)) on c.div_ceil-begun.ensures c.div_ceil-past.ensures (so_far.at i low) (c.set_places.ensures i low)
+          place (c.args.block * 512) q i c.loop-entry.from page end c.div_ceil-begun.result c.div_ceil-past.result c.level.result
+          (size_by z pages q) (slice_index c.loop-entry.levels i) (slice_index c.set_places.new.levels i)
+          refl so_far.from_on (omega (arith, begins)) on c.div_ceil-begun.ensures c.div_ceil-past.ensures (so_far.at i low)
+          (c.set_places.ensures i low)
           (λ past before. by_absent z pages q (next.lowest q past (omega (arith, begins, before))))
-          (λ past before. size_there z pages page end (tile_of_entry c.in-Some.entry) tile on (omega (arith, c.min.ensures, c.behind.ensures)) q past before ∙ sym (c.level.ensures.level ∙ c.within.ensures));
+          (λ past before. size_there z pages page end (tile_of_entry c.in-Some.entry) tile on
+          (omega (arith, c.min.ensures, c.behind.ensures)) q past before ∙ sym (c.level.ensures.level ∙ c.within.ensures));
     }
 
 pub returns-clause-sizes : goal.returns-clause-sizes
 returns-clause-sizes c i low =
     let pages = mapping_at c.args.self.now in
     let q = c.args.block * 512 + 8 * i in
-    let none = subst (λ r. NoneResident (mapping_at r) c.loop-entry.from (c.args.block * 512 + 512)) c.self.view_is c.in_default.ensures.none in
+    let none = subst (λ r. NoneResident (mapping_at r) c.loop-entry.from
+    (c.args.block * 512 + 512)) c.self.view_is c.in_default.ensures.none in
     c.loop-entry.invariant.at i low ∙ elim (cases_lt q c.loop-entry.from) [
       | inl before ↦ grind (arith, nat_tests)
       | inr on ↦ grind (arith, nat_tests, by_absent c.args.sizes pages q (none q on (omega arith)))

@@ -9,7 +9,8 @@ invariant-loop-entry l = record {
   from_on : l.block * 512 ≤ l.from;
   within : l.from ≤ l.block * 512 + 512;
   at : (i : ℕ) → i < 64
-      → slice_index l.levels i ≡ (if nat_lt (l.block * 512 + 8 * i) l.from then size_by l.sizes (mapping_at l.self) (l.block * 512 + 8 * i) else 0);
+      → slice_index l.levels i ≡ (if nat_lt (l.block * 512 + 8 * i) l.from then size_by l.sizes (mapping_at l.self)
+      (l.block * 512 + 8 * i) else 0);
 }
 
 abbrev pub decreases-loop-entry : goal.decreases-loop-entry

@@ -24,20 +24,26 @@ found c = subst (λ r. IsNextTile r c.loop-entry.from (c.args.first + c.args.len
 
 page_in : (c : goal.After-large_begun-count) → (c.max-page.result ≤ c.min-from.result) × (c.loop-entry.from ≤ c.max-page.result)
 page_in c =
-    let next = found c in
-    (omega (arith, c.max-page.ensures, c.min-from.ensures, c.behind.ensures, next.fits.to, next.next.before_end), omega (arith, c.max-page.ensures))
+    let next = found c in (
+      omega (arith, c.max-page.ensures, c.min-from.ensures, c.behind.ensures, next.fits.to, next.next.before_end),
+      omega (arith, c.max-page.ensures),
+    )
 
 -- the tiles that begin in it, beside those before
 one_more : (c : goal.After-large_begun-count)
-    → count (begins_large_in c.args.sizes (mapping_at c.args.self.now)) c.args.first (c.min-from.result - c.args.first) ≡ count (begins_large_in c.args.sizes (mapping_at c.args.self.now)) c.args.first (c.loop-entry.from - c.args.first) + c.large_begun-count.result
+    → count (begins_large_in c.args.sizes (mapping_at c.args.self.now)) c.args.first (c.min-from.result - c.args.first) ≡ count
+    (begins_large_in c.args.sizes (mapping_at c.args.self.now)) c.args.first
+    (c.loop-entry.from - c.args.first) + c.large_begun-count.result
 one_more c =
     let pages = mapping_at c.args.self.now in
     let e = c.in-Some.entry in
     let next = found c in
     let there : tile_of pages c.max-page.result ≡ Some (tile_of_entry e) = ap (tile_of pages) c.max-page.ensures ∙ next.tile in
     let bare = subst (λ p. NoneResident pages c.loop-entry.from p) (sym c.max-page.ensures) next.lowest in
-    begun_on c.args.sizes pages c.max-page.result c.min-from.result (tile_of_entry e) there (page_in c).0 (omega (arith, c.min-from.ensures, c.behind.ensures))
-    c.args.first c.loop-entry.from c.within.result c.large_begun-count.result c.loop-entry.invariant.from_on (page_in c).1 bare c.within.ensures c.large_begun-count.ensures.small c.large_begun-count.ensures.large next.fits.low
+    begun_on c.args.sizes pages c.max-page.result c.min-from.result (tile_of_entry e) there (page_in c).0
+    (omega (arith, c.min-from.ensures, c.behind.ensures))
+    c.args.first c.loop-entry.from c.within.result c.large_begun-count.result c.loop-entry.invariant.from_on
+    (page_in c).1 bare c.within.ensures c.large_begun-count.ensures.small c.large_begun-count.ensures.large next.fits.low
 
 pub overflow_add-count : goal.overflow_add-count
 overflow_add-count c =
@@ -59,12 +65,15 @@ returns c =
     let f = begins_large_in c.args.sizes pages in
     let so_far = c.loop-entry.invariant in
     let end = c.args.first + c.args.length in
-    let bare = bare_begun c.args.sizes pages c.loop-entry.from end (subst (λ r. NoneResident (mapping_at r) c.loop-entry.from end) c.self.view_is c.in_default.ensures.none) so_far.within in
+    let bare = bare_begun c.args.sizes pages c.loop-entry.from end (subst
+    (λ r. NoneResident (mapping_at r) c.loop-entry.from end) c.self.view_is c.in_default.ensures.none) so_far.within in
     omega (
       arith,
       so_far.counted,
       bare,
-      count-apart f c.args.first (c.loop-entry.from - c.args.first) (end - c.loop-entry.from) c.loop-entry.from (omega (arith, so_far.from_on)),
-      ap (count f c.args.first) {x = c.loop-entry.from - c.args.first + (end - c.loop-entry.from)} {y = c.args.length} (omega (arith, so_far.from_on, so_far.within)),
+      count-apart f c.args.first (c.loop-entry.from - c.args.first) (end - c.loop-entry.from) c.loop-entry.from
+          (omega (arith, so_far.from_on)),
+      ap (count f c.args.first) {x = c.loop-entry.from - c.args.first + (end - c.loop-entry.from)} {y = c.args.length}
+          (omega (arith, so_far.from_on, so_far.within)),
       count_in_range f c.args.first c.args.length c.requires,
     )

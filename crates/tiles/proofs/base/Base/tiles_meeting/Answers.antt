@@ -26,8 +26,10 @@ module _ (c : goal.After-from) where
   crosses =
       let behind = begins_before_in c.args.sizes (mapping_at c.args.self.now) c.args.first in
       elim c.if-length-gt0.branch [
-        | then-length-gt0 w ↦ w.crossing-is ∙ w.begins_before-crossing.ensures ∙ ap (λ b. b && behind) (sym (lt_yes c.args.length w.if-length-gt0.true))
-        | else-length-gt0 w ↦ let none = lt_no c.args.length w.if-length-gt0.false in w.crossing-is ∙ none ∙ ap (λ b. b && behind) (sym none)
+        | then-length-gt0 w ↦ w.crossing-is ∙ w.begins_before-crossing.ensures
+            ∙ ap (λ b. b && behind) (sym (lt_yes c.args.length w.if-length-gt0.true))
+        | else-length-gt0 w ↦ let none = lt_no c.args.length w.if-length-gt0.false in w.crossing-is ∙ none
+            ∙ ap (λ b. b && behind) (sym none)
       ]
 
   one_more : c.from.result ≡ weight (nat_lt 0 c.args.length && begins_before_in c.args.sizes (mapping_at c.args.self.now) c.args.first)
@@ -44,4 +46,10 @@ overflow_add-result c =
     )
 
 pub returns : goal.returns
-returns c = omega (arith, c.tiles_begun.ensures, one_more c, tiles_meeting c.args.sizes (mapping_at c.args.self.now) c.args.first c.args.length c.requires)
+returns c = omega (
+  arith,
+  c.tiles_begun.ensures,
+  one_more c,
+  tiles_meeting c.args.sizes
+      (mapping_at c.args.self.now) c.args.first c.args.length c.requires,
+)

@@ -18,7 +18,8 @@ fill-entry-requires-clause-absent g c = rw c.self.view_is (unmapped c.args.self.
 pub fill-entry-requires-clause-room : goal.fill-entry-requires-clause-room
 fill-entry-requires-clause-room g c =
     let absent = unmapped c.args.self.now c.args.page c.requires.absent in
-    rw c.self.view_is (room_for_one c.args.self.now (rw c.self.view_is at c.self.invariant) c.args.page c.args.mapping absent c.requires.known c.requires.other c.requires.page)
+    rw c.self.view_is (room_for_one c.args.self.now
+    (rw c.self.view_is at c.self.invariant) c.args.page c.args.mapping absent c.requires.known c.requires.other c.requires.page)
 
 module _ (g : Over) (c : After-fill-entry g) where
   absent : entry_at (the_view c.self.inside) c.args.page ≡ None
@@ -33,7 +34,8 @@ module _ (g : Over) (c : After-fill-entry g) where
   kept : ArePages c.fill-entry.new.map
   kept =
       let made = c.fill-entry.ensures in
-      fill_kept (the_view c.self.inside) c.self.invariant c.args.page c.args.mapping absent known other c.fill-entry.new.map made.tiles (record { frames = made.frames; at = made.pages })
+      fill_kept (the_view c.self.inside) c.self.invariant c.args.page c.args.mapping absent known other c.fill-entry.new.map made.tiles
+      (record { frames = made.frames; at = made.pages })
 
 pub invariant_of-self : goal.invariant_of-self
 invariant_of-self g c = kept g (goal.at.invariant_of-self g c).After-fill-entry

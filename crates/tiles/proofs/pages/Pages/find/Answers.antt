@@ -6,7 +6,9 @@ use Rattle.tiles.proofs.pages.Pages.find.Goals as goal
 
 pub returns-clause-mapping : goal.returns-clause-mapping
 returns-clause-mapping g c =
-    rw (← c.self.view_is) (ap (option_map (λ e. mapping_of e c.args.page)) c.lookup.ensures.entry ∙ mapping_is (the_view c.self.inside) c.args.page)
+    rw (← c.self.view_is) (ap (option_map (λ e. mapping_of e c.args.page)) c.lookup.ensures.entry
+    ∙ mapping_is (the_view c.self.inside) c.args.page)
 
 pub returns-clause-fits : goal.returns-clause-fits
-returns-clause-fits g c = rw (← c.self.view_is) (found_fits (the_view c.self.inside) c.self.invariant c.args.page c.lookup.result c.lookup.ensures.entry)
+returns-clause-fits g c = rw (← c.self.view_is)
+    (found_fits (the_view c.self.inside) c.self.invariant c.args.page c.lookup.result c.lookup.ensures.entry)

@@ -7,11 +7,14 @@ use Rattle.tiles.proofs.pages.Pages.lookup.Goals as goal
 
 pub returns-clause-mapping : goal.returns-clause-mapping
 returns-clause-mapping c =
-    rw (← c.self.view_is) (ap (option_map (λ e. mapping_of e c.args.page)) c.lookup.ensures ∙ mapping_is (the_view c.self.inside) c.args.page)
+    rw (← c.self.view_is) (ap (option_map (λ e. mapping_of e c.args.page)) c.lookup.ensures
+    ∙ mapping_is (the_view c.self.inside) c.args.page)
 
 pub returns-clause-tile : goal.returns-clause-tile
 returns-clause-tile c =
-    rw (← c.self.view_is) (ap (option_map tile_of_entry) c.lookup.ensures ∙ sym (tile_is (the_view c.self.inside) c.self.invariant.tiles c.args.page))
+    rw (← c.self.view_is) (ap (option_map tile_of_entry) c.lookup.ensures
+    ∙ sym (tile_is (the_view c.self.inside) c.self.invariant.tiles c.args.page))
 
 pub returns-clause-fits : goal.returns-clause-fits
-returns-clause-fits c = rw (← c.self.view_is) (found_fits (the_view c.self.inside) c.self.invariant c.args.page c.lookup.result c.lookup.ensures)
+returns-clause-fits c = rw (← c.self.view_is)
+    (found_fits (the_view c.self.inside) c.self.invariant c.args.page c.lookup.result c.lookup.ensures)

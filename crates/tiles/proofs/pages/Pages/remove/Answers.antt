@@ -20,7 +20,8 @@ remove-requires-clause-fits g c =
 kept : (g : Over) (c : After-remove g) → ArePages c.remove.new.map
 kept g c =
     let made = c.remove.ensures in
-    remove_kept (the_view c.self.inside) c.remove.new.map c.args.page c.self.invariant made.tiles (record { frames = made.frames; at = made.pages })
+    remove_kept (the_view c.self.inside) c.remove.new.map c.args.page c.self.invariant made.tiles
+    (record { frames = made.frames; at = made.pages })
 
 pub invariant_of-self : goal.invariant_of-self
 invariant_of-self g c = kept g (goal.at.invariant_of-self g c).After-remove

@@ -18,7 +18,8 @@ own c = ap (λ n. c.args.page / n % 8) (narrow c)
 
 starts : (c : After-pages-wide) (part : _)
     → c.args.page / c.pages-wide.result * c.pages-wide.result + part * c.pages-pages.result ≡ part_start c.args.level c.args.page part
-starts c part = ap (λ n. c.args.page / n * n + part * c.pages-pages.result) (wide c) ∙ ap (λ n. c.args.page / 8 ^ suc c.args.level * 8 ^ suc c.args.level + part * n) (narrow c)
+starts c part = ap (λ n. c.args.page / n * n + part * c.pages-pages.result) (wide c)
+    ∙ ap (λ n. c.args.page / 8 ^ suc c.args.level * 8 ^ suc c.args.level + part * n) (narrow c)
 
 pub nonzero_div-first : goal.nonzero_div-first
 nonzero_div-first c = omega (arith, wide c, eight_pos (suc c.args.level))
@@ -27,25 +28,39 @@ pub nonzero_div-own : goal.nonzero_div-own
 nonzero_div-own c = omega (arith, narrow c, eight_pos c.args.level)
 
 pub loop-part-init : goal.loop-part-init
-loop-part-init c = sym (ap (λ xs. c.args.self.now ++ xs) (beside-none c.args.level c.args.page c.args.whole.now) ∙ append-nil c.args.self.now)
+loop-part-init c = sym (ap (λ xs. c.args.self.now ++ xs) (beside-none c.args.level c.args.page c.args.whole.now)
+    ∙ append-nil c.args.self.now)
 
 pub part_from-requires-clause-from : goal.part_from-requires-clause-from
 part_from-requires-clause-from c =
     let at = (goal.at.part_from-requires-clause-from c).After-pages-wide in
     let size = c.args.whole.now.extent.size in
-    omega (arith, starts at c.loop-part.part, part_inside size c.args.level c.args.page c.loop-part.part c.requires.level c.requires.round.low c.loop-part-test.true, c.requires.round.starts)
+    omega (
+      arith,
+      starts at c.loop-part.part,
+      part_inside size c.args.level c.args.page c.loop-part.part c.requires.level c.requires.round.low c.loop-part-test.true,
+      c.requires.round.starts,
+    )
 
 pub part_from-requires-clause-fits : goal.part_from-requires-clause-fits
 part_from-requires-clause-fits c =
     let at = (goal.at.part_from-requires-clause-fits c).After-pages-wide in
     let size = c.args.whole.now.extent.size in
-    omega (arith, starts at c.loop-part.part, part_inside size c.args.level c.args.page c.loop-part.part c.requires.level c.requires.round.low c.loop-part-test.true, c.requires.round.starts, c.requires.round.fits)
+    omega (
+      arith,
+      starts at c.loop-part.part,
+      part_inside size c.args.level c.args.page c.loop-part.part c.requires.level c.requires.round.low c.loop-part-test.true,
+      c.requires.round.starts,
+      c.requires.round.fits,
+    )
 
 pub push-requires : goal.push-requires
 push-requires c =
     let at = (goal.at.push-requires c).After-pages-wide in
-    let few = fewer c.args.level c.args.page c.args.whole.now c.loop-part.part c.loop-part-test.true (λ e. c.if-part-own.true (e ∙ sym (own at))) in
-    let long = ap length c.loop-part.invariant ∙ length-append c.args.self.now (beside c.args.level c.args.page c.args.whole.now c.loop-part.part) in
+    let few = fewer c.args.level c.args.page c.args.whole.now c.loop-part.part c.loop-part-test.true
+    (λ e. c.if-part-own.true (e ∙ sym (own at))) in
+    let long = ap length c.loop-part.invariant ∙ length-append c.args.self.now
+    (beside c.args.level c.args.page c.args.whole.now c.loop-part.part) in
     omega (arith, long, few, c.requires.room)
 
 pub loop-part-preserved : goal.loop-part-preserved
@@ -53,9 +68,13 @@ loop-part-preserved c =
     let at = (goal.at.loop-part-preserved c).After-pages-wide in
     elim c.if-part-own.branch [
       | then-part-own w ↦ more-other c.args.self.now c.loop-part.self _ c.args.level c.args.page c.args.whole.now w.part_from.result c.loop-part.part _
-          (λ e. w.if-part-own.true (e ∙ sym (own at))) c.loop-part.invariant (w.part_from.ensures ∙ ap (λ k. part_from k (c.args.page / c.pages-wide.result * c.pages-wide.result + c.loop-part.part * c.pages-pages.result) c.args.whole.now) c.at_level-size.ensures) (starts at c.loop-part.part) (w.self-is ∙ w.push.ensures)
-      | else-part-own w ↦ w.self-is ∙ more-own c.args.self.now c.loop-part.self c.args.level c.args.page c.args.whole.now c.loop-part.part (w.if-part-own.false ∙ own at) c.loop-part.invariant
+          (λ e. w.if-part-own.true (e ∙ sym (own at))) c.loop-part.invariant
+          (w.part_from.ensures ∙ ap
+          (λ k. part_from k (c.args.page / c.pages-wide.result * c.pages-wide.result + c.loop-part.part * c.pages-pages.result) c.args.whole.now) c.at_level-size.ensures) (starts at c.loop-part.part) (w.self-is ∙ w.push.ensures)
+      | else-part-own w ↦ w.self-is ∙ more-own c.args.self.now c.loop-part.self c.args.level c.args.page c.args.whole.now c.loop-part.part
+          (w.if-part-own.false ∙ own at) c.loop-part.invariant
     ]
 
 pub returns : goal.returns
-returns c = c.loop-part.invariant ∙ ap (λ n. c.args.self.now ++ beside c.args.level c.args.page c.args.whole.now n) {x = c.loop-part.part} {y = 8} (omega arith)
+returns c = c.loop-part.invariant ∙ ap
+    (λ n. c.args.self.now ++ beside c.args.level c.args.page c.args.whole.now n) {x = c.loop-part.part} {y = 8} (omega arith)

@@ -16,7 +16,9 @@ returns-clause-stands c =
     sym (ap is_some c.in-Some.is) ∙ ap is_some c.place_of.ensures.value ∙ is_some-position (same_tile c.args.tile.now) c.args.self.now
 
 brought : (c : goal.After-self-1) (d : Tile)
-    → take c.self.inside.tiles.len (c.turn.new.tiles ++ drop (length c.turn.new.tiles) c.self.inside.tiles.items) ≡ get_or c.args.self.now c.in-Some.place d ∷ remove c.args.self.now c.in-Some.place
+    → take c.self.inside.tiles.len
+    (c.turn.new.tiles ++ drop
+    (length c.turn.new.tiles) c.self.inside.tiles.items) ≡ get_or c.args.self.now c.in-Some.place d ∷ remove c.args.self.now c.in-Some.place
 brought c d =
     with_items_is c.self.inside.tiles c.turn.new.tiles (search rules) ∙ c.turn.ensures d
     ∙ ap (λ ts. get_or ts c.in-Some.place d ∷ remove ts c.in-Some.place) (c.deref_mut.ensures.value ∙ c.self.view_is)
@@ -24,7 +26,8 @@ brought c d =
 pub returns-clause-touched : goal.returns-clause-touched
 returns-clause-touched c = λ stands.
     let tile = c.args.tile.now in
-    brought c tile ∙ touched-found tile c.args.self.now c.in-Some.place tile c.place_of.ensures.image (sym c.place_of.ensures.value ∙ c.in-Some.is)
+    brought c tile ∙ touched-found tile c.args.self.now c.in-Some.place tile c.place_of.ensures.image
+    (sym c.place_of.ensures.value ∙ c.in-Some.is)
 
 pub returns-clause-same_ones : goal.returns-clause-same_ones
 returns-clause-same_ones c = λ f.
@@ -33,4 +36,5 @@ returns-clause-same_ones c = λ f.
     rw (brought c tile) (count-turned f c.args.self.now c.in-Some.place tile found.0)
 
 pub invariant_of-self : goal.invariant_of-self
-invariant_of-self c = (rw (returns-clause-touched c refl) (IsImage-touched c.args.tile.now c.args.self.now c.place_of.ensures.image), search rules)
+invariant_of-self c =
+    (rw (returns-clause-touched c refl) (IsImage-touched c.args.tile.now c.args.self.now c.place_of.ensures.image), search rules)

@@ -12,6 +12,15 @@ returns-clause-touched c =
     let done : is_ok c.insert.result ≡ true = ap is_ok c.unwrap.ensures in
     let rest : c.if-len-eq-ROOM.self-inside.tiles.items ≡ take 127 old = elim c.if-len-eq-ROOM.branch [
       | then-len-eq-ROOM w ↦ grind (arith, common_steps)
-      | else-len-eq-ROOM w ↦ ap (λ i. i.tiles.items) w.self-inside-is ∙ c.self.view_is ∙ sym (take_all 127 old (omega (arith, c.self.invariant.0.at_most, c.self.inside.tiles.ok, w.if-len-eq-ROOM.false, c.len.ensures, ap length c.self.view_is)))
+      | else-len-eq-ROOM w ↦ ap (λ i. i.tiles.items) w.self-inside-is ∙ c.self.view_is
+          ∙ sym (take_all 127 old
+          (omega (
+            arith,
+            c.self.invariant.0.at_most,
+            c.self.inside.tiles.ok,
+            w.if-len-eq-ROOM.false,
+            c.len.ensures,
+            ap length c.self.view_is,
+          )))
     ] in
     rw (c.insert.ensures.items ∙ cond-true _ _ _ done, rest) (touched-absent c.args.tile old c.requires)

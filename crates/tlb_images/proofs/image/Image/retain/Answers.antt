@@ -5,7 +5,8 @@ use Rattle.tlb_images.proofs.image.Image.retain.Goals as goal
 
 pub returns-clause-kept : goal.returns-clause-kept
 returns-clause-kept g c = λ test told.
-    filter_same _ test _ (λ x b f' called. (told x b (search rules), search rules)) _ _ c.retain.ensures.filtered ∙ ap (filter test) c.self.view_is
+    filter_same _ test _ (λ x b f' called. (told x b (search rules), search rules)) _ _ c.retain.ensures.filtered
+    ∙ ap (filter test) c.self.view_is
 
 pub returns-clause-fewer : goal.returns-clause-fewer
 returns-clause-fewer g c = λ f.

@@ -4,7 +4,8 @@ use Rattle.tlb_images.proofs.CountedLemmas.{AreCounted-below, AreCounted-set, to
 use Rattle.tlb_images.proofs.images.Images.touch.Goals as goal
 
 pub touch_in-requires-clause-room : goal.touch_in-requires-clause-room
-touch_in-requires-clause-room c = rw c.deref_mut.ensures.value (AreCounted-below c.self.inside.begun.items c.self.inside.images.items c.self.invariant)
+touch_in-requires-clause-room c = rw c.deref_mut.ensures.value
+    (AreCounted-below c.self.inside.begun.items c.self.inside.images.items c.self.invariant)
 
 pub invariant_of-self : goal.invariant_of-self
 invariant_of-self c =
