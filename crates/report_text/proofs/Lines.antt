@@ -7,7 +7,8 @@ use Rattle.pager_model.specs.TraceText.{line_of_words}
 use Rattle.report_text.specs.Lines.{spaced}
 
 -- words behind a text, and then more
-pub words-more : (x : List ℕ) {a b : List ℕ} (words more : List (List ℕ)) → a ≡ x ++ spaced words → b ≡ a ++ spaced more → b ≡ x ++ spaced (words ++ more)
+pub words-more : (x : List ℕ) {a b : List ℕ} (words more : List (List ℕ)) → a ≡ x ++ spaced words → b ≡ a ++ spaced more
+    → b ≡ x ++ spaced (words ++ more)
 words-more x words more first then =
     then ∙ ap (λ l. l ++ spaced more) first ∙ append_assoc x (spaced words) (spaced more)
     ∙ ap (λ l. x ++ l) (sym (flat_map-append (λ (word : List ℕ). 32 ∷ word) words more))
@@ -17,5 +18,6 @@ words-joined word [] = sym (append-nil word)
 words-joined word (w ∷ ws) = ap (λ l. word ++ (32 ∷ l)) (words-joined w ws)
 
 -- the first word, the others, and the line's end
-pub line-ended : {a b : List ℕ} (word : List ℕ) (rest : List (List ℕ)) → a ≡ word ++ spaced rest → b ≡ a ++ 10 ∷ [] → b ≡ line_of_words (word ∷ rest)
+pub line-ended : {a b : List ℕ} (word : List ℕ) (rest : List (List ℕ)) → a ≡ word ++ spaced rest → b ≡ a ++ 10 ∷ []
+    → b ≡ line_of_words (word ∷ rest)
 line-ended word rest words end = end ∙ ap (λ l. l ++ 10 ∷ []) (words ∙ sym (words-joined word rest))

@@ -22,8 +22,12 @@ module _ (had : List ℕ) (mid last : Option (List ℕ)) (w0 w1 w2 x y : List �
 
   gone_gone : IfSome mid (λ had. Gone last had w1 w2 y) → Gone last had w0 w2 (x ++ y)
   gone_gone more =
-      let then : Gone last (had ++ first.0) w1 w2 y = subst (λ o. IfSome o (λ had. Gone last had w1 w2 y)) first.1 more in
-      (first.0 ++ then.0, then.1 ∙ ap Some (append_assoc had first.0 then.0), append_assoc first.0 then.0 w2 ∙ ap (λ l. first.0 ++ l) then.2 ∙ whole)
+      let then : Gone last (had ++ first.0) w1 w2 y = subst (λ o. IfSome o (λ had. Gone last had w1 w2 y)) first.1 more in (
+        first.0 ++ then.0,
+        then.1 ∙ ap Some (append_assoc had first.0 then.0),
+        append_assoc first.0 then.0 w2
+            ∙ ap (λ l. first.0 ++ l) then.2 ∙ whole,
+      )
 
   gone_part : IfSome mid (λ had. GonePart last had (w1 ++ y)) → GonePart last had (w0 ++ (x ++ y))
   gone_part more =
@@ -31,12 +35,17 @@ module _ (had : List ℕ) (mid last : Option (List ℕ)) (w0 w1 w2 x y : List �
       let long : length first.0 + length (w1 ++ y) ≡ length (w0 ++ (x ++ y)) = sym (length-append first.0 (w1 ++ y)) ∙ ap length whole in (
         length first.0 + then.0,
         omega (arith, long, then.1),
-        then.2 ∙ ap Some (append_assoc had first.0 (take then.0 (w1 ++ y)) ∙ ap (λ l. had ++ l) (sym (take-append-add first.0 (w1 ++ y) then.0) ∙ ap (take (length first.0 + then.0)) whole)),
+        then.2 ∙ ap Some (append_assoc had first.0 (take then.0 (w1 ++ y))
+            ∙ ap (λ l. had ++ l) (sym (take-append-add first.0 (w1 ++ y) then.0) ∙ ap (take (length first.0 + then.0)) whole)),
       )
 
 part_more : (had : List ℕ) (last : Option (List ℕ)) (bytes rest : List ℕ) → GonePart last had bytes → GonePart last had (bytes ++ rest)
-part_more had last bytes rest part =
-    (part.0, omega (arith, part.1, length-append bytes rest), part.2 ∙ ap (λ l. Some (had ++ l)) (sym (take-append-le part.0 bytes rest (omega (arith, part.1)))))
+part_more had last bytes rest part = (
+  part.0,
+  omega (arith, part.1, length-append bytes rest),
+  part.2 ∙ ap (λ l. Some (had ++ l))
+      (sym (take-append-le part.0 bytes rest (omega (arith, part.1)))),
+)
 
 rose_then : (a b c : ℕ) → a ≤ b → Rose b c → Rose a c
 rose_then a b c below (inl more) = inl (omega (arith, below, more))
@@ -109,7 +118,8 @@ module _ {X : Type 0} (f : X → List ℕ) (xs : List X) (i : ℕ) (x d : X) (wi
       ∙ ap (λ l. before ++ l) (sym (flat_map-append f (take (i + 1) xs) (drop (i + 1) xs)) ∙ ap (flat_map f) (take-append-drop (i + 1) xs))
 
   -- one more
-  pub sent_next : {a b c : Outgoing} → Sent a b (before ++ flat_map f (take i xs)) → Sent b c text → Sent a c (before ++ flat_map f (take (i + 1) xs))
+  pub sent_next : {a b c : Outgoing} → Sent a b (before ++ flat_map f (take i xs)) → Sent b c text
+      → Sent a c (before ++ flat_map f (take (i + 1) xs))
   sent_next {a = a} {c = c} first more = subst (λ l. Sent a c l) so_far (sent_sent _ text first more)
 
   -- or it went out in part, and other texts come after all

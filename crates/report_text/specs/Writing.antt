@@ -18,7 +18,8 @@ pub record Sent (old new : Outgoing) (bytes : List ℕ) : Type 0 where
 
 -- the sink failed, and of the bytes that waited and these it has taken a beginning that is shorter
 pub record SentPart (old new : Outgoing) (bytes : List ℕ) : Type 0 where
-  pub told : IfSome old.taken (λ had. (k : ℕ) × (k < length (old.waiting ++ bytes)) × (new.taken ≡ Some (had ++ take k (old.waiting ++ bytes))))
+  pub told : IfSome old.taken (λ had. (k : ℕ) × (k < length (old.waiting ++ bytes))
+      × (new.taken ≡ Some (had ++ take k (old.waiting ++ bytes))))
   pub rose : Rose old.faults new.faults
 
 -- the bytes were put, as the result says: all of them, or a part

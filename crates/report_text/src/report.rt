@@ -25,7 +25,7 @@ pub enum Parts {
 /// Writes the answers of so many processors, ascending, then the history where the parts have it, then the counts. After a failed write the
 /// sink has taken a beginning of that.
 ///
-/// It takes no memory. The history is gone over once for each processor.
+/// It takes no memory. The history is gone over once for each processor, with one look at each entry of another.
 pub fn write_report<K: Sink>(
     sink: &mut K,
     processors: u32,
@@ -115,8 +115,10 @@ fn put_answers_of<K: Sink>(
         (outgoing (K.taken sink.new) (K.faults sink.new) room.new.bytes.items)
         (answers_of (entries_in history.now.items) processor) }
 {
-    for place in 0..history.len() {
+    let mut from = 0;
+    while let Some(place) = history.next_by(from, processor) {
         put_answer_of(room, sink, processor, history, place)?;
+        from = place + 1;
     }
     Ok(())
 }

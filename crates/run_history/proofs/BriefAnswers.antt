@@ -16,9 +16,11 @@ made_by whole c space (Claimed writing owner page frame wanted) = refl
 made_by whole c space (Whole place) = refl
 
 -- by its own processor, and by another
-pub answer_of-own : (whole : List Entry) (b : Brief) (c : ℕ) → b.processor ≡ c → answer_of c (entry_of whole b) ≡ answer_in (entry_of whole b).what
+pub answer_of-own : (whole : List Entry) (b : Brief) (c : ℕ) → b.processor ≡ c
+    → answer_of c (entry_of whole b) ≡ answer_in (entry_of whole b).what
 answer_of-own whole b c own =
-    ap (λ t. if t then answer_in (entry_of whole b).what else None) (eq-eqb (entry_of whole b).processor c (made_by whole b.processor b.space b.said ∙ own))
+    ap (λ t. if t then answer_in (entry_of whole b).what else None) (eq-eqb (entry_of whole b).processor c
+    (made_by whole b.processor b.space b.said ∙ own))
 
 pub answer_of-other : (whole : List Entry) (b : Brief) (c : ℕ) → b.processor ≢ c → answer_of c (entry_of whole b) ≡ None
 answer_of-other whole b c other =

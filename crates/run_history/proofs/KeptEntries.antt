@@ -23,18 +23,27 @@ length-placed n [] = refl
 length-placed n (e ∷ es) = ap suc (length-placed (suc n) es)
 
 -- an entry's place is the number of those before it
-pub get-placed : (n : ℕ) (es : List Entry) (i : ℕ) → slice_get (placed_from n es) i ≡ option_map (λ e. record { number = n + i; entry = e }) (slice_get es i)
+pub get-placed : (n : ℕ) (es : List Entry) (i : ℕ) → slice_get (placed_from n es) i ≡ option_map
+    (λ e. record { number = n + i; entry = e }) (slice_get es i)
 unfolding placed_from
 get-placed n [] i = refl
 get-placed n (e ∷ es) zero = ap (λ k. Some (record { number = k; entry = e })) (omega arith)
-get-placed n (e ∷ es) (suc i) = get-placed (suc n) es i ∙ ap (λ k. option_map (λ x. record { number = k; entry = x }) (slice_get es i)) (omega arith)
+get-placed n (e ∷ es) (suc i) = get-placed (suc n) es i ∙ ap (λ k. option_map (λ x. record { number = k; entry = x }) (slice_get es i))
+    (omega arith)
 
-placed-push : (n : ℕ) (es : List Entry) (e : Entry) → placed_from n (es ++ e ∷ []) ≡ placed_from n es ++ record { number = n + length es; entry = e } ∷ []
+placed-push : (n : ℕ) (es : List Entry) (e : Entry)
+    → placed_from n (es ++ e ∷ []) ≡ placed_from n es ++ record { number = n + length es; entry = e } ∷ []
 unfolding placed_from
 placed-push n [] e = ap (λ k. record { number = k; entry = e } ∷ []) (omega arith)
 placed-push n (x ∷ es) e =
     ap (λ rest. record { number = n; entry = x } ∷ rest)
     (placed-push (suc n) es e ∙ ap (λ k. placed_from (suc n) es ++ record { number = k; entry = e } ∷ []) (omega arith))
+
+-- of two lists a place is of the first
+pub slice_get-append_left : {A : Type 0} (xs ys : List A) (i : ℕ) → i < length xs → slice_get (xs ++ ys) i ≡ slice_get xs i
+slice_get-append_left [] ys i h = absurd (omega (arith, h))
+slice_get-append_left (x ∷ xs) ys zero h = refl
+slice_get-append_left (x ∷ xs) ys (suc i) h = slice_get-append_left xs ys i (omega (arith, h))
 
 -- behind the first list a place is counted from its end
 pub slice_get-append_right : {A : Type 0} (xs ys : List A) (i : ℕ) → length xs ≤ i → slice_get (xs ++ ys) i ≡ slice_get ys (i - length xs)
@@ -45,18 +54,22 @@ slice_get-append_right (x ∷ xs) ys (suc i) h = slice_get-append_right xs ys i 
 -- an entry kept whole behind the others leaves those of earlier briefs as they were
 entry_by-more : (whole : List Entry) (e : Entry) (c space : ℕ) (said : Said) → fits (length whole) said
     → entry_by (whole ++ e ∷ []) c space said ≡ entry_by whole c space said
-entry_by-more whole e c space (Whole place) fit = ap (λ (w : Entry). record w { processor = c }) (get_or_append_left whole (e ∷ []) no_entry place fit)
+entry_by-more whole e c space (Whole place) fit = ap (λ (w : Entry). record w { processor = c })
+    (get_or_append_left whole (e ∷ []) no_entry place fit)
 entry_by-more whole e c space said fit = refl
 
 fits-more : (n : ℕ) (said : Said) → fits n said → fits (n + 1) said
 fits-more n (Whole place) fit = omega arith
 fits-more n said fit = fit
 
-map-more : (whole : List Entry) (e : Entry) (bs : List Brief) → All (FitsIn (length whole)) bs → map (entry_of (whole ++ e ∷ [])) bs ≡ map (entry_of whole) bs
+map-more : (whole : List Entry) (e : Entry) (bs : List Brief) → All (FitsIn (length whole)) bs
+    → map (entry_of (whole ++ e ∷ [])) bs ≡ map (entry_of whole) bs
 map-more whole e [] fit = refl
 map-more whole e (b ∷ bs) fit =
-    let first : entry_of (whole ++ e ∷ []) b ≡ entry_of whole b = entry_by-more whole e b.processor b.space b.said (All-head (FitsIn (length whole)) b bs fit) in
-    let rest : map (entry_of (whole ++ e ∷ [])) bs ≡ map (entry_of whole) bs = map-more whole e bs (All-tail (FitsIn (length whole)) b bs fit) in
+    let first : entry_of (whole ++ e ∷ []) b ≡ entry_of whole b = entry_by-more whole e b.processor b.space b.said
+    (All-head (FitsIn (length whole)) b bs fit) in
+    let rest : map (entry_of (whole ++ e ∷ [])) bs ≡ map (entry_of whole) bs =
+    map-more whole e bs (All-tail (FitsIn (length whole)) b bs fit) in
     cc
 
 -- what stays of earlier briefs, where a later entry is kept
@@ -65,13 +78,16 @@ record Stays (before after : List Entry) (bs : List Brief) : Type 0 where
   fit : All (FitsIn (length after)) bs
   few : length after ≤ length bs + 1
 
-stays : (before after : List Entry) (bs : List Brief) (e : Entry) → IsKept before bs → (after ≡ before) ⊎ (after ≡ before ++ e ∷ []) → Stays before after bs
-stays before after bs e kept (inl same) = subst (λ l. Stays before l bs) (sym same) (record { entries = refl; fit = kept.fit; few = omega (arith, kept.few) })
+stays : (before after : List Entry) (bs : List Brief) (e : Entry) → IsKept before bs → (after ≡ before) ⊎ (after ≡ before ++ e ∷ [])
+    → Stays before after bs
+stays before after bs e kept (inl same) = subst (λ l. Stays before l bs) (sym same)
+    (record { entries = refl; fit = kept.fit; few = omega (arith, kept.few) })
 stays before after bs e kept (inr more) =
     let long : length (before ++ e ∷ []) ≡ length before + 1 = length_push before e in
     subst (λ l. Stays before l bs) (sym more) (record {
       entries = map-more before e bs kept.fit;
-      fit = All-weaker (FitsIn (length before)) (FitsIn (length (before ++ e ∷ []))) (λ b fit. rw long (fits-more (length before) b.said fit)) bs kept.fit;
+      fit = All-weaker (FitsIn (length before)) (FitsIn (length (before ++ e ∷ [])))
+          (λ b fit. rw long (fits-more (length before) b.said fit)) bs kept.fit;
       few = omega (arith, kept.few);
     })
 
@@ -85,7 +101,12 @@ IsKept-push before after bs e b kept keeps =
     }
 
 -- the entry comes behind the others, with its place
-pub items_in-push : (listed : List Numbered) (before after : List Entry) (bs : List Brief) (e : Entry) (b : Brief) → IsKept before bs → Keeps e before after b → items_in listed after (bs ++ b ∷ []) ≡ items_in listed before bs ++ record { number = length (items_in listed before bs); entry = e } ∷ []
+pub items_in-push : (listed : List Numbered) (before after : List Entry) (bs : List Brief) (e : Entry) (b : Brief) → IsKept before bs
+    → Keeps e before after b → items_in listed after (bs ++ b ∷ []) ≡ items_in listed before bs ++ record {
+      number = length
+          (items_in listed before bs);
+      entry = e;
+    } ∷ []
 items_in-push listed before after bs e b kept keeps =
     let es = map (entry_of before) bs in
     let n = length listed in
@@ -93,13 +114,15 @@ items_in-push listed before after bs e b kept keeps =
     let one : entry_of after b ≡ e = keeps.entry in
     let same : map (entry_of after) bs ≡ es = still.entries in
     let all : map (entry_of after) (bs ++ b ∷ []) ≡ es ++ e ∷ [] = map-append (entry_of after) bs (b ∷ []) ∙ (cc) in
-    let place : n + length es ≡ length (items_in listed before bs) = omega (arith, length-append listed (placed_from n es), length-placed n es) in
+    let place : n + length es ≡ length (items_in listed before bs) = omega
+    (arith, length-append listed (placed_from n es), length-placed n es) in
     ap (λ l. listed ++ placed_from n l) all
     ∙ ap (λ l. listed ++ l) (placed-push n es e)
     ∙ ap (λ k. listed ++ (placed_from n es ++ record { number = k; entry = e } ∷ [])) place
     ∙ sym (append_assoc listed (placed_from n es) (record { number = length (items_in listed before bs); entry = e } ∷ []))
 
-pub length-items : (listed : List Numbered) (whole : List Entry) (bs : List Brief) → length (items_in listed whole bs) ≡ length listed + length bs
+pub length-items : (listed : List Numbered) (whole : List Entry) (bs : List Brief)
+    → length (items_in listed whole bs) ≡ length listed + length bs
 length-items listed whole bs =
     let es = map (entry_of whole) bs in
     omega (arith, length-append listed (placed_from (length listed) es), length-placed (length listed) es, length-map bs (entry_of whole))
@@ -114,7 +137,8 @@ item_at listed whole bs i b past within is =
     slice_get-append_right listed (placed_from (length listed) es) i past
     ∙ get-placed (length listed) es place
     ∙ ap (option_map (λ e. record { number = length listed + place; entry = e })) (slice_get-map (entry_of whole) bs place)
-    ∙ ap (λ o. option_map (λ e. record { number = length listed + place; entry = e }) (option_map (entry_of whole) o)) (slice_get_read bs (length bs) place b refl within is)
+    ∙ ap (λ o. option_map (λ e. record { number = length listed + place; entry = e }) (option_map (entry_of whole) o))
+    (slice_get_read bs (length bs) place b refl within is)
     ∙ ap (λ n. Some (record { number = n; entry = entry_of whole b })) {y = i} (omega arith)
 
 pub item_past : (listed : List Numbered) (whole : List Entry) (bs : List Brief) (i : ℕ) → length bs ≤ i - length listed → length listed ≤ i
@@ -143,6 +167,8 @@ AreCounted-push before after items more n counted is hits misses =
     let es = entries_in items in
     let all : entries_in more ≡ es ++ n.entry ∷ [] = ap entries_in is ∙ map-append (λ (n : Numbered). n.entry) items (n ∷ []) in
     record {
-      hits = hits ∙ ap (λ k. k + (if is_hit_in n.entry.what then 1 else 0)) counted.hits ∙ sym (count-push (λ (e : Entry). is_hit_in e.what) es n.entry) ∙ sym (ap hits_in all);
-      misses = misses ∙ ap (λ k. k + (if is_miss_in n.entry.what then 1 else 0)) counted.misses ∙ sym (count-push (λ (e : Entry). is_miss_in e.what) es n.entry) ∙ sym (ap misses_in all);
+      hits = hits ∙ ap (λ k. k + (if is_hit_in n.entry.what then 1 else 0)) counted.hits
+          ∙ sym (count-push (λ (e : Entry). is_hit_in e.what) es n.entry) ∙ sym (ap hits_in all);
+      misses = misses ∙ ap (λ k. k + (if is_miss_in n.entry.what then 1 else 0)) counted.misses
+          ∙ sym (count-push (λ (e : Entry). is_miss_in e.what) es n.entry) ∙ sym (ap misses_in all);
     }

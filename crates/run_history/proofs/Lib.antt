@@ -1,2 +1,3 @@
 pub mod BriefAnswers
+pub mod FoundPlaces
 pub mod KeptEntries

@@ -1,3 +1,4 @@
 pub mod Answers
 pub mod Briefs
 pub mod Kept
+pub mod Places

@@ -3,10 +3,11 @@
 //! The entries that most calls make are kept by a brief that has the fields of their kind alone. All others are kept whole.
 #![tactic(auto)]
 
-ghost use Rattle.std.specs.Prelude.{◌≡◌, ◌+◌, ◌^◌, ◌<◌, ◌≤◌, if◌then◌else◌, [], ◌∷◌, ◌++◌, length, option_and_then, slice_get, IfOk};
+ghost use Rattle.std.specs.Prelude.{◌≡◌, ◌+◌, ◌^◌, ◌<◌, ◌≤◌, if◌then◌else◌, [], ◌∷◌, ◌++◌, length, option_and_then, slice_get, ◌==◌, IfNone, IfOk, IfSome};
 ghost use Rattle.pager_model.specs.Counts.{hits_in, misses_in, is_hit_in, is_miss_in};
 ghost use Rattle.pager_model.specs.Legal.{entries_in};
 ghost use Rattle.run_history.specs.Answers.{answer_in, answer_of, answer_by};
+ghost use Rattle.run_history.specs.Places.{IsFirstIn, NoneIn, is_by};
 
 mod brief;
 
@@ -119,6 +120,22 @@ impl History {
         brief.answer_by(&self.whole, processor)
     }
 
+    /// The first place from this one on with an entry of the processor. Of the entries before it nothing but their processors is looked at.
+    pub fn next_by(&self, from: usize, processor: u32) -> Option<usize>
+        ensures some { IfSome result (IsFirstIn (is_by processor) self.now.items from) }
+        ensures none { IfNone result (NoneIn (is_by processor) self.now.items from (length self.now.items)) }
+
+        // There are places behind it.
+        ensures not_last { IfSome result (λ place. place + 1 < 2 ^ 64) }
+    {
+        if let Some(place) = next_entry(&self.listed, from, processor) {
+            return Some(place);
+        }
+        let count = self.listed.len();
+        let place = next_brief(&self.briefs, from.saturating_sub(count), processor)?;
+        Some(count + place)
+    }
+
     /// How many answers are hits, and how many are misses.
     pub fn accesses(&self) -> Accesses
         ensures hits { result.hits ≡ hits_in (entries_in self.now.items) }
@@ -148,6 +165,32 @@ impl Accesses {
             self.misses += 1;
         }
     }
+}
+
+/// The first of these entries, from a place on, that the processor made.
+fn next_entry(entries: &[Numbered], from: usize, processor: u32) -> Option<usize>
+    ensures some { IfSome result (IsFirstIn (is_by processor) entries.now from) }
+    ensures none { IfNone result (NoneIn (is_by processor) entries.now from (length entries.now)) }
+{
+    for place in from..entries.len() {
+        if entries[place].entry.processor == processor {
+            return Some(place);
+        }
+    }
+    None
+}
+
+/// The first of these briefs, from a place on, whose entry the processor made.
+fn next_brief(briefs: &[Brief], from: usize, processor: u32) -> Option<usize>
+    ensures some { IfSome result (IsFirstIn (λ b. b.processor == processor) briefs.now from) }
+    ensures none { IfNone result (NoneIn (λ b. b.processor == processor) briefs.now from (length briefs.now)) }
+{
+    for place in from..briefs.len() {
+        if briefs[place].processor == processor {
+            return Some(place);
+        }
+    }
+    None
 }
 
 /// The hits and misses among entries.

@@ -23,7 +23,8 @@ loop-place-preserved g c =
     let i = c.loop-place.place in
     let at = at_place n i c.loop-place-test.true in
     let line : line_text c.line_of_capacity.result ≡ curve_line c.args.tiles.now c.args.pages.now i = search rules in
-    sent_next (curve_line c.args.tiles.now c.args.pages.now) (range_with_len 0 n) i i 0 at.0 at.1 _ line [] c.loop-place.invariant c.in_ok-put_line.ensures
+    sent_next (curve_line c.args.tiles.now c.args.pages.now)
+    (range_with_len 0 n) i i 0 at.0 at.1 _ line [] c.loop-place.invariant c.in_ok-put_line.ensures
 
 pub returns : goal.returns
 returns g c =
@@ -32,4 +33,5 @@ returns g c =
     let all : length (range_with_len 0 n) ≤ i = omega (arith, length-range_with_len 0 n, c.loop-place-test.false) in
     let first = outgoing (g.K.Sink.taken c.args.sink.now) (g.K.Sink.faults c.args.sink.now) c.args.room.now.bytes.items in
     let last = outgoing (g.K.Sink.taken c.loop-place.sink) (g.K.Sink.faults c.loop-place.sink) c.loop-place.room.bytes.items in
-    subst (λ (l : List ℕ). Sent first last (flat_map (curve_line c.args.tiles.now c.args.pages.now) l)) (take_all i (range_with_len 0 n) all) c.loop-place.invariant
+    subst (λ (l : List ℕ). Sent first last (flat_map (curve_line c.args.tiles.now c.args.pages.now) l))
+    (take_all i (range_with_len 0 n) all) c.loop-place.invariant

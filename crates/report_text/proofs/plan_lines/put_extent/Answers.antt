@@ -21,4 +21,5 @@ returns g c =
     let last = outgoing (g.K.Sink.taken c.put_pages.new.sink) (g.K.Sink.faults c.put_pages.new.sink) c.put_pages.new.room.bytes.items in
     puts_then c.put_pages.result from one last (extent_line plan) (flat_map page_line plan.pages.items)
     (subst (λ (l : List ℕ). Sent from one l) c.line_of_extent.ensures c.in_ok-put_line.ensures)
-    (subst (λ (pages : List PageOf). Puts c.put_pages.result one last (flat_map page_line pages)) c.as_slice.ensures.value c.put_pages.ensures)
+    (subst (λ (pages : List PageOf). Puts c.put_pages.result one last
+    (flat_map page_line pages)) c.as_slice.ensures.value c.put_pages.ensures)

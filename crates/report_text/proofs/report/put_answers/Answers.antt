@@ -21,7 +21,8 @@ loop-processor-preserved g c =
     let n = c.args.processors in
     let i = c.loop-processor.processor in
     let at = at_place n i c.loop-processor-test.true in
-    sent_next (answers_of (entries_in c.args.history.now.items)) (range_with_len 0 n) i i 0 at.0 at.1 _ refl [] c.loop-processor.invariant c.in_ok-put_answers_of.ensures
+    sent_next (answers_of (entries_in c.args.history.now.items))
+    (range_with_len 0 n) i i 0 at.0 at.1 _ refl [] c.loop-processor.invariant c.in_ok-put_answers_of.ensures
 
 pub returns : goal.returns
 returns g c =
@@ -30,4 +31,5 @@ returns g c =
     let all : length (range_with_len 0 n) ≤ i = omega (arith, length-range_with_len 0 n, c.loop-processor-test.false) in
     let first = outgoing (g.K.Sink.taken c.args.sink.now) (g.K.Sink.faults c.args.sink.now) c.args.room.now.bytes.items in
     let last = outgoing (g.K.Sink.taken c.loop-processor.sink) (g.K.Sink.faults c.loop-processor.sink) c.loop-processor.room.bytes.items in
-    subst (λ (l : List ℕ). Sent first last (flat_map (answers_of (entries_in c.args.history.now.items)) l)) (take_all i (range_with_len 0 n) all) c.loop-processor.invariant
+    subst (λ (l : List ℕ). Sent first last (flat_map (answers_of (entries_in c.args.history.now.items)) l))
+    (take_all i (range_with_len 0 n) all) c.loop-processor.invariant

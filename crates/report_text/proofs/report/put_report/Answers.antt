@@ -10,7 +10,8 @@ pub returns-in_err-put_answers-clause-puts : goal.returns-in_err-put_answers-cla
 returns-in_err-put_answers-clause-puts g c =
     let h = c.args.history.now.items in
     let middle : List ℕ = if has_history c.args.parts then history_text h else [] in
-    puts_failed c.from_residual.result (answers_text c.args.processors (entries_in h)) (middle ∷ summary_text c.args.summary.now ∷ []) c.from_residual.ensures.0
+    puts_failed c.from_residual.result (answers_text c.args.processors (entries_in h))
+    (middle ∷ summary_text c.args.summary.now ∷ []) c.from_residual.ensures.0
     c.in_err-put_answers.ensures
 
 pub returns-in_err-put_history-clause-puts : goal.returns-in_err-put_history-clause-puts
@@ -18,7 +19,8 @@ returns-in_err-put_history-clause-puts g c =
     let h = c.args.history.now.items in
     let answers = answers_text c.args.processors (entries_in h) in
     let middle : List ℕ = if has_history c.args.parts then history_text h else [] in
-    puts_failed c.from_residual-in_err-put_history.result (answers ++ middle) (summary_text c.args.summary.now ∷ []) c.from_residual-in_err-put_history.ensures.0
+    puts_failed c.from_residual-in_err-put_history.result (answers ++ middle)
+    (summary_text c.args.summary.now ∷ []) c.from_residual-in_err-put_history.ensures.0
     (sent_part answers middle c.in_ok-put_answers.ensures c.in_err-put_history.ensures)
 
 pub returns-clause-puts : goal.returns-clause-puts
@@ -27,8 +29,10 @@ returns-clause-puts g c =
     let answers = answers_text c.args.processors (entries_in h) in
     let middle : List ℕ = if has_history c.args.parts then history_text h else [] in
     let first = outgoing (g.K.Sink.taken c.args.sink.now) (g.K.Sink.faults c.args.sink.now) c.args.room.now.bytes.items in
-    let two = outgoing (g.K.Sink.taken c.put_history.new.sink) (g.K.Sink.faults c.put_history.new.sink) c.put_history.new.room.bytes.items in
-    let last = outgoing (g.K.Sink.taken c.put_summary.new.sink) (g.K.Sink.faults c.put_summary.new.sink) c.put_summary.new.room.bytes.items in
+    let two = outgoing (g.K.Sink.taken c.put_history.new.sink)
+    (g.K.Sink.faults c.put_history.new.sink) c.put_history.new.room.bytes.items in
+    let last = outgoing (g.K.Sink.taken c.put_summary.new.sink)
+    (g.K.Sink.faults c.put_summary.new.sink) c.put_summary.new.room.bytes.items in
     puts_then c.put_summary.result first two last (answers ++ middle) (summary_text c.args.summary.now)
     (sent_sent answers middle c.in_ok-put_answers.ensures c.in_ok-put_history.ensures)
     c.put_summary.ensures.puts

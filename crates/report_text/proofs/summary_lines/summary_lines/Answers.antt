@@ -7,7 +7,8 @@ use Rattle.report_text.proofs.summary_lines.summary_lines.Goals as goal
 pub returns : goal.returns
 returns c =
     let s = c.args.summary.now in
-    let tiles : line_text c.line_of_counts.result ≡ count_line (codes "tiles") s.tiles = c.line_of_counts.ensures ∙ ap (count_line (codes "tiles")) c.tile_counts.ensures in
+    let tiles : line_text c.line_of_counts.result ≡ count_line (codes "tiles") s.tiles = c.line_of_counts.ensures
+    ∙ ap (count_line (codes "tiles")) c.tile_counts.ensures in
     let frames : line_text c.line_of_counts-6.result ≡ count_line (codes "frames") (s.free ∷ s.reserved ∷ s.used ∷ []) =
     c.line_of_counts-6.ensures ∙ ap (count_line (codes "frames")) c.frame_counts.ensures in
     rw tiles

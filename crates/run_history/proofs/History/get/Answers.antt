@@ -11,7 +11,8 @@ returns-in_err-brief c =
     let beyond : length h.listed.items ≤ c.args.place = omega arith in
     let past : length h.briefs.items ≤ c.args.place - length h.listed.items = omega (arith, c.in_err-brief.ensures.lookup) in
     c.from_residual.ensures
-    ∙ sym (ap (λ (k : Kept). slice_get k.items c.args.place) (sym c.self.view_is) ∙ item_past h.listed.items h.whole.items h.briefs.items c.args.place past beyond)
+    ∙ sym (ap (λ (k : Kept). slice_get k.items c.args.place) (sym c.self.view_is)
+    ∙ item_past h.listed.items h.whole.items h.briefs.items c.args.place past beyond)
 
 pub returns : goal.returns
 returns c =
@@ -20,7 +21,8 @@ returns c =
     let beyond : length h.listed.items ≤ c.args.place = omega arith in
     let n : c.len-2.result ≡ length h.listed.items = omega arith in
     let within : c.args.place - length h.listed.items < length h.briefs.items = omega (arith, c.in_ok-brief.ensures.lookup) in
-    let is : b ≡ get_or h.briefs.items (c.args.place - length h.listed.items) b = rw (n, c.deref-2.ensures.value) at c.in_ok-brief.ensures.lookup.1 in
+    let is : b ≡ get_or h.briefs.items (c.args.place - length h.listed.items) b =
+    rw (n, c.deref-2.ensures.value) at c.in_ok-brief.ensures.lookup.1 in
     sym (ap (λ (k : Kept). slice_get k.items c.args.place) (sym c.self.view_is)
     ∙ item_at h.listed.items h.whole.items h.briefs.items c.args.place b beyond within is
     ∙ ap (λ e. Some (record { number = c.args.place; entry = e })) (sym (c.entry.ensures ∙ ap (λ w. entry_of w b) c.deref-3.ensures.value)))

@@ -8,7 +8,8 @@ invariant_of-result c = (
   IsKept-none _ _ c.new-2.ensures.items c.new.ensures.items,
   omega arith,
   omega arith,
-  rw (items_in-none c.args.listed.items c.new-2.result.items c.new.result.items c.new.ensures.items, ← c.deref.ensures.value) (record { hits = c.accesses_in-accesses.ensures.hits; misses = c.accesses_in-accesses.ensures.misses }),
+  rw (items_in-none c.args.listed.items c.new-2.result.items c.new.result.items c.new.ensures.items, ← c.deref.ensures.value)
+      (record { hits = c.accesses_in-accesses.ensures.hits; misses = c.accesses_in-accesses.ensures.misses }),
 )
 
 pub returns : goal.returns

@@ -35,7 +35,8 @@ more c =
 pub invariant_of-self : goal.invariant_of-self
 invariant_of-self c =
     let h = c.self.inside in (
-      rw c.push_reserved.ensures.items (IsKept-push h.whole.items c.keep-brief.new.whole.items h.briefs.items c.args.entry.now c.keep-brief.result c.self.invariant.0 c.keep-brief.ensures.keeps),
+      rw c.push_reserved.ensures.items
+          (IsKept-push h.whole.items c.keep-brief.new.whole.items h.briefs.items c.args.entry.now c.keep-brief.result c.self.invariant.0 c.keep-brief.ensures.keeps),
       omega (arith, c.self.invariant.1),
       omega (arith, c.self.invariant.2),
       AreCounted-push h.accesses c.count.new.self (before c) _ _ c.self.invariant.3 (more c) c.count.ensures.hits c.count.ensures.misses,
@@ -47,4 +48,7 @@ returns c =
     let items = ap (λ (k : Kept). k.items ++ record { number = length k.items; entry = c.args.entry.now } ∷ []) old in
     let room = ap (λ (k : Kept). k.room) old in
     ap (λ (l : List Numbered). record { items = l; room = c.self.inside.room }) (more c ∙ items)
-    ∙ ap (λ n. record { items = c.args.self.now.items ++ record { number = length c.args.self.now.items; entry = c.args.entry.now } ∷ []; room = n }) room
+    ∙ ap (λ n. record {
+      items = c.args.self.now.items ++ record { number = length c.args.self.now.items; entry = c.args.entry.now } ∷ [];
+      room = n;
+    }) room

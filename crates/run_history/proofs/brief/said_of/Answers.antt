@@ -14,10 +14,12 @@ pub returns-then-entry : goal.returns-then-entry
 returns-then-entry c =
     let e = c.args.entry.now in
     IfSome_then c.of_both.result c.of_both.ensures
-    (λ said says. subst (λ x. Says x (brief_of e.processor c.args.space said)) (both e c.args.space c.requires c.if-entry.true) (says e.processor c.args.space))
+    (λ said says. subst (λ x. Says x (brief_of e.processor c.args.space said)) (both e c.args.space c.requires c.if-entry.true)
+    (says e.processor c.args.space))
 
 pub returns-else-entry : goal.returns-else-entry
 returns-else-entry c =
     let e = c.args.entry.now in
     IfSome_then c.of_space.result c.of_space.ensures
-    (λ said says. subst (λ x. Says x (brief_of e.processor c.args.space said)) (alone e c.args.space c.requires c.if-entry.false) (says e.processor))
+    (λ said says. subst (λ x. Says x (brief_of e.processor c.args.space said)) (alone e c.args.space c.requires c.if-entry.false)
+    (says e.processor))
