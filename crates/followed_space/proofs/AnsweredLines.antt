@@ -120,7 +120,8 @@ turn_unclaim made (Unwritten (ForAccess a) v count) s frame t = absurd (true≢f
 turn_unclaim made (Unwritten (ForTurn mark evictions) v count) s frame t = stays_if _ _ (stays_led true (made + 1) (Looking mark 0) refl)
 turn_unclaim made doing s frame t = stays_none
 
-turn_refused : (made : ℕ) (doing : Doing) (wired claimed held : ℕ) → in_turn doing ≡ true → Stays (after_refusal made doing wired claimed held)
+turn_refused : (made : ℕ) (doing : Doing) (wired claimed held : ℕ) → in_turn doing ≡ true
+    → Stays (after_refusal made doing wired claimed held)
 turn_refused made Idle wired claimed held t = absurd (true≢false (sym t))
 turn_refused made doing wired claimed held t = stays_none
 
@@ -129,9 +130,11 @@ turn_rest made (Looking mark evictions) short t = stays_led _ (made + 1) (Lookin
 turn_rest made doing short t = stays_none
 
 -- a turn answers no call, and each other entry leaves it in a turn
-turn_answer : (p : Progress) (number : ℕ) (call : Call) (reply : Reply) (q : Progress) → in_turn p.doing ≡ true → after_answer p number call reply ≡ Some q → ⊥
+turn_answer : (p : Progress) (number : ℕ) (call : Call) (reply : Reply) (q : Progress) → in_turn p.doing ≡ true
+    → after_answer p number call reply ≡ Some q → ⊥
 turn_answer p number call reply q t h =
-    none-some q (sym (ap (λ b. leads b (p.made + 1) Idle) {x = (number == p.made) && may_answer p.doing call reply} {y = false} (ap (λ b. (number == p.made) && b) (turn_silent p.doing call reply t) ∙ and_none (number == p.made))) ∙ h)
+    none-some q (sym (ap (λ b. leads b (p.made + 1) Idle) {x = (number == p.made) && may_answer p.doing call reply} {y = false}
+    (ap (λ b. (number == p.made) && b) (turn_silent p.doing call reply t) ∙ and_none (number == p.made))) ∙ h)
   where
     and_none : (b : Bool) → (b && false) ≡ false
     and_none true = refl
@@ -144,7 +147,11 @@ turn_step p space (Failed page writing count) t = stays_in _ space (λ s. turn_f
 turn_step p space (Take page frame want) t = stays_in _ space (λ s. turn_take p.made p.doing s page frame t)
 turn_step p space (Give page frame) t = stays_in _ space (λ s. turn_give p.made p.doing s page frame t)
 turn_step p space (Clear first len) t = stays_in _ space (λ s. turn_clear p.made p.doing s first len t)
-turn_step p space (Claim victim page frame need) t = turn_claim p.made p.doing space (record { space = victim; page = page; frame = frame }) need t
+turn_step p space (Claim victim page frame need) t = turn_claim p.made p.doing space (record {
+  space = victim;
+  page = page;
+  frame = frame;
+}) need t
 turn_step p space (UseHeld page frame want) t = stays_in _ space (λ s. turn_use p.made p.doing s page frame t)
 turn_step p space (DropHeld frame) t = turn_drop p.made p.doing frame t
 turn_step p space (Got frame) t = turn_got p.made p.doing frame t
@@ -187,10 +194,14 @@ lines_of processors spaces n c [] all = tt
 lines_of processors spaces n c (l ∷ lines) all =
     elim (cases_Bool (l.processor == c)) [
       | inl is ↦
-          subst (λ ls. AllByRecursion (OfLine spaces) (enumerate_from n (map (λ (x : Line). x.call) ls))) (sym (cond-true (l.processor == c) (l ∷ filter (λ (x : Line). x.processor == c) lines) (filter (λ (x : Line). x.processor == c) lines) is))
+          subst (λ ls. AllByRecursion (OfLine spaces) (enumerate_from n (map (λ (x : Line). x.call) ls)))
+          (sym (cond-true (l.processor == c) (l ∷ filter (λ (x : Line). x.processor == c) lines)
+          (filter (λ (x : Line). x.processor == c) lines) is))
           (all.0.1, lines_of processors spaces (n + 1) c lines all.1)
       | inr isnt ↦
-          subst (λ ls. AllByRecursion (OfLine spaces) (enumerate_from n (map (λ (x : Line). x.call) ls))) (sym (cond-false (l.processor == c) (l ∷ filter (λ (x : Line). x.processor == c) lines) (filter (λ (x : Line). x.processor == c) lines) isnt))
+          subst (λ ls. AllByRecursion (OfLine spaces) (enumerate_from n (map (λ (x : Line). x.call) ls)))
+          (sym (cond-false (l.processor == c) (l ∷ filter (λ (x : Line). x.processor == c) lines)
+          (filter (λ (x : Line). x.processor == c) lines) isnt))
           (lines_of processors spaces n c lines all.1)
     ]
 
@@ -198,23 +209,30 @@ all_behind : {A : Type 0} (P : A → Type 0) (xs ys : List A) → AllByRecursion
 all_behind P [] ys all = all
 all_behind P (x ∷ xs) ys all = all_behind P xs ys all.1
 
-first_answer : (P : ℕ × Call → Type 0) (e : Entry) (after : List Entry) (number : ℕ) (call : Call) (answered : Answered)
-    → e.what ≡ Answer number call answered → AllByRecursion P (answers_in (e ∷ after)) → P (number, call)
-first_answer P e after number call answered is all = (rw is at all).0
+first_answer : (P : ℕ × Call → Type 0) (e : Entry) (after : List Entry) (answer : ℕ × Call) → answer_in e.what ≡ Some answer
+    → AllByRecursion P (answers_in (e ∷ after)) → P answer
+first_answer P e after answer is all = (rw is at all).0
 
-answer_among : (P : ℕ × Call → Type 0) (c : ℕ) (before after : List Entry) (e : Entry) (number : ℕ) (call : Call) (answered : Answered)
-    → e.what ≡ Answer number call answered → is_of c e ≡ true
-    → AllByRecursion P (answers_in (entries_of c (before ++ e ∷ after))) → P (number, call)
-answer_among P c before after e number call answered is own all =
+answer_among : (P : ℕ × Call → Type 0) (c : ℕ) (before after : List Entry) (e : Entry) (answer : ℕ × Call) → answer_in e.what ≡ Some answer
+    → is_of c e ≡ true → AllByRecursion P (answers_in (entries_of c (before ++ e ∷ after))) → P answer
+answer_among P c before after e answer is own all =
+    let here = ap (λ es. entries_of c before ++ es) (cond-true (is_of c e) (e ∷ entries_of c after) (entries_of c after) own) in
     let split : answers_in (entries_of c (before ++ e ∷ after)) ≡ answers_in (entries_of c before) ++ answers_in (e ∷ entries_of c after) =
-    ap answers_in (filter-append (is_of c) before (e ∷ after) ∙ ap (λ es. entries_of c before ++ es) (cond-true (is_of c e) (e ∷ entries_of c after) (entries_of c after) own))
+    ap answers_in (filter-append (is_of c) before (e ∷ after) ∙ here)
     ∙ filter_map-append (λ (x : Entry). answer_in x.what) (entries_of c before) (e ∷ entries_of c after) in
-    first_answer P e (entries_of c after) number call answered is (all_behind P (answers_in (entries_of c before)) (answers_in (e ∷ entries_of c after)) (subst (AllByRecursion P) split all))
+    first_answer P e (entries_of c after) answer is
+    (all_behind P (answers_in (entries_of c before)) (answers_in (e ∷ entries_of c after)) (subst (AllByRecursion P) split all))
 
-module _ (plan : Plan) (g : Given) (before after : List Entry) (e : Entry) (text : HasText plan) (marks : g.marks ≡ marks_of plan)
-    (legal : IsLegal g (before ++ e ∷ after)) (shows : Shows plan (before ++ e ∷ after)) where
+-- A legal history that shows a trace, with an entry between these.
+record ShowsTrace (plan : Plan) (g : Given) (before after : List Entry) (e : Entry) : Type 0 where
+  text : HasText plan
+  marks : g.marks ≡ marks_of plan
+  legal : IsLegal g (before ++ e ∷ after)
+  shows : Shows plan (before ++ e ∷ after)
+
+module _ (plan : Plan) (g : Given) (before after : List Entry) (e : Entry) (trace : ShowsTrace plan g before after e) where
   may : MayFollow g before e
-  may = (IsLegal-at g before after e legal).1
+  may = (IsLegal-at g before after e trace.legal).1
 
   -- a daemon answers no call
   among_processors : (number : ℕ) (call : Call) (answered : Answered) → e.what ≡ Answer number call answered → e.processor < plan.processors
@@ -222,19 +240,26 @@ module _ (plan : Plan) (g : Given) (before after : List Entry) (e : Entry) (text
       elim (cases_lt e.processor plan.processors) [
         | inl below ↦ below
         | inr past ↦
-            let mark = daemon_mark plan.processors plan.daemon e.processor text.daemon_in past (subst (λ (ms : List ℕ). e.processor < length ms) marks may.processor) in
-            let is_mark : mark_of g e.processor ≡ suc mark.0 = ap (λ (ms : List ℕ). slice_index_or ms e.processor 0) marks ∙ mark.1 in
+            let mark =
+            daemon_mark plan.processors plan.daemon e.processor trace.text.daemon_in
+            past (subst (λ (ms : List ℕ). e.processor < length ms) trace.marks may.processor) in
+            let is_mark : mark_of g e.processor ≡ suc mark.0 = ap (λ (ms : List ℕ). slice_index_or ms e.processor 0) trace.marks ∙ mark.1 in
             let last = progress_before (progress_in g e.processor (entries_of e.processor before)) e may.ordered.0 may.ordered.1 in
-            let led : progress_of (suc mark.0) (entries_of e.processor before) ≡ Some last.0 = ap (λ m. progress_of m (entries_of e.processor before)) (sym is_mark) ∙ last.1 in
+            let led : progress_of (suc mark.0) (entries_of e.processor before) ≡ Some last.0 =
+            ap (λ m. progress_of m (entries_of e.processor before)) (sym is_mark) ∙ last.1 in
             let turning = turn_steps (entries_of e.processor before) (at_rest (suc mark.0) 0) refl last.0 led in
-            absurd (turn_answer last.0 number call answered.reply may.ordered.0 turning (ap (progress_after last.0 e.space) (sym is) ∙ last.2))
+            absurd (turn_answer last.0 number call answered.reply may.ordered.0 turning
+            (ap (progress_after last.0 e.space) (sym is) ∙ last.2))
       ]
 
   answers_line : (what : What) → e.what ≡ what → AnswersLine what
   answers_line (Answer number call answered) is =
-      let shown = (shows.calls e.processor (among_processors number call answered is)).0 in
-      let lines = lines_of plan.processors plan.spaces 0 e.processor plan.calls (recursion_from_All _ _ text.lines) in
-      (plan.spaces, answer_among (OfLine plan.spaces) e.processor before after e number call answered is (eq-eqb e.processor e.processor refl) (subst (AllByRecursion (OfLine plan.spaces)) (sym shown) lines))
+      let shown = (trace.shows.calls e.processor (among_processors number call answered is)).0 in
+      let lines = lines_of plan.processors plan.spaces 0 e.processor plan.calls (recursion_from_All _ _ trace.text.lines) in (
+        plan.spaces,
+        answer_among (OfLine plan.spaces) e.processor before after e (number, call) (ap answer_in is)
+            (eq-eqb e.processor e.processor refl) (subst (AllByRecursion (OfLine plan.spaces)) (sym shown) lines),
+      )
   answers_line (Out page written) is = tt
   answers_line (Failed page writing count) is = tt
   answers_line (Take page frame want) is = tt
@@ -248,8 +273,13 @@ module _ (plan : Plan) (g : Given) (before after : List Entry) (e : Entry) (text
   answers_line (Refused wired claimed held) is = tt
   answers_line (Rest short) is = tt
 
-  pub AnswersLine-run : AnswersLine e.what
-  AnswersLine-run = answers_line e.what refl
+pub AnswersLine-run : (plan : Plan) (g : Given) (before after : List Entry) (e : Entry) → HasText plan → g.marks ≡ marks_of plan
+    → IsLegal g (before ++ e ∷ after) → Shows plan (before ++ e ∷ after) → AnswersLine e.what
+AnswersLine-run plan g before after e text marks legal shows =
+    answers_line plan g before after e (record { text = text; marks = marks; legal = legal; shows = shows }) e.what refl
 
-  pub processor-run : (number : ℕ) (call : Call) (answered : Answered) → e.what ≡ Answer number call answered → e.processor < plan.processors
-  processor-run = among_processors
+pub processor-run : (plan : Plan) (g : Given) (before after : List Entry) (e : Entry) → HasText plan → g.marks ≡ marks_of plan
+    → IsLegal g (before ++ e ∷ after) → Shows plan (before ++ e ∷ after)
+    → (number : ℕ) (call : Call) (answered : Answered) → e.what ≡ Answer number call answered → e.processor < plan.processors
+processor-run plan g before after e text marks legal shows =
+    among_processors plan g before after e (record { text = text; marks = marks; legal = legal; shows = shows })

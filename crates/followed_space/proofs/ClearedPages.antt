@@ -1,5 +1,5 @@
 -- A range of pages is cleared, or changed in whole blocks.
-use Rattle.std.proofs.Common.{◌≡◌, ℕ, ◌+◌, ◌/◌, ◌<◌, ◌≤◌, true, false, ◌==◌, if◌then◌else◌, List, Option, Some, None, refl, sym, ap, inl, inr, ◌∙◌, arith, subst}
+use Rattle.std.proofs.Common.{◌≡◌, ℕ, ◌+◌, ◌/◌, ◌<◌, ◌≤◌, true, false, List, Option, Some, None, refl, sym, ap, inl, inr, ◌∙◌, arith, subst}
 use Rattle.std.proofs.lemmas.Bool.{cases_Bool, cases_eq, cases_lt, ne_eqb, eq-eqb, cond-true, cond-false, true≢false}
 use Rattle.pager_model.specs.declared.entry.Entry.{Entry}
 use Rattle.pager_model.specs.declared.entry.What.TheVariants.{Clear}
@@ -10,13 +10,11 @@ use Rattle.pager_model.specs.Bounds.{space_pages}
 use Rattle.pager_model.specs.Regions.{in_range, region_at}
 use Rattle.pager_model.specs.SpaceStates.{SpaceState, IsRegionOf, space_after}
 use Rattle.pager_model.specs.Tiles.{mapping_with, is_that_tile}
-use Rattle.page_rights.specs.Rights.{RightsTree}
 use Rattle.region_table.specs.Table.{IsTable}
 use Rattle.followed_space.specs.declared.changed.Changed.TheVariants.{Range}
 use Rattle.followed_space.specs.Changed.{IsChange}
-use Rattle.followed_space.specs.Follows.{Follows, IsNext}
+use Rattle.followed_space.specs.Follows.{Followed, Follows, IsNext}
 use Rattle.followed_space.proofs.Keeping.{frame_in}
-use Rattle.followed_space.proofs.RegionCalls.{followed}
 use Rattle.pager_model.proofs.Ranges.{in_bounds, bounds_in}
 use Rattle.region_table.proofs.RegionSearch.{found_from}
 use Rattle.tiles.specs.Cleared.{Clears}
@@ -37,7 +35,8 @@ changes_blocks first len blocks old new round others = (
   λ z t tile out.
       let q = t.extent.first in
       let same : (p : ℕ) → p / 512 ≡ q / 512 → mapping_at new p ≡ mapping_at old p = beside q out in
-      ap (is_that_tile t) (tile_in_same z (mapping_at old) (mapping_at new) q (same q refl) (local_by z (mapping_at old) (mapping_at new) q same)) ∙ tile,
+      ap (is_that_tile t) (tile_in_same z (mapping_at old) (mapping_at new) q (same q refl)
+      (local_by z (mapping_at old) (mapping_at new) q same)) ∙ tile,
 )
   where
     beside : (q : ℕ) → is_touched blocks q ≡ false → (p : ℕ) → p / 512 ≡ q / 512 → mapping_at new p ≡ mapping_at old p
@@ -56,10 +55,10 @@ pub record ClearsTo (first from : ℕ) (old new : ℕ → Option Mapping) : Type
   pub before : (p : ℕ) → p < first → new p ≡ old p
   pub behind : (p : ℕ) → from ≤ p → new p ≡ old p
 
-pub clears_more : (first from end page : ℕ) (old mid : ℕ → Option Mapping) (r s : Resident) → mid ≡ mapping_at r
-    → ClearsTo first from old mid → IsNextResident mid from end page → Maps page None r s → ClearsTo first (page + 1) old (mapping_at s)
-clears_more first from end page old mid r s is so_far next maps =
-    let at : (p : ℕ) → mapping_at s p ≡ (if p == page then None else mid p) = λ p. maps.at p ∙ ap (λ (f : ℕ → Option Mapping). if p == page then None else f p) (sym is) in
+pub clears_more : (first from end page : ℕ) (old : ℕ → Option Mapping) (r s : Resident) → ClearsTo first from old (mapping_at r)
+    → IsNextResident (mapping_at r) from end page → Maps page None r s → ClearsTo first (page + 1) old (mapping_at s)
+clears_more first from end page old r s so_far next maps =
+    let at = maps.at in
     let low = so_far.from_on in
     let high = next.from_on in
     record {
@@ -96,7 +95,8 @@ clears_all first from len old new so_far low none p =
     ]
 
 -- a region's range lies in the space
-pub region_in_space : (regions : List Region) (first len : ℕ) → IsTable regions → IsRegionOf (region_at regions first) first len → first + len ≤ space_pages
+pub region_in_space : (regions : List Region) (first len : ℕ) → IsTable regions → IsRegionOf (region_at regions first) first len
+    → first + len ≤ space_pages
 region_in_space regions first len ordered is = at_region (region_at regions first) refl is
   where
     at_region : (o : Option Region) → region_at regions first ≡ o → IsRegionOf o first len → first + len ≤ space_pages
@@ -104,9 +104,9 @@ region_in_space regions first len ordered is = at_region (region_at regions firs
     at_region (Some r) at h = omega (arith, h.0, h.1, (found_from 0 regions ordered.in_order first r at).in_space)
 
 -- the pages of a region gave their frames up
-pub follows_cleared : (regions : List Region) (own : RightsTree) (pages new : Resident) (first len : ℕ) → Clears first len (mapping_at pages) (mapping_at new)
-    → (st : SpaceState) (e : Entry) → e.what ≡ Clear first len → IsNext (followed regions own pages) st e → Follows (followed regions own new) (space_after st e)
-follows_cleared regions own pages new first len clears st e is next =
+pub follows_cleared : (old : Followed) (new : Resident) (first len : ℕ) → Clears first len (mapping_at old.pages) (mapping_at new)
+    → (st : SpaceState) (e : Entry) → e.what ≡ Clear first len → IsNext old st e → Follows (record old { pages = new }) (space_after st e)
+follows_cleared old new first len clears st e is next =
     let k = next.follows in
     rw is (record {
       regions = k.regions;
@@ -116,14 +116,18 @@ follows_cleared regions own pages new first len clears st e is next =
         | inr out ↦ cond-false _ _ _ out ∙ k.base p ∙ sym (ap frame_in (clears p ∙ cond-false _ _ _ out))
       ];
       pages = λ p. elim (cases_Bool (in_range first len p)) [
-        | inl ins ↦ ap (λ o. mapping_with o (region_at st.flat.regions p) (st.flat.rights p) (st.flat.dirty p)) (cond-true _ _ _ ins) ∙ sym (clears p ∙ cond-true _ _ _ ins)
-        | inr out ↦ ap (λ o. mapping_with o (region_at st.flat.regions p) (st.flat.rights p) (st.flat.dirty p)) (cond-false _ _ _ out) ∙ k.pages p ∙ sym (clears p ∙ cond-false _ _ _ out)
+        | inl ins ↦
+            ap (λ o. mapping_with o (region_at st.flat.regions p) (st.flat.rights p) (st.flat.dirty p)) (cond-true _ _ _ ins)
+            ∙ sym (clears p ∙ cond-true _ _ _ ins)
+        | inr out ↦
+            ap (λ o. mapping_with o (region_at st.flat.regions p) (st.flat.rights p) (st.flat.dirty p)) (cond-false _ _ _ out) ∙ k.pages p
+            ∙ sym (clears p ∙ cond-false _ _ _ out)
       ];
     })
 
 -- a clearing that comes next is of a range of the space
-pub clear_next : (regions : List Region) (own : RightsTree) (pages : Resident) (first len : ℕ) → IsTable regions
-    → (st : SpaceState) (e : Entry) → e.what ≡ Clear first len → IsNext (followed regions own pages) st e → first + len ≤ space_pages
-clear_next regions own pages first len ordered st e is next =
+pub clear_next : (old : Followed) (first len : ℕ) → IsTable old.regions
+    → (st : SpaceState) (e : Entry) → e.what ≡ Clear first len → IsNext old st e → first + len ≤ space_pages
+clear_next old first len ordered st e is next =
     let allowed = rw is at next.allowed.1 in
-    region_in_space regions first len ordered (subst (λ rs. IsRegionOf (region_at rs first) first len) next.follows.regions allowed)
+    region_in_space old.regions first len ordered (subst (λ rs. IsRegionOf (region_at rs first) first len) next.follows.regions allowed)

@@ -11,11 +11,11 @@ use Rattle.pager_model.specs.declared.region.Rights.{Rights}
 use Rattle.pager_model.specs.declared.tile.Mapping.{Mapping}
 use Rattle.pager_model.specs.Flat.{Flat, out}
 use Rattle.pager_model.specs.Laws.{KeepsCopies, WasCleared}
-use Rattle.pager_model.specs.Regions.{region_at, wanted_at}
+use Rattle.pager_model.specs.Regions.{region_at, wanted_at, rights_by}
 use Rattle.pager_model.specs.SpaceStates.{SpaceState, Next, IsUnmapAnswer, MayGoOn, WhatAllowed, base_after, flat_after, space_after}
 use Rattle.pager_model.specs.SpaceStates.Next.{Anyone, Only, AfterClear}
 use Rattle.pager_model.specs.Tiles.{mapping_with}
-use Rattle.followed_space.specs.Follows.{Followed, Follows, FillsUnused, IsNext, IsUnused, Keeps, MapsOne, filled, rights_by}
+use Rattle.followed_space.specs.Follows.{Followed, Follows, FillsUnused, IsNext, IsUnused, Keeps, MapsOne, filled}
 use Rattle.followed_space.proofs.Keeping.{keeps_one, keeps_flag}
 use Rattle.page_rights.specs.Rights.{rights_of}
 use Rattle.tiles.specs.Resident.{mapping_at, frames_in, with_flag}
@@ -31,7 +31,8 @@ pub record Fills (frames : ℕ) (st : SpaceState) (b : Bool) (what : What) (page
   pub base : (p : ℕ) → base_after st.base b what p ≡ (if p == page then Some frame else st.base p)
 
 -- no entry but an unmap's answer comes where a page was just cleared
-not_cleared : (n : Next) (c page : ℕ) (what : What) → ((first len : ℕ) → IsUnmapAnswer first len what → ⊥) → MayGoOn n c what → WasCleared n page → ⊥
+not_cleared : (n : Next) (c page : ℕ) (what : What) → ((first len : ℕ) → IsUnmapAnswer first len what → ⊥) → MayGoOn n c what
+    → WasCleared n page → ⊥
 not_cleared Anyone c page what other go was = was
 not_cleared (Only d) c page what other go was = was
 not_cleared (AfterClear d first len) c page what other go was = other first len go.1
@@ -52,7 +53,8 @@ has_region rs page None w h = absurd (none-some w h)
 has_region rs page (Some r) w h = (r, refl)
 
 fills_by : (frames : ℕ) (st : SpaceState) (c : ℕ) (b : Bool) (what : What) (page frame : ℕ) → filled what ≡ Some (page, frame)
-    → MayGoOn st.next c what → WhatAllowed st b c what → KeepsCopies st → FillsUnused frames st (filled what) → Fills frames st b what page frame
+    → MayGoOn st.next c what → WhatAllowed st b c what → KeepsCopies st → FillsUnused frames st (filled what)
+    → Fills frames st b what page frame
 fills_by frames st c b (Take p f want) page frame h go allowed copies unused =
     let e = same_Some _ _ h in
     subst (λ (x : ℕ × ℕ). Fills frames st b (Take p f want) x.0 x.1) e
@@ -83,15 +85,22 @@ fills_by frames st c b what page frame h go allowed copies unused = cc
 
 pub fills : (kept : Followed) (st : SpaceState) (e : Entry) (page frame : ℕ) → filled e.what ≡ Some (page, frame) → IsNext kept st e
     → Fills (frames_in kept.pages) st e.frames e.what page frame
-fills kept st e page frame h next = fills_by (frames_in kept.pages) st e.processor e.frames e.what page frame h next.allowed.0 next.allowed.1 next.copies next.unused
+fills kept st e page frame h next =
+    fills_by (frames_in kept.pages) st e.processor e.frames e.what page frame h next.allowed.0 next.allowed.1 next.copies next.unused
 
-mapped : (o : Option ℕ) (r : Option Region) (x y : Rights) (d : Bool) (frame : ℕ) (region : Region) → o ≡ Some frame → r ≡ Some region → x ≡ y → d ≡ false
+mapped : (o : Option ℕ) (r : Option Region) (x y : Rights) (d : Bool) (frame : ℕ) (region : Region) → o ≡ Some frame → r ≡ Some region
+    → x ≡ y → d ≡ false
     → mapping_with o r x d ≡ Some (record { frame = frame; region = region.first; rights = y; dirty = false })
 mapped o r x y d frame region h i j k = rw (h, i, j, k) refl
 
 -- the mapping of a page that gets a frame
 abbrev pub filled_with : Followed → ℕ → ℕ → Region → Mapping
-filled_with kept page frame region = record { frame = frame; region = region.first; rights = rights_by (rights_of kept.own page) (Some region); dirty = false }
+filled_with kept page frame region = record {
+  frame = frame;
+  region = region.first;
+  rights = rights_by (rights_of kept.own page) (Some region);
+  dirty = false;
+}
 
 pub follows_filled : (old new : Followed) (page frame : ℕ) (region : Region) → region_at old.regions page ≡ Some region
     → MapsOne page (Some (filled_with old page frame region)) old new
@@ -102,9 +111,12 @@ follows_filled old new page frame region at moves st e h next =
     let base : (p : ℕ) → base_after st.base e.frames e.what p ≡ (if p == page then Some frame else st.base p) = f.base in
     let here = f.base page ∙ cond-true _ _ _ (eq-eqb page page refl) in
     let found : region_at st.flat.regions page ≡ Some region = ap (λ rs. region_at rs page) k.regions ∙ at in
-    let right : st.flat.rights page ≡ rights_by (rights_of old.own page) (Some region) = k.rights page (ap is_some at) ∙ ap (rights_by (rights_of old.own page)) at in
+    let right : st.flat.rights page ≡ rights_by (rights_of old.own page) (Some region) =
+    k.rights page (ap is_some at) ∙ ap (rights_by (rights_of old.own page)) at in
     subst (λ (g : Flat). Keeps new g (base_after st.base e.frames e.what)) (sym f.flat)
-    (keeps_one old new st.flat st.flat st.base (base_after st.base e.frames e.what) page (Some (filled_with old page frame region)) k moves refl (λ p. refl)
+    (keeps_one old new st (record st { base = base_after st.base e.frames e.what }) page
+    (Some (filled_with old page frame region)) k moves refl
+    (λ p. refl)
     (λ p n. f.base p ∙ cond-false _ _ _ (ne_eqb p page n)) (λ p n. refl) here
     (mapped _ _ _ _ _ frame region here found right f.clean))
 
@@ -112,13 +124,15 @@ follows_filled old new page frame region at moves st e h next =
 pub follows_given : (old new : Followed) (page : ℕ) → MapsOne page None old new
     → (st : SpaceState) (e : Entry) (frame : ℕ) → e.what ≡ Give page frame → IsNext old st e → Follows new (space_after st e)
 follows_given old new page moves st e frame is next =
-    rw is (keeps_one old new st.flat st.flat st.base (λ p. if p == page then None else st.base p) page None next.follows moves refl (λ p. refl)
+    rw is (keeps_one old new st (record st { base = λ p. if p == page then None else st.base p }) page None next.follows moves refl
+    (λ p. refl)
     (λ p n. cond-false _ _ _ (ne_eqb p page n)) (λ p n. refl) (cond-true _ _ _ (eq-eqb page page refl))
-    (ap (λ o. mapping_with o (region_at st.flat.regions page) (st.flat.rights page) (st.flat.dirty page)) (cond-true _ _ _ (eq-eqb page page refl))))
+    (ap (λ o. mapping_with o (region_at st.flat.regions page) (st.flat.rights page) (st.flat.dirty page))
+    (cond-true _ _ _ (eq-eqb page page refl))))
 
 -- a page is paged out
 pub follows_out : (old new : Followed) (page : ℕ) → MapsOne page (option_map (with_flag false) (mapping_at old.pages page)) old new
     → (st : SpaceState) (e : Entry) (written : Bool) → e.what ≡ Out page written → IsNext old st e → Follows new (space_after st e)
 follows_out old new page moves st e written is next =
-    rw is (keeps_flag old new st.flat (out st.flat page) st.base st.base page false next.follows moves refl (λ p. refl) (λ p. refl)
+    rw is (keeps_flag old new st (record st { flat = out st.flat page }) page false next.follows moves refl (λ p. refl) (λ p. refl)
     (λ p n. cond-false _ _ _ (ne_eqb p page n)) (cond-true _ _ _ (eq-eqb page page refl)))

@@ -20,5 +20,6 @@ keeps_idle kept f b frames (Refused wired claimed held) h k = keeps_same kept f 
 keeps_idle kept f b frames (Rest short) h k = keeps_same kept f f b b k refl (λ p. refl) (λ p. refl) (λ p. refl)
 keeps_idle kept f b frames what h k = cc
 
-pub follows_idle : (kept : Followed) (st : SpaceState) (e : Entry) → is_idle e.what ≡ true → Follows kept st → Follows kept (space_after st e)
+pub follows_idle : (kept : Followed) (st : SpaceState) (e : Entry) → is_idle e.what ≡ true → Follows kept st
+    → Follows kept (space_after st e)
 follows_idle kept st e h k = keeps_idle kept st.flat st.base e.frames e.what h k

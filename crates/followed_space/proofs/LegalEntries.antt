@@ -28,12 +28,15 @@ record Puts (st : SpaceState) (b : Bool) (what : What) (page frame : ℕ) : Type
 
 puts : (st : SpaceState) (b : Bool) (c : ℕ) (what : What) (page frame : ℕ) → filled what ≡ Some (page, frame) → WhatAllowed st b c what
     → Puts st b what page frame
-puts st b c (Take p f want) page frame h allowed = subst (λ (x : ℕ × ℕ). Puts st b (Take p f want) x.0 x.1) (same_Some _ _ h) (record { absent = allowed.1; base = λ q. refl })
-puts st b c (UseHeld p f want) page frame h allowed = subst (λ (x : ℕ × ℕ). Puts st b (UseHeld p f want) x.0 x.1) (same_Some _ _ h) (record { absent = allowed.1; base = λ q. refl })
+puts st b c (Take p f want) page frame h allowed = subst (λ (x : ℕ × ℕ). Puts st b (Take p f want) x.0 x.1) (same_Some _ _ h)
+    (record { absent = allowed.1; base = λ q. refl })
+puts st b c (UseHeld p f want) page frame h allowed = subst (λ (x : ℕ × ℕ). Puts st b (UseHeld p f want) x.0 x.1) (same_Some _ _ h)
+    (record { absent = allowed.1; base = λ q. refl })
 puts st b c what page frame h allowed = cc
 
 -- a frame that is a used place is one of the frames
-known_frame : (g : Given) (history : List Entry) (s p frame : ℕ) → IsKept g history → frame_of (frames_at g history) s p ≡ Some frame → frame < g.frames
+known_frame : (g : Given) (history : List Entry) (s p frame : ℕ) → IsKept g history → frame_of (frames_at g history) s p ≡ Some frame
+    → frame < g.frames
 known_frame g history s p frame kept is =
     let st = frames_at g history in
     let place = frame_in-found (layout_of st) s p frame is in
@@ -44,7 +47,8 @@ known_frame g history s p frame kept is =
     ]
 
 -- after a legal history no page of the space has the frame that comes under a page with the next entry
-unused_next : (g : Given) (history : List Entry) (e : Entry) (s page frame : ℕ) → IsLegal g history → MayFollow g history e → e.space ≡ Some s
+unused_next : (g : Given) (history : List Entry) (e : Entry) (s page frame : ℕ) → IsLegal g history → MayFollow g history e
+    → e.space ≡ Some s
     → filled e.what ≡ Some (page, frame) → SpaceAllows (space_at g history s) e → IsUnused g.frames (space_at g history s) frame
 unused_next g history e s page frame legal may on h allowed =
     let st = space_at g history s in
@@ -52,7 +56,8 @@ unused_next g history e s page frame legal may on h allowed =
     let kept = IsKept-legal g after (IsLegal-push g history e legal may) in
     let put = puts st e.frames e.processor e.what page frame h allowed.1 in
     let named : space_at g after s ≡ space_after st e = space_at-named g history e s (ap (is_that s) on ∙ eq-eqb s s refl) in
-    let base : (p : ℕ) → frame_of (frames_at g after) s p ≡ (if p == page then Some frame else st.base p) = λ p. sym (kept.agrees s p) ∙ ap (λ (x : SpaceState). x.base p) named ∙ put.base p in
+    let base : (p : ℕ) → frame_of (frames_at g after) s p ≡ (if p == page then Some frame else st.base p) = λ p. sym (kept.agrees s p)
+    ∙ ap (λ (x : SpaceState). x.base p) named ∙ put.base p in
     let here : frame_of (frames_at g after) s page ≡ Some frame = base page ∙ cond-true _ _ _ (eq-eqb page page refl) in
     record {
       known = known_frame g after s page frame kept here;
@@ -68,7 +73,8 @@ fills_unused frames st None h = tt
 fills_unused frames st (Some x) h = h x.0 x.1 refl
 
 pub IsNext-legal : (g : Given) (history : List Entry) (e : Entry) (s : ℕ) (kept : Followed)
-    → IsLegal g (history ++ e ∷ []) → e.space ≡ Some s → AnswersLine e.what → frames_in kept.pages ≡ g.frames → Follows kept (space_at g history s)
+    → IsLegal g (history ++ e ∷ []) → e.space ≡ Some s → AnswersLine e.what → frames_in kept.pages ≡ g.frames
+    → Follows kept (space_at g history s)
     → IsNext kept (space_at g history s) e
 IsNext-legal g history e s kept legal on line frames follows =
     let parts = IsLegal-at g history [] e legal in
@@ -77,6 +83,7 @@ IsNext-legal g history e s kept legal on line frames follows =
       follows = follows;
       allowed = allowed;
       copies = KeepsCopies-legal g history s parts.0;
-      unused = rw frames (fills_unused g.frames (space_at g history s) (filled e.what) (λ page frame h. unused_next g history e s page frame parts.0 parts.1 on h allowed));
+      unused = rw frames (fills_unused g.frames (space_at g history s) (filled e.what)
+          (λ page frame h. unused_next g history e s page frame parts.0 parts.1 on h allowed));
       line = line;
     }

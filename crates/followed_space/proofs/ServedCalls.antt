@@ -27,12 +27,18 @@ served kept st e call by next =
     let allowed = rw by.is at next.allowed.1 in
     elim (answer_is st e.processor call by.answered.reply allowed.reply) [
       | inl without ↦ absurd (true≢false (sym by.lawful ∙ unlawful by.answered.reply without))
-      | inr is ↦ record { flat = rw by.is is.does; asked = sym is.lawful ∙ by.lawful; pages = is.pages by.lawful; base = rw by.is (λ p. refl) }
+      | inr is ↦ record {
+        flat = rw by.is is.does;
+        asked = sym is.lawful ∙ by.lawful;
+        pages = is.pages by.lawful;
+        base = rw by.is (λ p. refl);
+      }
     ]
 
 -- A refusal, and an answer for want of a frame, of a store or of memory, changes nothing.
 
-still : (st : SpaceState) (c : ℕ) (call : Call) (r : Reply) → is_lawful r ≡ false → ReplyAllowed st c call r → Unmoved st.flat (answered_flat st.flat call r)
+still : (st : SpaceState) (c : ℕ) (call : Call) (r : Reply) → is_lawful r ≡ false → ReplyAllowed st c call r
+    → Unmoved st.flat (answered_flat st.flat call r)
 still st c call r h allowed =
     elim (answer_is st c call r allowed) [
       | inl without ↦
@@ -48,7 +54,8 @@ follows_refused kept call reply not_lawful st e by next =
     let r = by.answered.reply in
     let h : is_lawful r ≡ false = ap is_lawful by.reply_is ∙ not_lawful in
     let same = still st e.processor call r h allowed.reply in
-    rw by.is (keeps_same kept st.flat (answered_flat st.flat call r) st.base (base_after_answer st.base e.frames call) next.follows same.regions same.rights same.dirty
+    rw by.is (keeps_same kept st.flat (answered_flat st.flat call r) st.base
+    (base_after_answer st.base e.frames call) next.follows same.regions same.rights same.dirty
     (same_base st e.frames call r h allowed.parts))
 
 -- Lawful answers of pages.
@@ -59,7 +66,8 @@ pub follows_loaded : (kept : Followed) (space address : ℕ)
 follows_loaded kept space address st e by next =
     let s = served kept st e (Load space address) by next in
     subst (λ (g : Flat). Keeps kept g (base_after st.base e.frames e.what)) (sym s.flat)
-    (keeps_same kept st.flat (after_call st.flat (Load space address)) st.base (base_after st.base e.frames e.what) next.follows refl (λ p. refl) (λ p. refl) s.base)
+    (keeps_same kept st.flat (after_call st.flat (Load space address)) st.base (base_after st.base e.frames e.what) next.follows refl
+    (λ p. refl) (λ p. refl) s.base)
 
 -- a store makes its page dirty
 pub follows_stored : (old new : Followed) (space address word page : ℕ) → page ≡ page_of address
@@ -68,7 +76,8 @@ pub follows_stored : (old new : Followed) (space address word page : ℕ) → pa
 follows_stored old new space address word page is moves st e by next =
     let s = served old st e (Store space address word) by next in
     subst (λ (g : Flat). Keeps new g (base_after st.base e.frames e.what)) (sym s.flat)
-    (keeps_flag old new st.flat (after_call st.flat (Store space address word)) st.base (base_after st.base e.frames e.what) page true next.follows moves refl (λ p. refl) s.base
+    (keeps_flag old new st (record st { flat = after_call st.flat (Store space address word); base = base_after st.base e.frames e.what })
+    page true next.follows moves refl (λ p. refl) s.base
     (λ p n. rw (s.asked, ← is) (cond-false _ _ _ (ne_eqb p page n))) (rw (s.asked, ← is) (cond-true _ _ _ (eq-eqb page page refl))))
 
 -- a sync makes it clean
@@ -78,7 +87,8 @@ pub follows_synced : (old new : Followed) (space page : ℕ)
 follows_synced old new space page moves st e by next =
     let s = served old st e (Sync space page) by next in
     subst (λ (g : Flat). Keeps new g (base_after st.base e.frames e.what)) (sym s.flat)
-    (keeps_flag old new st.flat (after_call st.flat (Sync space page)) st.base (base_after st.base e.frames e.what) page false next.follows moves refl (λ p. refl) s.base
+    (keeps_flag old new st (record st { flat = after_call st.flat (Sync space page); base = base_after st.base e.frames e.what })
+    page false next.follows moves refl (λ p. refl) s.base
     (λ p n. rw s.asked (cond-false _ _ _ (ne_eqb p page n))) (rw s.asked (cond-true _ _ _ (eq-eqb page page refl))))
 
 -- an evict takes the page's frame, if it has one
@@ -87,13 +97,18 @@ pub follows_evicted : (old new : Followed) (space page : ℕ) → MapsOne page N
 follows_evicted old new space page moves st e by next =
     let s = served old st e (Evict space page) by next in
     let allowed = rw by.is at next.allowed.1 in
-    let none : base_after st.base e.frames e.what page ≡ None = s.base page ∙ none_left e.frames (st.base page) (page == page) (eq-eqb page page refl) (allowed.parts ∙ rw by.lawful refl) in
+    let none : base_after st.base e.frames e.what page ≡ None =
+    s.base page ∙ none_left e.frames (st.base page) (page == page) (eq-eqb page page refl) (allowed.parts ∙ rw by.lawful refl) in
     subst (λ (g : Flat). Keeps new g (base_after st.base e.frames e.what)) (sym s.flat)
-    (keeps_one old new st.flat (after_call st.flat (Evict space page)) st.base (base_after st.base e.frames e.what) page None next.follows moves refl (λ p. refl)
-    (λ p n. s.base p ∙ cond-false (e.frames && (p == page)) None (st.base p) (rw (ne_eqb p page n) (and_none e.frames))) (λ p n. rw s.asked (cond-false _ _ _ (ne_eqb p page n)))
-    none (ap (λ o. mapping_with o (region_at st.flat.regions page) (st.flat.rights page) ((after_call st.flat (Evict space page)).dirty page)) none))
+    (keeps_one old new st (record st { flat = after_call st.flat (Evict space page); base = base_after st.base e.frames e.what })
+    page None next.follows moves refl (λ p. refl)
+    (λ p n. s.base p ∙ cond-false (e.frames && (p == page)) None (st.base p) (rw (ne_eqb p page n) (and_none e.frames)))
+    (λ p n. rw s.asked (cond-false _ _ _ (ne_eqb p page n)))
+    none (ap (λ o. mapping_with o (region_at st.flat.regions page) (st.flat.rights page)
+    ((after_call st.flat (Evict space page)).dirty page)) none))
   where
-    none_left : (frames : Bool) (o : Option ℕ) (this : Bool) → this ≡ true → frames ≡ is_some o → (if frames && this then None else o) ≡ None
+    none_left : (frames : Bool) (o : Option ℕ) (this : Bool) → this ≡ true → frames ≡ is_some o
+        → (if frames && this then None else o) ≡ None
     none_left true o this is has = cond-true _ _ _ is
     none_left false None this is has = refl
     none_left false (Some n) this is has = cc

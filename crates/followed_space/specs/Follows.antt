@@ -7,13 +7,12 @@ use Rattle.pager_model.specs.declared.entry.What.{What}
 use Rattle.pager_model.specs.declared.entry.What.TheVariants.{Answer, Out, Take, Give, Clear, UseHeld}
 use Rattle.pager_model.specs.declared.region.Region.{Region}
 use Rattle.pager_model.specs.declared.region.Rights.{Rights}
-use Rattle.pager_model.specs.declared.region.Rights.TheVariants.{NoAccess}
 use Rattle.pager_model.specs.declared.reply.Answered.{Answered}
 use Rattle.pager_model.specs.declared.reply.Reply.{Reply}
 use Rattle.pager_model.specs.declared.tile.Mapping.{Mapping}
 use Rattle.pager_model.specs.Flat.{Flat, is_lawful}
 use Rattle.pager_model.specs.Laws.{KeepsCopies}
-use Rattle.pager_model.specs.Regions.{region_at}
+use Rattle.pager_model.specs.Regions.{region_at, rights_by}
 use Rattle.pager_model.specs.SpaceStates.{SpaceState, SpaceAllows}
 use Rattle.pager_model.specs.Tiles.{mappings}
 use Rattle.pager_model.specs.TraceText.{IsCall}
@@ -26,11 +25,6 @@ pub record Followed : Type 0 where
   pub own : RightsTree
   -- the resident pages, and the tiles that they make
   pub pages : Resident
-
-abbrev pub rights_by : Option Rights → Option Region → Rights
-rights_by None None = NoAccess
-rights_by None (Some r) = r.rights
-rights_by (Some own) region = own
 
 -- a page's rights: its own, or else its region's first
 abbrev pub rights_at : Followed → ℕ → Rights

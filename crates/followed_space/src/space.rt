@@ -5,7 +5,7 @@ ghost use Rattle.pager_model.specs.declared.call.Call.TheVariants.{Map, Grow, Un
 ghost use Rattle.pager_model.specs.declared.entry.Entry.{Entry as Item};
 ghost use Rattle.pager_model.specs.declared.entry.What.TheVariants.{Out, Give, Clear};
 ghost use Rattle.pager_model.specs.Bounds.{most_frames, space_bytes, space_pages};
-ghost use Rattle.pager_model.specs.Regions.{in_range};
+ghost use Rattle.pager_model.specs.Regions.{in_range, rights_by};
 ghost use Rattle.pager_model.specs.SizeSets.{SizeSet};
 ghost use Rattle.pager_model.specs.SpaceStates.{SpaceState, empty_state, space_after};
 ghost use Rattle.pager_model.specs.Tiles.{tile_in, is_tile_in};
@@ -14,13 +14,14 @@ ghost use Rattle.tiles.specs.Cleared.{Clears};
 ghost use Rattle.tiles.specs.Resident.{frames_in, mapping_at, with_flag};
 ghost use Rattle.tiles.specs.Touched.{IsInSpace, is_touched};
 ghost use Rattle.followed_space.specs.Changed.{IsChange};
-ghost use Rattle.followed_space.specs.Follows.{AnswersBy, Follows, IsNext, MapsOne, Serves, filled, rights_by};
+ghost use Rattle.followed_space.specs.Follows.{AnswersBy, Follows, IsNext, MapsOne, Serves, filled};
 
 use crate::changed::Changed;
-use crate::reply::{is_lawful, page_of};
+use crate::reply::is_lawful;
 use page_rights::PageRights;
 use pager_model::{
     Call, Entry, Kind, Mapping, NoMemory, PageRange, Region, Reply, Rights, Sizes, Tile, What,
+    page_of,
 };
 use region_table::Regions;
 use std::alloc::Global;

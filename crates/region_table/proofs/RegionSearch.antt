@@ -18,7 +18,8 @@ no_common first len p r m i =
       | inr behind ↦ has_page-end p r (omega arith)
     ]
 
-pub none_in : (first len p : ℕ) (rs : List Region) → list_any (meets_range first len) rs ≡ false → in_range first len p ≡ true → region_at rs p ≡ None
+pub none_in : (first len p : ℕ) (rs : List Region) → list_any (meets_range first len) rs ≡ false → in_range first len p ≡ true
+    → region_at rs p ≡ None
 none_in first len p [] m i = refl
 none_in first len p (r ∷ rs) m i =
     let parts = or_parts (meets_range first len r) (list_any (meets_range first len) rs) m in
@@ -70,7 +71,8 @@ found_same low (s ∷ rs) l page r h p has =
     ]
 
 -- two tests of which at most one holds may be made in either order
-swap_tests : (a b : Bool) (x y z : Option Region) → (a ≡ true → b ≡ false) → (if b then y else (if a then x else z)) ≡ (if a then x else (if b then y else z))
+swap_tests : (a b : Bool) (x y z : Option Region) → (a ≡ true → b ≡ false)
+    → (if b then y else (if a then x else z)) ≡ (if a then x else (if b then y else z))
 swap_tests true true x y z h = absurd (true≢false (h refl))
 swap_tests true false x y z h = refl
 swap_tests false true x y z h = refl
@@ -96,10 +98,12 @@ found_without low (s ∷ rs) l page r h p =
     elim (cases_Bool (has_page page s)) [
       | inl here ↦
           let e : s ≡ r = same_Some _ _ (sym (cond-true _ _ _ here) ∙ h) in
-          let after : without_region page (s ∷ rs) ≡ rs = cond-false _ _ _ (ap not here) ∙ without_region-none (end_of s) rs l.2 page (in_bounds s.first s.length page here).1 in
+          let after : without_region page (s ∷ rs) ≡ rs = cond-false _ _ _ (ap not here)
+          ∙ without_region-none (end_of s) rs l.2 page (in_bounds s.first s.length page here).1 in
           ap (λ xs. region_at xs p) after
           ∙ elim (cases_Bool (has_page p s)) [
-            | inl has ↦ find-none (end_of s) rs l.2 p (in_bounds s.first s.length p has).1 ∙ sym (cond-true _ _ _ (ap (has_page p) (sym e) ∙ has))
+            | inl has ↦ find-none (end_of s) rs l.2 p (in_bounds s.first s.length p has).1
+                ∙ sym (cond-true _ _ _ (ap (has_page p) (sym e) ∙ has))
             | inr hasnt ↦ sym (cond-false _ _ _ (ap (has_page p) (sym e) ∙ hasnt) ∙ cond-false _ _ _ hasnt)
           ]
       | inr there ↦
@@ -113,12 +117,13 @@ found_without low (s ∷ rs) l page r h p =
 
 -- the region is longer by so many pages
 abbrev pub grown : ℕ → Region → Region
-grown by r = record { first = r.first; length = r.length + by; kind = r.kind; rights = r.rights }
+grown by r = record r { length = r.length + by }
 
 has_grown : (by p : ℕ) (r : Region) → has_page p (grown by r) ≡ false → has_page p r ≡ false
 has_grown by p r h =
     elim (cases_Bool (has_page p r)) [
-      | inl has ↦ let b = in_bounds r.first r.length p has in absurd (true≢false (sym (bounds_in r.first (r.length + by) p b.0 (omega arith)) ∙ h))
+      | inl has ↦ let b = in_bounds r.first r.length p has in absurd (true≢false
+          (sym (bounds_in r.first (r.length + by) p b.0 (omega arith)) ∙ h))
       | inr hasnt ↦ hasnt
     ]
 
@@ -129,9 +134,12 @@ found_grown low (s ∷ rs) l page by r h p =
     elim (cases_Bool (has_page page s)) [
       | inl here ↦
           let e : s ≡ r = same_Some _ _ (sym (cond-true _ _ _ here) ∙ h) in
-          let after : grown_regions page by (s ∷ rs) ≡ grown by s ∷ rs = ap (λ x. x ∷ grown_regions page by rs) (cond-true _ _ _ here) ∙ ap (λ xs. grown by s ∷ xs) (grown_regions-none (end_of s) rs l.2 page by (in_bounds s.first s.length page here).1) in
+          let after : grown_regions page by (s ∷ rs) ≡ grown by s ∷ rs =
+          ap (λ x. x ∷ grown_regions page by rs) (cond-true _ _ _ here)
+          ∙ ap (λ xs. grown by s ∷ xs) (grown_regions-none (end_of s) rs l.2 page by (in_bounds s.first s.length page here).1) in
           ap (λ xs. region_at xs p) after
-          ∙ subst (λ (x : Region). (if has_page p (grown by s) then Some (grown by s) else region_at rs p) ≡ (if has_page p (grown by x) then Some (grown by x) else (if has_page p s then Some s else region_at rs p))) e
+          ∙ subst (λ (x : Region). (if has_page p (grown by s) then Some (grown by s) else region_at rs p) ≡
+          (if has_page p (grown by x) then Some (grown by x) else (if has_page p s then Some s else region_at rs p))) e
           (elim (cases_Bool (has_page p (grown by s))) [
             | inl has ↦ cond-true _ _ _ has ∙ sym (cond-true _ _ _ has)
             | inr hasnt ↦ cond-false _ _ _ hasnt ∙ sym (cond-false _ _ _ hasnt ∙ cond-false _ _ _ (has_grown by p s hasnt))
@@ -139,28 +147,11 @@ found_grown low (s ∷ rs) l page by r h p =
       | inr there ↦
           let tail = sym (cond-false _ _ _ there) ∙ h in
           let f = found_from (end_of s) rs l.2 page r tail in
-          let after : grown_regions page by (s ∷ rs) ≡ s ∷ grown_regions page by rs = ap (λ x. x ∷ grown_regions page by rs) (cond-false _ _ _ there) in
+          let after : grown_regions page by (s ∷ rs) ≡ s ∷ grown_regions page by rs =
+          ap (λ x. x ∷ grown_regions page by rs) (cond-false _ _ _ there) in
           ap (λ xs. region_at xs p) after
           ∙ ap (λ o. if has_page p s then Some s else o) (found_grown (end_of s) rs l.2 page by r tail p)
           ∙ swap_tests (has_page p (grown by r)) (has_page p s) _ _ _ (λ has. behind_none s (grown by r) p f.from_on has)
-    ]
-
--- a page without a region after a map or a growth had none before
-pub mapped-none : (new : Region) (rs : List Region) (p : ℕ) → list_any (meets_range new.first new.length) rs ≡ false
-    → region_at (with_region new rs) p ≡ None → region_at rs p ≡ None
-mapped-none new rs p m h =
-    elim (cases_Bool (has_page p new)) [
-      | inl has ↦ none_in new.first new.length p rs m has
-      | inr hasnt ↦ sym (found_with new rs p m ∙ cond-false _ _ _ hasnt) ∙ h
-    ]
-
-pub grown-none : (low : ℕ) (rs : List Region) → LieFrom low rs → (page by : ℕ) (r : Region) → region_at rs page ≡ Some r → (p : ℕ)
-    → region_at (grown_regions page by rs) p ≡ None → region_at rs p ≡ None
-grown-none low rs l page by r at p h =
-    let is = found_grown low rs l page by r at p in
-    elim (cases_Bool (has_page p (grown by r))) [
-      | inl has ↦ absurd (none-some (grown by r) (sym h ∙ is ∙ cond-true _ _ _ has))
-      | inr hasnt ↦ sym (is ∙ cond-false _ _ _ hasnt) ∙ h
     ]
 
 -- a page of the longer region is one of its old pages or of its new ones
@@ -180,7 +171,8 @@ pub found_within : (low : ℕ) (rs : List Region) → LieFrom low rs → (page l
     → page + len ≤ end_of r → (p : ℕ) → in_range page len p ≡ true → region_at rs p ≡ Some r
 found_within low rs l page len r at within p inside =
     let b = in_bounds page len p inside in
-    found_same low rs l page r at p (bounds_in r.first r.length p (omega (arith, (in_bounds r.first r.length page (found_has rs page r at)).0)) (omega arith))
+    found_same low rs l page r at p
+    (bounds_in r.first r.length p (omega (arith, (in_bounds r.first r.length page (found_has rs page r at)).0)) (omega arith))
 
 -- what is known of a region that has a page
 pub record HasPage (page : ℕ) (r : Region) : Type 0 where

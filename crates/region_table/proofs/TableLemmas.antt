@@ -62,7 +62,8 @@ end-le low (r ∷ rs) l zero d h = (l.1, LieFrom-within (end_of r) rs l.2)
 end-le low (r ∷ rs) l (suc j) d h = end-le (end_of r) rs l.2 j d (omega arith)
 
 -- each ends before the later ones begin
-pub apart : (low : ℕ) (rs : List Region) → LieFrom low rs → (i j : ℕ) (d : Region) → i < j → j < length rs → end_of (get_or rs i d) ≤ (get_or rs j d).first
+pub apart : (low : ℕ) (rs : List Region) → LieFrom low rs → (i j : ℕ) (d : Region) → i < j → j < length rs
+    → end_of (get_or rs i d) ≤ (get_or rs j d).first
 apart low [] l i j d h k = absurd (omega arith)
 apart low (r ∷ rs) l i zero d h k = absurd (omega arith)
 apart low (r ∷ rs) l zero (suc j) d h k = first-ge (end_of r) rs l.2 j d (omega arith)
@@ -71,7 +72,11 @@ apart low (r ∷ rs) l (suc i) (suc j) d h k = apart (end_of r) rs l.2 i j d (om
 -- so their first pages rise, as a search by halves asks
 pub first-rises : (low : ℕ) (rs : List Region) → LieFrom low rs → IsNonDecreasingBy (λ r. r.first) rs
 first-rises low rs l i j d h k =
-    elim (cases_eq i j) [ inl e ↦ let P : ℕ → Type 0 = λ n. (get_or rs i d).first ≤ (get_or rs n d).first in subst P e (omega arith) | inr n ↦ omega (arith, apart low rs l i j d (omega arith) k) ]
+    elim (cases_eq i j) [
+      | inl e ↦ let P : ℕ → Type 0 = λ n. (get_or rs i d).first ≤ (get_or rs n d).first in
+          subst P e (omega arith)
+      | inr n ↦ omega (arith, apart low rs l i j d (omega arith) k)
+    ]
 
 -- the test by which the search halves
 abbrev pub begins_by : ℕ → Region → Bool
@@ -99,7 +104,8 @@ pub prefix_len-zero : (p : Region → Bool) (r : Region) (rs : List Region) → 
 prefix_len-zero p r rs e =
     elim (cases_Bool (p r)) [ inl passes ↦ absurd (omega (arith, e, prefix_len-more p r rs passes)) | inr fails ↦ fails ]
 
-pub prefix_len-suc : (p : Region → Bool) (r : Region) (rs : List Region) (i : ℕ) → prefix_len p (r ∷ rs) ≡ suc i → (p r ≡ true) × (prefix_len p rs ≡ i)
+pub prefix_len-suc : (p : Region → Bool) (r : Region) (rs : List Region) (i : ℕ) → prefix_len p (r ∷ rs) ≡ suc i
+    → (p r ≡ true) × (prefix_len p rs ≡ i)
 prefix_len-suc p r rs i e =
     elim (cases_Bool (p r)) [
       | inl passes ↦ (passes, omega (arith, e, prefix_len-more p r rs passes))
@@ -110,7 +116,8 @@ prefix_len-suc p r rs i e =
 new-before : (new r : Region) → 1 ≤ r.length → new.first < r.first → (end_of new ≤ r.first) ⊎ (end_of r ≤ new.first) → end_of new ≤ r.first
 new-before new r some before apart = omega arith
 
-new-behind : (new r : Region) → 1 ≤ new.length → r.first ≤ new.first → (end_of new ≤ r.first) ⊎ (end_of r ≤ new.first) → end_of r ≤ new.first
+new-behind : (new r : Region) → 1 ≤ new.length → r.first ≤ new.first → (end_of new ≤ r.first) ⊎ (end_of r ≤ new.first)
+    → end_of r ≤ new.first
 new-behind new r some behind apart = omega arith
 
 -- the one place at which a test passes, and none
@@ -120,7 +127,8 @@ position-is p xs i d h before here =
     let e = position_or_len_is p xs i d (omega arith) before (λ _. here) in
     cond-true _ _ _ (lt-ltb (position_or_len p xs) (length xs) (omega (arith, e))) ∙ ap Some e
 
-pub position-is_none : (p : Region → Bool) (xs : List Region) (d : Region) → ((k : ℕ) → k < length xs → p (get_or xs k d) ≡ false) → position p xs ≡ None
+pub position-is_none : (p : Region → Bool) (xs : List Region) (d : Region) → ((k : ℕ) → k < length xs → p (get_or xs k d) ≡ false)
+    → position p xs ≡ None
 position-is_none p xs d none =
     let e = position_or_len_is p xs (length xs) d (omega arith) none (λ h. absurd (omega arith)) in
     cond-false _ _ _ (le-ltb (position_or_len p xs) (length xs) (omega (arith, e)))
@@ -139,7 +147,11 @@ place-none low rs l page n d e ended =
 pub last-begun : (low : ℕ) (rs : List Region) → LieFrom low rs → (page i k : ℕ) (d : Region) → i + 1 ≡ prefix_len (begins_by page) rs
     → k < i → end_of (get_or rs k d) ≤ page
 last-begun low rs l page i k d e h =
-    omega (arith, apart low rs l k i d h (omega (arith, prefix_len-le-length (begins_by page) rs)), begins_by-below page rs i d (omega arith))
+    omega (
+      arith,
+      apart low rs l k i d h (omega (arith, prefix_len-le-length (begins_by page) rs)),
+      begins_by-below page rs i d (omega arith),
+    )
 
 pub place-some : (low : ℕ) (rs : List Region) → LieFrom low rs → (page i : ℕ) (d : Region) → i + 1 ≡ prefix_len (begins_by page) rs
     → page < end_of (get_or rs i d) → position (has_page page) rs ≡ Some i
@@ -172,7 +184,8 @@ find-at_some p xs i h =
       | inr ge ↦ absurd (none-some _ (sym (cond-false _ _ _ (le-ltb _ _ ge)) ∙ h))
     ]
 
-pub region_at-place : (rs : List Region) (page i : ℕ) (d : Region) → position (has_page page) rs ≡ Some i → region_at rs page ≡ Some (get_or rs i d)
+pub region_at-place : (rs : List Region) (page i : ℕ) (d : Region) → position (has_page page) rs ≡ Some i
+    → region_at rs page ≡ Some (get_or rs i d)
 region_at-place rs page i d e =
     find-at_some (has_page page) rs i e ∙ slice_get-get_or rs i d ((position-Some (has_page page) rs i d e).0)
 
@@ -182,10 +195,12 @@ find-none low [] l page h = refl
 find-none low (r ∷ rs) l page h =
     cond-false _ _ _ (has_page-first page r (omega (arith, l.0))) ∙ find-none (end_of r) rs l.2 page (omega (arith, l.0))
 
-pub meets-none : (low : ℕ) (rs : List Region) → LieFrom low rs → (first len : ℕ) → first + len ≤ low → list_any (meets_range first len) rs ≡ false
+pub meets-none : (low : ℕ) (rs : List Region) → LieFrom low rs → (first len : ℕ) → first + len ≤ low
+    → list_any (meets_range first len) rs ≡ false
 meets-none low [] l first len h = refl
 meets-none low (r ∷ rs) l first len h =
-    or_from _ _ (and_left _ _ (le-ltb r.first (first + len) (omega (arith, l.0)))) (meets-none (end_of r) rs l.2 first len (omega (arith, l.0)))
+    or_from _ _ (and_left _ _ (le-ltb r.first (first + len) (omega (arith, l.0))))
+    (meets-none (end_of r) rs l.2 first len (omega (arith, l.0)))
 
 -- the first region of the list begins above the page: nothing behind it tells
 meets-step_above : (page len : ℕ) (r : Region) (m : Bool) (f : Option Region) (n : ℕ) → page < r.first → 1 ≤ r.length → f ≡ None
@@ -208,7 +223,8 @@ pub meets-is : (low : ℕ) (rs : List Region) → LieFrom low rs → (page len :
 meets-is low [] l page len some within = sym (le-ltb 1048576 (page + len) within)
 meets-is low (r ∷ rs) l page len some within =
     elim (cases_lt page r.first) [
-      | inl above ↦ meets-step_above page len r _ _ _ above l.1 (find-none (end_of r) rs l.2 page (omega arith)) (λ past. meets-none (end_of r) rs l.2 page len past)
+      | inl above ↦ meets-step_above page len r _ _ _ above l.1 (find-none (end_of r) rs l.2 page (omega arith))
+          (λ past. meets-none (end_of r) rs l.2 page len past)
       | inr begun ↦ elim (cases_lt page (end_of r)) [
         | inl has ↦ meets-step_within page len r _ _ _ begun has some
         | inr past ↦ meets-step_below page len r _ _ _ past (meets-is (end_of r) rs l.2 page len some within)
@@ -231,18 +247,21 @@ next_start-at_none (r ∷ rs) page h =
     elim (cases_lt page r.first) [
       | inl above ↦ absurd (omega (arith, h, prefix_len-none (begins_by page) r rs (lt-leb r.first page above)))
       | inr begun ↦
-          cond-false _ _ _ (le-ltb page r.first begun) ∙ next_start-at_none rs page (omega (arith, h, prefix_len-more (begins_by page) r rs (le-leb r.first page begun)))
+          cond-false _ _ _ (le-ltb page r.first begun) ∙ next_start-at_none rs page
+          (omega (arith, h, prefix_len-more (begins_by page) r rs (le-leb r.first page begun)))
     ]
 
 -- a new region's place is behind all that begin by its first page
-pub with_region-insert : (new : Region) (rs : List Region) (i : ℕ) → i ≡ prefix_len (begins_by new.first) rs → with_region new rs ≡ insert rs i new
+pub with_region-insert : (new : Region) (rs : List Region) (i : ℕ) → i ≡ prefix_len (begins_by new.first) rs
+    → with_region new rs ≡ insert rs i new
 with_region-insert new [] zero e = refl
 with_region-insert new [] (suc i) e = absurd (omega (arith, e))
 with_region-insert new (r ∷ rs) zero e =
     cond-true _ _ _ (lt-ltb new.first r.first (leb-false r.first new.first (prefix_len-zero (begins_by new.first) r rs (sym e))))
 with_region-insert new (r ∷ rs) (suc i) e =
     let begun = prefix_len-suc (begins_by new.first) r rs i (sym e) in
-    cond-false _ _ _ (le-ltb new.first r.first (leb-true r.first new.first begun.0)) ∙ ap (λ xs. r ∷ xs) (with_region-insert new rs i (sym begun.1))
+    cond-false _ _ _ (le-ltb new.first r.first (leb-true r.first new.first begun.0))
+    ∙ ap (λ xs. r ∷ xs) (with_region-insert new rs i (sym begun.1))
 
 -- and with it the regions lie one behind another
 pub LieFrom-with_region : (low : ℕ) (new : Region) (rs : List Region) → LieFrom low rs → low ≤ new.first → 1 ≤ new.length
@@ -255,7 +274,8 @@ LieFrom-with_region low new (r ∷ rs) l above some within free =
       | inl before ↦ let P : List Region → Type 0 = LieFrom low in
           subst P (sym (cond-true _ _ _ (lt-ltb new.first r.first before))) (above, some, (new-before new r l.1 before apart, l.1, l.2))
       | inr behind ↦ let P : List Region → Type 0 = LieFrom low in
-          subst P (sym (cond-false _ _ _ (le-ltb new.first r.first behind))) (l.0, l.1, LieFrom-with_region (end_of r) new rs l.2 (new-behind new r some behind apart) some within parts.1)
+          subst P (sym (cond-false _ _ _ (le-ltb new.first r.first behind)))
+          (l.0, l.1, LieFrom-with_region (end_of r) new rs l.2 (new-behind new r some behind apart) some within parts.1)
     ]
 
 -- the map of a list that begins with r
@@ -273,19 +293,22 @@ LieFrom-filter p low (r ∷ rs) l =
       | inl stays ↦ let P : List Region → Type 0 = LieFrom low in
           subst P (sym (cond-true _ _ _ stays)) (l.0, l.1, LieFrom-filter p (end_of r) rs l.2)
       | inr goes ↦ let P : List Region → Type 0 = LieFrom low in
-          subst P (sym (cond-false _ _ _ goes)) (LieFrom-lower low (end_of r) (filter p rs) (omega (arith, l.0)) (LieFrom-filter p (end_of r) rs l.2))
+          subst P (sym (cond-false _ _ _ goes)) (LieFrom-lower low (end_of r) (filter p rs) (omega (arith, l.0))
+          (LieFrom-filter p (end_of r) rs l.2))
     ]
 
 -- regions behind a page stay as they are
 pub without_region-none : (low : ℕ) (rs : List Region) → LieFrom low rs → (page : ℕ) → page < low → without_region page rs ≡ rs
 without_region-none low [] l page h = refl
 without_region-none low (r ∷ rs) l page h =
-    cond-true _ _ _ (not_from_false _ (has_page-first page r (omega (arith, l.0)))) ∙ ap (λ xs. r ∷ xs) (without_region-none (end_of r) rs l.2 page (omega (arith, l.0)))
+    cond-true _ _ _ (not_from_false _ (has_page-first page r (omega (arith, l.0))))
+    ∙ ap (λ xs. r ∷ xs) (without_region-none (end_of r) rs l.2 page (omega (arith, l.0)))
 
 pub grown_regions-none : (low : ℕ) (rs : List Region) → LieFrom low rs → (page by : ℕ) → page < low → grown_regions page by rs ≡ rs
 grown_regions-none low [] l page by h = refl
 grown_regions-none low (r ∷ rs) l page by h =
-    grown-cons (grown_region page by) r r rs rs (cond-false _ _ _ (has_page-first page r (omega (arith, l.0)))) (grown_regions-none (end_of r) rs l.2 page by (omega (arith, l.0)))
+    grown-cons (grown_region page by) r r rs rs (cond-false _ _ _ (has_page-first page r (omega (arith, l.0))))
+    (grown_regions-none (end_of r) rs l.2 page by (omega (arith, l.0)))
 
 -- the page of a later region is behind the first
 pub page-behind : (r : Region) (rs : List Region) → LieFrom (end_of r) rs → (page i : ℕ) (d : Region) → i < length rs
@@ -300,7 +323,8 @@ without_region-at low [] l page i d h has = absurd (omega arith)
 without_region-at low (r ∷ rs) l page zero d h has =
     cond-false _ _ _ (not_from_true _ has) ∙ without_region-none (end_of r) rs l.2 page (ltb-true page (end_of r) ((and_parts _ _ has).1))
 without_region-at low (r ∷ rs) l page (suc i) d h has =
-    cond-true _ _ _ (not_from_false _ (has_page-end page r (page-behind r rs l.2 page i d (omega arith) has))) ∙ ap (λ xs. r ∷ xs) (without_region-at (end_of r) rs l.2 page i d (omega arith) has)
+    cond-true _ _ _ (not_from_false _ (has_page-end page r (page-behind r rs l.2 page i d (omega arith) has)))
+    ∙ ap (λ xs. r ∷ xs) (without_region-at (end_of r) rs l.2 page i d (omega arith) has)
 
 abbrev pub longer : ℕ → Region → Region
 longer by r = record { first = r.first; length = r.length + by; kind = r.kind; rights = r.rights }
@@ -309,9 +333,12 @@ pub grown_regions-at : (low : ℕ) (rs : List Region) → LieFrom low rs → (pa
     → has_page page (get_or rs i d) ≡ true → grown_regions page by rs ≡ set rs i (longer by (get_or rs i d))
 grown_regions-at low [] l page by i d h has = absurd (omega arith)
 grown_regions-at low (r ∷ rs) l page by zero d h has =
-    grown-cons (grown_region page by) r (longer by r) rs rs (cond-true _ _ _ has) (grown_regions-none (end_of r) rs l.2 page by (ltb-true page (end_of r) ((and_parts _ _ has).1)))
+    grown-cons (grown_region page by) r (longer by r) rs rs (cond-true _ _ _ has)
+    (grown_regions-none (end_of r) rs l.2 page by (ltb-true page (end_of r) ((and_parts _ _ has).1)))
 grown_regions-at low (r ∷ rs) l page by (suc i) d h has =
-    grown-cons (grown_region page by) r r rs (set rs i (longer by (get_or rs i d))) (cond-false _ _ _ (has_page-end page r (page-behind r rs l.2 page i d (omega arith) has))) (grown_regions-at (end_of r) rs l.2 page by i d (omega arith) has)
+    grown-cons (grown_region page by) r r rs (set rs i (longer by (get_or rs i d)))
+    (cond-false _ _ _ (has_page-end page r (page-behind r rs l.2 page i d (omega arith) has)))
+    (grown_regions-at (end_of r) rs l.2 page by i d (omega arith) has)
 
 -- what begins behind a free range lies from its end on
 pub LieFrom-free : (low by : ℕ) (rs : List Region) → LieFrom low rs → 1 ≤ by → low + by ≤ 1048576 → list_any (meets_range low by) rs ≡ false
@@ -337,7 +364,8 @@ pub IsTable-with_region : (rs : List Region) (new : Region) (i : ℕ) → IsTabl
     → IsTable (with_region new rs)
 IsTable-with_region rs new i t some within free room e = record {
   in_order = LieFrom-with_region 0 new rs t.in_order (omega arith) some within free;
-  at_most = rw (with_region-insert new rs i e) (omega (arith, length-insert rs i new (omega (arith, prefix_len-le-length (begins_by new.first) rs))));
+  at_most = rw (with_region-insert new rs i e)
+      (omega (arith, length-insert rs i new (omega (arith, prefix_len-le-length (begins_by new.first) rs))));
 }
 
 pub IsTable-without_region : (rs : List Region) (page i : ℕ) → IsTable rs → position (has_page page) rs ≡ Some i → (d : Region)
@@ -386,6 +414,7 @@ module _ (rs : List Region) (page by i : ℕ) (place : Some i ≡ position (has_
     pub grow_reply-far : 1048576 < end_of (get_or rs i blank) + by → grow_reply rs page by ≡ OutOfSpace
     grow_reply-far far = reply-at ∙ at-growing _ ∙ cond-true _ _ _ (lt-ltb 1048576 _ far)
 
-    pub grow_reply-near : (meets : Bool) → end_of (get_or rs i blank) + by ≤ 1048576 → meets ≡ list_any (meets_range (end_of (get_or rs i blank)) by) rs → grow_reply rs page by ≡ cond meets Overlap Done
+    pub grow_reply-near : (meets : Bool) → end_of (get_or rs i blank) + by ≤ 1048576
+        → meets ≡ list_any (meets_range (end_of (get_or rs i blank)) by) rs → grow_reply rs page by ≡ cond meets Overlap Done
     grow_reply-near meets near is =
         reply-at ∙ at-growing _ ∙ cond-false _ _ _ (le-ltb 1048576 _ near) ∙ ap (λ b. cond b Overlap Done) (sym is)

@@ -26,8 +26,8 @@ use Rattle.space_core.specs.Tables.{mapping_in, frame_in, word_in}
 use Rattle.space_core.specs.Translating.{CleansPage}
 use Rattle.space_core.proofs.TableLemmas.{dirty_in-absent, cleans_none}
 use Rattle.space_core.proofs.Translations.{Still}
-use Rattle.space_core.proofs.SameView.{next_stands}
-use Rattle.space_core.proofs.SavedCopies.{with_flat, cleaned_resting, cleaned_same, cleaned_out, fails_to_write, leaves_unwritten, none_in, cleaned_reads, IsSaved, saved, copied_aside, store_frames, store_reads, store_resting, store_still}
+use Rattle.space_core.proofs.SameView.{next_stands, none_in}
+use Rattle.space_core.proofs.SavedCopies.{with_flat, cleaned_resting, cleaned_same, cleaned_out, fails_to_write, leaves_unwritten, cleaned_reads, CopiesOut, IsSaved, saved, copied_aside, store_frames, store_reads, store_resting, store_still}
 
 -- a page with a region is written where it is dirty
 sync_asked : (o : Option Region) (dirty : Bool) → is_some o ≡ true → sync_reply o dirty ≡ copied_reply dirty
@@ -50,7 +50,8 @@ alone_sync : (space page : ℕ) (written : Bool) → is_answered_alone (Sync spa
 alone_sync space page true = refl
 alone_sync space page false = refl
 
-pub allowed_copied : (st : SpaceState) (c : ℕ) (call : Call) (written : Bool) → reply_of st.flat call ≡ copied_reply written → HasItsPages st c call → ReplyAllowed st c call (copied_reply written)
+pub allowed_copied : (st : SpaceState) (c : ℕ) (call : Call) (written : Bool) → reply_of st.flat call ≡ copied_reply written
+    → HasItsPages st c call → ReplyAllowed st c call (copied_reply written)
 allowed_copied st c call true asked has = (asked, λ l. has)
 allowed_copied st c call false asked has = (asked, λ l. has)
 
@@ -61,46 +62,54 @@ copied_after f call false = refl
 -- a flat memory with the page written to its copy where the call was lawful
 abbrev out_if : Flat → ℕ → Bool → Flat
 out_if f page lawful =
-    record {
-      regions = f.regions;
-      rights = f.rights;
-      words = f.words;
+    record f {
       copies = λ p. if lawful && (p == page) then Some (f.words p) else f.copies p;
       dirty = λ p. if lawful && (p == page) then false else f.dirty p;
     }
 
 -- a lawful sync does what paging out does, and so does a lawful evict
-pub sync_outs : (f : Flat) (space page : ℕ) (written : Bool) → reply_of f (Sync space page) ≡ copied_reply written → answered_flat f (Sync space page) (copied_reply written) ≡ out f page
+pub sync_outs : (f : Flat) (space page : ℕ) (written : Bool) → reply_of f (Sync space page) ≡ copied_reply written
+    → answered_flat f (Sync space page) (copied_reply written) ≡ out f page
 sync_outs f space page written asked =
     copied_after f (Sync space page) written ∙ ap (out_if f page) (ap is_lawful asked ∙ copied_lawful written)
 
-pub evict_outs : (f : Flat) (space page : ℕ) (written : Bool) → reply_of f (Evict space page) ≡ copied_reply written → answered_flat f (Evict space page) (copied_reply written) ≡ out f page
+pub evict_outs : (f : Flat) (space page : ℕ) (written : Bool) → reply_of f (Evict space page) ≡ copied_reply written
+    → answered_flat f (Evict space page) (copied_reply written) ≡ out f page
 evict_outs f space page written asked =
     copied_after f (Evict space page) written ∙ ap (out_if f page) (ap is_lawful asked ∙ copied_lawful written)
 
 -- the page's copy is saved, the page is clean then, and the sync is answered
-pub syncs : (old mid new : Kept) (c page : ℕ) (written : Bool) → IsResting old → is_some (region_at old.regions page) ≡ true → Saves old mid page written → CleansPage mid new page → BeginsAnswered old new c (Sync old.number page) (record { reply = copied_reply written; hit = false; size = None })
-syncs old mid new c page written resting has saves cleans =
-    let same = cleaned_same old mid new page written resting saves cleans in
+pub syncs : (old new : Kept) (c page : ℕ) (written : Bool) → IsResting old → is_some (region_at old.regions page) ≡ true
+    → CopiesOut old new page written
+    → BeginsAnswered old new c (Sync old.number page) (record { reply = copied_reply written; hit = false; size = None })
+syncs old new c page written resting has copies =
+    let same = cleaned_same old new page written resting copies in
     let asked : (st : SpaceState) → StandsFor old st → reply_of st.flat (Sync old.number page) ≡ copied_reply written = λ st s.
-    sync_asked _ _ (ap (λ rs. is_some (region_at rs page)) s.beside.regions ∙ has) ∙ ap copied_reply (s.beside.dirty page (none_in old resting page) ∙ saves.was) in
+    sync_asked _ _ (ap (λ rs. is_some (region_at rs page)) s.beside.regions ∙ has)
+    ∙ ap copied_reply (s.beside.dirty page (none_in old resting page) ∙ copies.saves.was) in
     record {
       alone = alone_sync old.number page written;
       same_number = same.same.number;
       same_frames = same.same.frames;
       same_processors = same.same.processors;
-      unread = cleaned_reads old mid new page written resting saves cleans;
-      resting = cleaned_resting old mid new page written resting saves cleans;
+      unread = cleaned_reads old new page written resting copies;
+      resting = cleaned_resting old new page written resting copies;
       answers = record {
-        allowed = λ st s n. record { reply = allowed_copied st c (Sync old.number page) written (asked st s) tt; parts = refl; hit = refl; size = refl };
+        allowed = λ st s n. record {
+          reply = allowed_copied st c (Sync old.number page) written (asked st s) tt;
+          parts = refl;
+          hit = refl;
+          size = refl;
+        };
         stands = λ st s n. subst (λ (f : Flat). StandsFor new (with_flat st c Anyone f))
-            (sym (sync_outs st.flat old.number page written (asked st s))) (cleaned_out old mid new page written resting saves cleans st c Anyone s);
+            (sym (sync_outs st.flat old.number page written (asked st s))) (cleaned_out old new page written resting copies st c Anyone s);
       };
       memory = λ lacking. absurd (no_memory written lacking);
     }
 
 -- a sync or an evict of a dirty page meets want of memory
-may_fail : (call : Call) (page : ℕ) (st : SpaceState) → copied_page call ≡ Some page → may_copy call (region_at st.flat.regions page) ≡ true → st.flat.dirty page ≡ true → MayFail st call
+may_fail : (call : Call) (page : ℕ) (st : SpaceState) → copied_page call ≡ Some page → may_copy call (region_at st.flat.regions page) ≡ true
+    → st.flat.dirty page ≡ true → MayFail st call
 may_fail (Sync space p) page st is may dirty = rw (same_Some _ _ is) (sync_asked _ _ may ∙ ap copied_reply dirty)
 may_fail (Evict space p) page st is may dirty = rw (same_Some _ _ is) (evict_asked _ _ may ∙ ap copied_reply dirty)
 may_fail call page st is may dirty = cc
@@ -115,21 +124,42 @@ frees_none st (Evict space p) = refl
 frees_none st call = refl
 
 -- want of memory changes nothing
-lacking_stands : (k : Kept) (st : SpaceState) (call : Call) (page : ℕ) → copied_page call ≡ Some page → StandsFor k st → (c n : ℕ) → StandsFor k (space_after st (answer_entry c n call (record { reply = NoMemory; hit = false; size = None })))
+lacking_stands : (k : Kept) (st : SpaceState) (call : Call) (page : ℕ) → copied_page call ≡ Some page → StandsFor k st → (c n : ℕ)
+    → StandsFor k (space_after st (answer_entry c n call (record { reply = NoMemory; hit = false; size = None })))
 lacking_stands k st (Sync space p) page is s c n =
-    next_stands k st (space_after st (answer_entry c n (Sync space p) (record { reply = NoMemory; hit = false; size = None }))) c (record { regions = refl; rights = λ q. refl; told = refl })
-    (λ q. record { dirty = refl; words = λ i. refl; copies = refl; tied = λ i. refl }) (λ q. refl) refl (λ q. refl) (record { sizes = refl; images = refl; promotions = refl; demotions = refl }) s
+    next_stands k st (space_after st (answer_entry c n (Sync space p) (record {
+      reply = NoMemory;
+      hit = false;
+      size = None;
+    }))) c (record { regions = refl; rights = λ q. refl; told = refl })
+    (λ q. record {
+      dirty = refl;
+      words = λ i. refl;
+      copies = refl;
+      tied = λ i. refl;
+    }) (λ q. refl) refl (λ q. refl) (record { sizes = refl; images = refl; promotions = refl; demotions = refl }) s
 lacking_stands k st (Evict space p) page is s c n =
-    next_stands k st (space_after st (answer_entry c n (Evict space p) (record { reply = NoMemory; hit = false; size = None }))) c (record { regions = refl; rights = λ q. refl; told = refl })
-    (λ q. record { dirty = refl; words = λ i. refl; copies = refl; tied = λ i. refl }) (λ q. refl) refl (λ q. refl) (record { sizes = refl; images = refl; promotions = refl; demotions = refl }) s
+    next_stands k st (space_after st (answer_entry c n (Evict space p) (record {
+      reply = NoMemory;
+      hit = false;
+      size = None;
+    }))) c (record { regions = refl; rights = λ q. refl; told = refl })
+    (λ q. record {
+      dirty = refl;
+      words = λ i. refl;
+      copies = refl;
+      tied = λ i. refl;
+    }) (λ q. refl) refl (λ q. refl) (record { sizes = refl; images = refl; promotions = refl; demotions = refl }) s
 lacking_stands k st call page is s c n = cc
 
 module _ (old new : Kept) (c page : ℕ) (resting : IsResting old) where
-  lacking : (call : Call) → copied_page call ≡ Some page → may_copy call (region_at old.regions page) ≡ true → LacksRoom old new page → BeginsAnswered old new c call (record { reply = NoMemory; hit = false; size = None })
+  lacking : (call : Call) → copied_page call ≡ Some page → may_copy call (region_at old.regions page) ≡ true → LacksRoom old new page
+      → BeginsAnswered old new c call (record { reply = NoMemory; hit = false; size = None })
   lacking call is may lacks =
       let leaves = leaves_unwritten old resting new page lacks in
       let may_at : (st : SpaceState) → StandsFor old st → MayFail st call = λ st s.
-      may_fail call page st is (ap (λ rs. may_copy call (region_at rs page)) s.beside.regions ∙ may) (s.beside.dirty page (none_in old resting page) ∙ lacks.dirty) in
+      may_fail call page st is (ap (λ rs. may_copy call (region_at rs page)) s.beside.regions ∙ may)
+      (s.beside.dirty page (none_in old resting page) ∙ lacks.dirty) in
       record {
         alone = lacking_alone call page is;
         same_number = leaves.same.same.number;
@@ -142,7 +172,11 @@ module _ (old new : Kept) (c page : ℕ) (resting : IsResting old) where
             reply = may_at st s;
             parts = frees_none st call;
             hit = ap (λ o. is_in_image (st.images c) (tile_at st.sizes (pages_of st) o)) (sym (served-unlawful call NoMemory refl));
-            size = ap (λ o. option_map (λ (t : Tile). t.extent.size) (tile_at st.sizes (pages_after st false (Answer n call (record { reply = NoMemory; hit = false; size = None }))) o)) (sym (served-unlawful call NoMemory refl));
+            size = ap (λ o. option_map (λ (t : Tile). t.extent.size) (tile_at st.sizes (pages_after st false (Answer n call (record {
+              reply = NoMemory;
+              hit = false;
+              size = None;
+            }))) o)) (sym (served-unlawful call NoMemory refl));
           };
           stands = λ st s n. lacking_stands new st call page is (leaves.stands st s) c n;
         };
@@ -150,33 +184,53 @@ module _ (old new : Kept) (c page : ℕ) (resting : IsResting old) where
       }
 
   -- a sync or an evict whose copy was not written
-  pub begins_unwritten : (call : Call) (fault : OutFault) → copied_page call ≡ Some page → may_copy call (region_at old.regions page) ≡ true → ((count : ℕ) → fault ≡ OutFailed count → FailsToSave old new page count) → (fault ≡ OutNoMemory → LacksRoom old new page) → Begins old new c call (unwritten_by page fault)
+  pub begins_unwritten : (call : Call) (fault : OutFault) → copied_page call ≡ Some page → may_copy call (region_at old.regions page) ≡ true
+      → ((count : ℕ) → fault ≡ OutFailed count → FailsToSave old new page count) → (fault ≡ OutNoMemory → LacksRoom old new page)
+      → Begins old new c call (unwritten_by page fault)
   begins_unwritten call (OutFailed count) is may failed lacks =
       let fails = fails_to_write old resting new page count (failed count refl) in
-      record { must = record { is = is; may = ap (λ rs. may_copy call (region_at rs page)) fails.same.same.regions ∙ may; dirty = fails.dirty }; fails = fails }
+      record {
+        must = record { is = is; may = ap (λ rs. may_copy call (region_at rs page)) fails.same.same.regions ∙ may; dirty = fails.dirty };
+        fails = fails;
+      }
   begins_unwritten call OutNoMemory is may failed lacks = lacking call is may (lacks refl)
 
 -- a region that isn't wired
-pub unwired_at : (regions : List Region) (page : ℕ) (r : Region) → region_at regions page ≡ Some r → is_wired r ≡ false → is_unwired (region_at regions page) ≡ true
+pub unwired_at : (regions : List Region) (page : ℕ) (r : Region) → region_at regions page ≡ Some r → is_wired r ≡ false
+    → is_unwired (region_at regions page) ≡ true
 unwired_at regions page r at other = ap is_unwired at ∙ ap not other
 
 -- a page of a wired region is not evicted
-pub evict_denied : (regions : List Region) (page : ℕ) (r : Region) → region_at regions page ≡ Some r → is_wired r ≡ true → (dirty : Bool) → evict_reply (region_at regions page) dirty ≡ Denied
+pub evict_denied : (regions : List Region) (page : ℕ) (r : Region) → region_at regions page ≡ Some r → is_wired r ≡ true → (dirty : Bool)
+    → evict_reply (region_at regions page) dirty ≡ Denied
 evict_denied regions page r at wired dirty = ap (λ o. evict_reply o dirty) at ∙ cond-true _ _ _ wired
 
 -- nothing is done for a clean page
 saves_clean : (old : Kept) (page : ℕ) → dirty_at old page ≡ false → Saves old old page false
-saves_clean old page clean = record { was = clean; same = refl; wrote = λ e. absurd (false≢true e); left = λ _. refl; never_falls = omega arith }
+saves_clean old page clean = record {
+  was = clean;
+  same = refl;
+  wrote = λ e. absurd (false≢true e);
+  left = λ _. refl;
+  never_falls = omega arith;
+}
 
 cleans_clean : (old : Kept) (page : ℕ) → dirty_at old page ≡ false → CleansPage old old page
-cleans_clean old page clean = record { same = refl; table = cleans_none old.table page clean; retouched = λ dirty. absurd (false≢true (sym clean ∙ dirty)); as_it_was = λ _. refl }
+cleans_clean old page clean = record {
+  same = refl;
+  table = cleans_none old.table page clean;
+  retouched = λ dirty. absurd (false≢true (sym clean ∙ dirty));
+  as_it_was = λ _. refl;
+}
 
 -- a page without a frame is clean, and its evict gives nothing up
-pub evicts_absent : (old : Kept) (c page : ℕ) → IsResting old → is_unwired (region_at old.regions page) ≡ true → frame_at old page ≡ None → BeginsAnswered old old c (Evict old.number page) (record { reply = Clean; hit = false; size = None })
+pub evicts_absent : (old : Kept) (c page : ℕ) → IsResting old → is_unwired (region_at old.regions page) ≡ true → frame_at old page ≡ None
+    → BeginsAnswered old old c (Evict old.number page) (record { reply = Clean; hit = false; size = None })
 evicts_absent old c page resting unwired absent =
     let clean : dirty_at old page ≡ false = dirty_in-absent old.table page absent in
     let asked : (st : SpaceState) → StandsFor old st → reply_of st.flat (Evict old.number page) ≡ Clean = λ st s.
-    evict_asked _ _ (ap (λ rs. is_unwired (region_at rs page)) s.beside.regions ∙ unwired) ∙ ap copied_reply (s.beside.dirty page (none_in old resting page) ∙ clean) in
+    evict_asked _ _ (ap (λ rs. is_unwired (region_at rs page)) s.beside.regions ∙ unwired)
+    ∙ ap copied_reply (s.beside.dirty page (none_in old resting page) ∙ clean) in
     record {
       alone = refl;
       same_number = refl;
@@ -185,9 +239,18 @@ evicts_absent old c page resting unwired absent =
       unread = refl;
       resting = resting;
       answers = record {
-        allowed = λ st s n. record { reply = (asked st s, λ l. tt); parts = sym (ap is_some (s.base page ∙ absent)); hit = refl; size = refl };
+        allowed = λ st s n. record {
+          reply = (asked st s, λ l. tt);
+          parts = sym (ap is_some (s.base page ∙ absent));
+          hit = refl;
+          size = refl;
+        };
         stands = λ st s n. subst (λ (f : Flat). StandsFor old (with_flat st c Anyone f))
-            (sym (evict_outs st.flat old.number page false (asked st s))) (cleaned_out old old old page false resting (saves_clean old page clean) (cleans_clean old page clean) st c Anyone s);
+            (sym (evict_outs st.flat old.number page false (asked st s))) (cleaned_out old old page false resting (record {
+              mid = old;
+              saves = saves_clean old page clean;
+              cleans = cleans_clean old page clean;
+            }) st c Anyone s);
       };
       memory = λ lacking. absurd (no_memory false lacking);
     }
@@ -204,7 +267,9 @@ pub record PagesOut (old new : Kept) (page : ℕ) : Type 0 where
   pub still : Still old new
 
 -- the page's copy is saved, and the page gives its frame up next
-pub begins_evicting : (old mid new : Kept) (page : ℕ) (written : Bool) → IsResting old → page < 1048576 → is_unwired (region_at old.regions page) ≡ true → frame_at old page ≢ None → Saves old mid page written → PagesOut mid new page → BeginsEvicting old new (Evict old.number page) page written
+pub begins_evicting : (old mid new : Kept) (page : ℕ) (written : Bool) → IsResting old → page < 1048576
+    → is_unwired (region_at old.regions page) ≡ true → frame_at old page ≢ None → Saves old mid page written → PagesOut mid new page
+    → BeginsEvicting old new (Evict old.number page) page written
 begins_evicting old mid new page written resting in_space unwired resident saves outs =
     let stored = store_frames old mid saves.same in
     let rested = store_resting old mid saves.same resting in
@@ -232,7 +297,19 @@ begins_evicting old mid new page written resting in_space unwired resident saves
       };
       same = record { same = same; frame = frame };
       unread = outs.unread ∙ store_reads old mid saves.same;
-      stands = copied_aside old resting new page same clearing pending frame (λ p i. ap (λ t. word_in t p i) table)
-          (subst (λ (store : Stored). IsSaved old store page) (sym outs.store) (saved old resting mid page written saves)) (λ p. ap (λ t. mapping_in t p) table)
-          (let still = store_still old mid saves.same in record { sizes = outs.still.sizes ∙ still.sizes; images = outs.still.images ∙ still.images; promotions = outs.still.promotions ∙ still.promotions; demotions = outs.still.demotions ∙ still.demotions }) outs.paged;
+      stands = copied_aside old resting new page
+          (record {
+            saved = subst (λ (store : Stored). IsSaved old store page) (sym outs.store) (saved old resting mid page written saves);
+            same = record { same = same; frame = frame };
+            word = λ p i. ap (λ t. word_in t p i) table;
+            none_pending = pending;
+            none_clearing = clearing;
+          })
+          (λ p. ap (λ t. mapping_in t p) table)
+          (let still = store_still old mid saves.same in record {
+            sizes = outs.still.sizes ∙ still.sizes;
+            images = outs.still.images ∙ still.images;
+            promotions = outs.still.promotions ∙ still.promotions;
+            demotions = outs.still.demotions ∙ still.demotions;
+          }) outs.paged;
     }

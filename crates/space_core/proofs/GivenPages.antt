@@ -31,7 +31,8 @@ pub record IsOnly (kept : Kept) (page : ℕ) : Type 0 where
   pub paged : (p : ℕ) → p ≢ page → is_that p kept.paged ≡ false
 
 -- a page may be removed that is pending, or where none is
-pub clean_only : (kept : Kept) (page : ℕ) → kept.clearing ≡ None → kept.paged ≡ None → ((p : ℕ) → kept.pending ≡ Some p → p ≡ page) → IsOnly kept page
+pub clean_only : (kept : Kept) (page : ℕ) → kept.clearing ≡ None → kept.paged ≡ None → ((p : ℕ) → kept.pending ≡ Some p → p ≡ page)
+    → IsOnly kept page
 clean_only kept page none_clearing none_paged only =
     record { none_clearing = none_clearing; pending = none_other kept.pending only; paged = λ p n. ap (is_that p) none_paged }
   where
@@ -53,23 +54,41 @@ evicting_unbehind kept page is = and_right _ _ (ap not (ap (is_that page) is.pag
 -- an evict's page gives its frame up
 abbrev evicted : ℕ → ℕ → SpaceState → Flat → SpaceState
 evicted c page st f =
-    record {
-      sizes = st.sizes;
+    record st {
       flat = f;
       base = λ p. if p == page then None else st.base p;
       next = Anyone;
-      told = st.told;
-      tied = st.tied;
-      highest = st.highest;
       images = images_with st.sizes (mappings f (λ p. if p == page then None else st.base p)) c None st.images;
       promotions = st.promotions + promotions_in st.sizes (pages_of st) (mappings f (λ p. if p == page then None else st.base p));
       demotions = st.demotions + demotions_in st.sizes (pages_of st) (mappings f (λ p. if p == page then None else st.base p));
     }
 
-module _ (old new : Kept) (page frame : ℕ) (same : SameRegions old new) (only : IsOnly old page) (resting : IsResting new)
-    (store : new.store ≡ old.store) (unread : new.reads ≡ old.reads) (had : frame_at old page ≡ Some frame) (moves : Maps page None old.table new.table) (retouched : Retouches old new) (unbehind : is_behind old page ≡ false) where
+-- A page that may be removed gives its frame up, and the images and the counts of moves follow.
+pub record GivesFrame (old new : Kept) (page frame : ℕ) : Type 0 where
+  pub only : IsOnly old page
+  pub unbehind : is_behind old page ≡ false
+  pub had : frame_at old page ≡ Some frame
+  pub moves : Maps page None old.table new.table
+  pub retouched : Retouches old new
+  pub resting : IsResting new
+  pub same : SameRegions old new
+  pub store : new.store ≡ old.store
+  pub unread : new.reads ≡ old.reads
+
+module _ (old new : Kept) (page frame : ℕ) (gives : GivesFrame old new page frame) where
+  abbrev moves : Maps page None old.table new.table
+  moves = gives.moves
+
+  abbrev resting : IsResting new
+  resting = gives.resting
+
   whole : SameWhole old new
-  whole = record { regions = same.regions; rights = same.rights; tells = ap (λ (s : Stored). s.tells) store; faults = omega (arith, ap (λ (s : Stored). s.faults) store) }
+  whole = record {
+    regions = gives.same.regions;
+    rights = gives.same.rights;
+    tells = ap (λ (s : Stored). s.tells) gives.store;
+    faults = omega (arith, ap (λ (s : Stored). s.faults) gives.store);
+  }
 
   this : (page == page) ≡ true
   this = eq-eqb page page refl
@@ -84,93 +103,113 @@ module _ (old new : Kept) (page frame : ℕ) (same : SameRegions old new) (only 
   clean_after = maps_dirty page None old.table new.table moves page ∙ cond-true _ _ _ this
 
   pub gave_up : GaveUp old new page frame
-  gave_up = record { had = had; same = same; unread = unread; gone = gone; same_others = frame_other }
+  gave_up = record { had = gives.had; same = gives.same; unread = gives.unread; gone = gone; same_others = frame_other }
 
   at_other : (p : ℕ) → p ≢ page → SameAt old new p
   at_other p n =
       record {
         frame = frame_other p n;
         dirty = maps_dirty page None old.table new.table moves p ∙ cond-false _ _ _ (ne_eqb p page n);
-        pending = ap (is_that p) resting.none_pending ∙ sym (only.pending p n);
-        paged = ap (is_that p) resting.none_paged ∙ sym (only.paged p n);
+        pending = ap (is_that p) resting.none_pending ∙ sym (gives.only.pending p n);
+        paged = ap (is_that p) resting.none_paged ∙ sym (gives.only.paged p n);
         word = λ i _. moves.word p i n;
-        copy = λ _. ap (λ s. copy_at s p) store;
+        copy = λ _. ap (λ s. copy_at s p) gives.store;
       }
 
   unsettled : is_settled new page ≡ false
   unsettled = ap (λ o. is_some o && not (is_that page new.pending)) gone
 
   out_of : is_in old.clearing page ≡ false
-  out_of = ap (λ (r : Option PageRange). is_in r page) only.none_clearing
+  out_of = ap (λ (r : Option PageRange). is_in r page) gives.only.none_clearing
 
   -- the page without a frame has its copy's words, as before
   copied_after : IsCopied old page → IsCopied new page
   copied_after is =
-      let known = ap (λ s. copy_at s page) store ∙ is.known in
+      let known = ap (λ s. copy_at s page) gives.store ∙ is.known in
       record { words = is.words; known = known; equal = λ i. cond-false _ _ _ unsettled ∙ ap (λ copy. word_in_copy copy i) known }
 
   -- what is said of the other pages is as before
-  is_said : (st after : SpaceState) → ((p : ℕ) → pages_of after p ≡ (if p == page then None else pages_of st p)) → StandsFor old st → (p : ℕ) → pages_of after p ≡ mapping_in new.table p
+  is_said : (st after : SpaceState) → ((p : ℕ) → pages_of after p ≡ (if p == page then None else pages_of st p)) → StandsFor old st
+      → (p : ℕ) → pages_of after p ≡ mapping_in new.table p
   is_said st after said s p = said p ∙ ap (λ (o : Option Mapping). if p == page then None else o) (s.pages p) ∙ sym (moves.mapping p)
 
   -- in each state in which the page lost its frame and is clean
-  pub gives_up : (st after : SpaceState) → SameRest st after → after.highest ≡ st.highest → ((p : ℕ) → p ≢ page → SameStateAt st after p) → ((p : ℕ) → p ≢ page → after.base p ≡ st.base p)
+  pub gives_up : (st after : SpaceState) → SameRest st after → after.highest ≡ st.highest → ((p : ℕ) → p ≢ page → SameStateAt st after p)
+      → ((p : ℕ) → p ≢ page → after.base p ≡ st.base p)
       → after.base page ≡ None → after.flat.dirty page ≡ false → ((i : ℕ) → after.flat.words page i ≡ st.flat.words page i)
-      → (st.told ≡ true → IsCopied old page → ((i : ℕ) → st.flat.words page i ≡ word_at old page i) → IsCopy (after.flat.copies page) (copy_at old.store page))
+      → (st.told ≡ true → IsCopied old page → ((i : ℕ) → st.flat.words page i ≡ word_at old page i)
+      → IsCopy (after.flat.copies page) (copy_at old.store page))
       → (c : ℕ) → Follows st after c None → ((p : ℕ) → pages_of after p ≡ (if p == page then None else pages_of st p))
       → StandsFor old st → StandsFor new after
   unfolding copied_after
   gives_up st after rest highest others base none clean words copies c follows said s =
       let b = s.beside in
-      one_stands old new st after page whole (resting.none_clearing ∙ sym only.none_clearing) rest (omega (arith, highest, b.highest, whole.faults)) at_other others base s
+      one_stands old new st after page whole (resting.none_clearing ∙ sym gives.only.none_clearing) rest
+      (omega (arith, highest, b.highest, whole.faults)) at_other others base s
       (record {
         dirty = λ _. clean ∙ sym clean_after;
         words = λ told out i.
             let was = b.told (sym rest.told ∙ told) in
-            let is = was.copied page out unbehind in
+            let is = was.copied page out gives.unbehind in
             words i ∙ was.words page i out ∙ is.equal i ∙ sym ((copied_after is).equal i);
         copies = λ told out _.
             let was = b.told (sym rest.told ∙ told) in
-            subst (λ (t : Stored). IsCopy (after.flat.copies page) (copy_at t page)) (sym store)
-            (copies (sym rest.told ∙ told) (was.copied page out unbehind) (λ i. was.words page i out));
-        copied = λ told out _. copied_after ((b.told (sym rest.told ∙ told)).copied page out unbehind);
+            subst (λ (t : Stored). IsCopy (after.flat.copies page) (copy_at t page)) (sym gives.store)
+            (copies (sym rest.told ∙ told) (was.copied page out gives.unbehind) (λ i. was.words page i out));
+        copied = λ told out _. copied_after ((b.told (sym rest.told ∙ told)).copied page out gives.unbehind);
         tied = λ i w tied is. absurd (true≢false (sym is ∙ unsettled));
         untied = λ i is. absurd (true≢false (sym is ∙ ap (is_that page) resting.none_pending));
       })
-      (none ∙ sym gone) (is_said st after said s) (retouches old new st after c follows s.translates s.pages (is_said st after said s) retouched)
+      (none ∙ sym gone) (is_said st after said s) (retouches old new st after c (record {
+        stands = s;
+        follows = follows;
+        pages = is_said st after said s;
+      }) gives.retouched)
 
   pub removes : dirty_at old page ≡ false → old.paged ≡ None → Removes old new page frame
   removes clean unpaged =
       record {
         gave = gave_up;
         resting = resting;
-        allowed = λ st s c. (s.base page ∙ had, s.beside.dirty page out_of ∙ clean);
-        stands = λ st s c. gives_up st (space_after st (give_entry c old.number page frame)) (record { regions = refl; rights = λ p. refl; told = refl }) refl
+        allowed = λ st s c. (s.base page ∙ gives.had, s.beside.dirty page out_of ∙ clean);
+        stands = λ st s c. gives_up st (space_after st (give_entry c old.number page frame))
+            (record { regions = refl; rights = λ p. refl; told = refl }) refl
             (λ p n. record { dirty = refl; words = λ i. refl; copies = refl; tied = λ i. refl })
             (λ p n. cond-false _ _ _ (ne_eqb p page n)) (cond-true _ _ _ this) (s.beside.dirty page out_of ∙ clean) (λ i. refl)
             (λ told is words. (s.beside.told told).copies page out_of (ap (is_that page) unpaged))
-            c (record { sizes = refl; images = refl; promotions = refl; demotions = refl }) (λ p. said_gone (p == page) (st.flat.dirty p) (st.base p) (region_at st.flat.regions p) (st.flat.rights p)) s;
+            c (record { sizes = refl; images = refl; promotions = refl; demotions = refl })
+            (λ p. said_gone (p == page) (st.flat.dirty p) (st.base p) (region_at st.flat.regions p) (st.flat.rights p)) s;
       }
 
   -- the page's copy was written before, and the answer tells whether
-  pub evicts : (written : Bool) → dirty_at old page ≡ written → is_unwired (region_at old.regions page) ≡ true → Evicts old new page frame (record { reply = copied_reply written; hit = false; size = None })
+  pub evicts : (written : Bool) → dirty_at old page ≡ written → is_unwired (region_at old.regions page) ≡ true
+      → Evicts old new page frame (record { reply = copied_reply written; hit = false; size = None })
   evicts written was unwired =
       let asked : (st : SpaceState) → StandsFor old st → reply_of st.flat (Evict old.number page) ≡ copied_reply written = λ st s.
-      evict_asked _ _ (ap (λ rs. is_unwired (region_at rs page)) s.beside.regions ∙ unwired) ∙ ap copied_reply (s.beside.dirty page out_of ∙ was) in
+      evict_asked _ _ (ap (λ rs. is_unwired (region_at rs page)) s.beside.regions ∙ unwired)
+      ∙ ap copied_reply (s.beside.dirty page out_of ∙ was) in
       record {
         gave = gave_up;
         replied = ap copied_reply (sym was);
         resting = resting;
         allowed = λ st s c n. record {
           reply = allowed_copied st c (Evict old.number page) written (asked st s) tt;
-          parts = sym (rw (copied_lawful written, s.base page, had) refl);
+          parts = sym (rw (copied_lawful written, s.base page, gives.had) refl);
           hit = refl;
           size = refl;
         };
-        stands = λ st s c n. subst (λ (f : Flat). StandsFor new (evicted c page st f)) (sym (evict_outs st.flat old.number page written (asked st s)))
+        stands =
+            λ st s c n. subst (λ (f : Flat). StandsFor new (evicted c page st f))
+            (sym (evict_outs st.flat old.number page written (asked st s)))
             (gives_up st (evicted c page st (out st.flat page)) (record { regions = refl; rights = λ p. refl; told = refl }) refl
-            (λ p n. record { dirty = cond-false _ _ _ (ne_eqb p page n); words = λ i. refl; copies = cond-false _ _ _ (ne_eqb p page n); tied = λ i. refl })
+            (λ p n. record {
+              dirty = cond-false _ _ _ (ne_eqb p page n);
+              words = λ i. refl;
+              copies = cond-false _ _ _ (ne_eqb p page n);
+              tied = λ i. refl;
+            })
             (λ p n. cond-false _ _ _ (ne_eqb p page n)) (cond-true _ _ _ this) (cond-true _ _ _ this) (λ i. refl)
             (λ told is words. rw (this, is.known) (λ i. words i ∙ is.equal i))
-            c (record { sizes = refl; images = refl; promotions = refl; demotions = refl }) (λ p. said_out (p == page) (st.flat.dirty p) (st.base p) (region_at st.flat.regions p) (st.flat.rights p)) s);
+            c (record { sizes = refl; images = refl; promotions = refl; demotions = refl })
+            (λ p. said_out (p == page) (st.flat.dirty p) (st.base p) (region_at st.flat.regions p) (st.flat.rights p)) s);
       }

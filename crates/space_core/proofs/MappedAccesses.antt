@@ -7,13 +7,13 @@ use Rattle.pager_model.specs.declared.region.Region.{Region}
 use Rattle.pager_model.specs.declared.reply.Reply.TheVariants.{Denied}
 use Rattle.pager_model.specs.declared.tile.Mapping.{Mapping}
 use Rattle.pager_model.specs.Flat.{page_of, can_read, can_write}
-use Rattle.pager_model.specs.Regions.{region_at}
+use Rattle.pager_model.specs.Regions.{region_at, rights_by}
 use Rattle.pager_model.specs.SpaceStates.{access_page}
 use Rattle.space_core.specs.declared.space.Found.TheVariants.{Refused}
 use Rattle.space_core.specs.Beginning.{Finds, IsMappedBy}
 use Rattle.space_core.specs.Keeping.{IsMapped}
 use Rattle.space_core.specs.Pages.{permits}
-use Rattle.space_core.specs.Standing.{Kept, CanBegin, frame_at, is_allowed, rights_at, rights_by}
+use Rattle.space_core.specs.Standing.{Kept, CanBegin, frame_at, is_allowed, rights_at}
 use Rattle.space_core.specs.Tables.{mapping_in, own_in}
 use Rattle.space_core.proofs.Refusals.{begins_denied, denied_needs_none, rights_here}
 use Rattle.space_core.proofs.ServedPages.{AreMapped}
@@ -21,7 +21,8 @@ use Rattle.space_core.proofs.TableLemmas.{frame-mapped}
 use Rattle.tiles.specs.declared.base.Translation.{Translation}
 
 -- a region and its right allow an access
-region_allows : (kept : Kept) (call : Call) (page : ℕ) (r : Region) → access_page call ≡ Some page → region_at kept.regions page ≡ Some r → permits (rights_by (own_in kept.table page) (Some r)) call ≡ true → is_allowed kept call ≡ true
+region_allows : (kept : Kept) (call : Call) (page : ℕ) (r : Region) → access_page call ≡ Some page → region_at kept.regions page ≡ Some r
+    → permits (rights_by (own_in kept.table page) (Some r)) call ≡ true → is_allowed kept call ≡ true
 region_allows kept (Load space address) page r is at may =
     let here = rights_here kept (page_of address) page r (same_Some _ _ is) at in
     ap (λ b. b && can_read (rights_at kept (page_of address))) here.0 ∙ ap can_read here.1 ∙ may
@@ -31,7 +32,8 @@ region_allows kept (Store space address word) page r is at may =
 region_allows kept call page r is at may = absurd (none-some page is)
 
 -- so the rights of a resident page's mapping allow it, or deny it
-module _ (kept : Kept) (call : Call) (page : ℕ) (m : Mapping) (is : access_page call ≡ Some page) (mapped : AreMapped kept.regions kept.table) (at : mapping_in kept.table page ≡ Some m) where
+module _ (kept : Kept) (call : Call) (page : ℕ) (m : Mapping) (is : access_page call ≡ Some page)
+    (mapped : AreMapped kept.regions kept.table) (at : mapping_in kept.table page ≡ Some m) where
   here : IsMapped kept.regions kept.table page m
   here = mapped page m at
 

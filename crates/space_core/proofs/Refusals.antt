@@ -12,13 +12,13 @@ use Rattle.pager_model.specs.declared.tile.Tile.{Tile}
 use Rattle.pager_model.specs.Images.{is_in_image, images_with}
 use Rattle.pager_model.specs.Flat.{Flat, reply_of, is_lawful, after_call, access_reply, page_of, can_read, can_write}
 use Rattle.pager_model.specs.Order.{is_plain, is_no_memory, is_unmapped, is_answered_alone}
-use Rattle.pager_model.specs.Regions.{region_at, map_reply, grow_reply, grow_reply_at}
+use Rattle.pager_model.specs.Regions.{region_at, map_reply, grow_reply, grow_reply_at, rights_by}
 use Rattle.pager_model.specs.SpaceStates.{SpaceState, answered_flat, ReplyAllowed, access_page, pages_of, pages_after, tile_at, space_after}
 use Rattle.pager_model.proofs.SpaceEntries.{base-unnamed, frees-unlawful, said-unlawful, served-unlawful}
 use Rattle.pager_model.specs.Stores.{IsCopy}
 use Rattle.pager_laws.proofs.FlatRefusals.{after_refusal}
 use Rattle.space_core.specs.Beginning.{BeginsAnswered, NeedsNoFrame}
-use Rattle.space_core.specs.Standing.{Kept, StandsFor, IsResting, CanBegin, is_allowed, rights_at, rights_by}
+use Rattle.space_core.specs.Standing.{Kept, StandsFor, IsResting, CanBegin, is_allowed, rights_at}
 use Rattle.pager_model.specs.CallEntries.{answer_entry}
 use Rattle.pager_model.specs.Stored.{copy_at}
 use Rattle.space_core.specs.Pages.{permits}
@@ -44,7 +44,8 @@ refusal-lawful NotGrowing h = refl
 refusal-lawful RegionsFull h = refl
 refusal-lawful r h = cc
 
-answered_refused : (f : Flat) (call : Call) (r : Reply) → is_refusal r ≡ true → reply_of f call ≡ r → answered_flat f call r ≡ after_call f call
+answered_refused : (f : Flat) (call : Call) (r : Reply) → is_refusal r ≡ true → reply_of f call ≡ r
+    → answered_flat f call r ≡ after_call f call
 answered_refused f call Unmapped h e = refl
 answered_refused f call Denied h e = refl
 answered_refused f call Overlap h e = refl
@@ -53,7 +54,8 @@ answered_refused f call NotGrowing h e = refl
 answered_refused f call RegionsFull h e = refl
 answered_refused f call r h e = cc
 
-allowed_refused : (st : SpaceState) (c : ℕ) (call : Call) (r : Reply) → is_refusal r ≡ true → reply_of st.flat call ≡ r → ReplyAllowed st c call r
+allowed_refused : (st : SpaceState) (c : ℕ) (call : Call) (r : Reply) → is_refusal r ≡ true → reply_of st.flat call ≡ r
+    → ReplyAllowed st c call r
 allowed_refused st c call Unmapped h e = (e, λ l. cc)
 allowed_refused st c call Denied h e = (e, λ l. cc)
 allowed_refused st c call Overlap h e = (e, λ l. cc)
@@ -89,7 +91,9 @@ alone_from (Evict space page) r can h a = ap (λ b. b || is_no_memory r) (plain_
 no_memory_refused : (r : Reply) → is_refusal r ≡ true → r ≢ NoMemory
 no_memory_refused r h e = true≢false (sym h ∙ ap is_refusal e)
 
-pub begins_refused : (old : Kept) (c : ℕ) (call : Call) (r : Reply) → CanBegin call → IsResting old → is_refusal r ≡ true → IsAlone call r → ((st : SpaceState) → StandsFor old st → reply_of st.flat call ≡ r) → BeginsAnswered old old c call (record { reply = r; hit = false; size = None })
+pub begins_refused : (old : Kept) (c : ℕ) (call : Call) (r : Reply) → CanBegin call → IsResting old → is_refusal r ≡ true → IsAlone call r
+    → ((st : SpaceState) → StandsFor old st → reply_of st.flat call ≡ r)
+    → BeginsAnswered old old c call (record { reply = r; hit = false; size = None })
 begins_refused old c call r can resting refused alone asked =
     record {
       alone = alone_from call r can refused alone;
@@ -102,15 +106,21 @@ begins_refused old c call r can resting refused alone asked =
         allowed = λ st s number. record {
           reply = allowed_refused st c call r refused (asked st s);
           parts = frees-unlawful st call r (refusal-lawful r refused);
-          hit = ap (λ o. is_in_image (st.images c) (tile_at st.sizes (pages_of st) o)) (sym (served-unlawful call r (refusal-lawful r refused)));
-          size = ap (λ o. option_map (λ (t : Tile). t.extent.size) (tile_at st.sizes (pages_after st false (Answer number call (record { reply = r; hit = false; size = None }))) o)) (sym (served-unlawful call r (refusal-lawful r refused)));
+          hit = ap (λ o. is_in_image (st.images c) (tile_at st.sizes (pages_of st) o))
+              (sym (served-unlawful call r (refusal-lawful r refused)));
+          size = ap (λ o. option_map (λ (t : Tile). t.extent.size) (tile_at st.sizes (pages_after st false (Answer number call (record {
+            reply = r;
+            hit = false;
+            size = None;
+          }))) o)) (sym (served-unlawful call r (refusal-lawful r refused)));
         };
         stands = λ st s number.
             let after = space_after st (answer_entry c number call (record { reply = r; hit = false; size = None })) in
             let e = answered_refused st.flat call r refused (asked st s) in
             let u = after_refusal st.flat call (ap is_lawful (asked st s) ∙ refusal-lawful r refused) in
             let is : (p : ℕ) → pages_of after p ≡ mapping_in old.table p = λ p.
-            said_same st after p (ap (λ f. f.regions) e ∙ u.regions) (ap (λ f. f.rights p) e ∙ u.rights p) (ap (λ f. f.dirty p) e ∙ u.dirty p) (base-unnamed st.base call p) ∙ s.pages p in
+            said_same st after p (ap (λ f. f.regions) e ∙ u.regions) (ap (λ f. f.rights p) e ∙ u.rights p)
+            (ap (λ f. f.dirty p) e ∙ u.dirty p) (base-unnamed st.base call p) ∙ s.pages p in
             record {
               beside = record {
                 regions = ap (λ f. f.regions) e ∙ u.regions ∙ s.beside.regions;
@@ -119,40 +129,58 @@ begins_refused old c call r can resting refused alone asked =
                 told = λ tells. let w = s.beside.told tells in record {
                   tells = w.tells;
                   words = λ p i out. ap (λ f. f.words p i) e ∙ u.words p i ∙ w.words p i out;
-                  copies = λ p out staying. subst (λ (o : Option (ℕ → ℕ)). IsCopy o (copy_at old.store p)) (sym (ap (λ f. f.copies p) e ∙ u.copies p)) (w.copies p out staying);
+                  copies = λ p out staying. subst (λ (o : Option (ℕ → ℕ)). IsCopy o (copy_at old.store p))
+                      (sym (ap (λ f. f.copies p) e ∙ u.copies p)) (w.copies p out staying);
                   copied = w.copied;
                 };
-                tied = λ p i word said. s.beside.tied p i word (sym (said-unlawful p i call r (st.tied p i) (refusal-lawful r refused)) ∙ said);
+                tied = λ p i word said. s.beside.tied p i word
+                    (sym (said-unlawful p i call r (st.tied p i) (refusal-lawful r refused)) ∙ said);
                 untied = λ p i pending. said-unlawful p i call r (st.tied p i) (refusal-lawful r refused) ∙ s.beside.untied p i pending;
                 highest = s.beside.highest;
               };
               base = λ p. base-unnamed st.base call p ∙ s.base p;
               pages = is;
               translates = stays old old st after c
-                  (record { sizes = refl; images = ap (λ o. images_with st.sizes (pages_of after) c (tile_at st.sizes (pages_of after) o) st.images) (served-unlawful call r (refusal-lawful r refused)); promotions = refl; demotions = refl })
-                  s.translates s.pages is (record { sizes = refl; images = refl; promotions = refl; demotions = refl }) (λ p. refl);
+                  (record {
+                    stands = s;
+                    follows = record {
+                      sizes = refl;
+                      images = ap (λ o. images_with st.sizes (pages_of after) c (tile_at st.sizes (pages_of after) o) st.images)
+                          (served-unlawful call r (refusal-lawful r refused));
+                      promotions = refl;
+                      demotions = refl;
+                    };
+                    pages = is;
+                  })
+                  (record { sizes = refl; images = refl; promotions = refl; demotions = refl }) (λ p. refl);
             };
       };
       memory = λ lacking. absurd (no_memory_refused r refused lacking);
     }
 
-access_denied : (o : Option Region) (allowed : Bool) (reply : Reply) → is_some o ≡ true → allowed ≡ false → access_reply o allowed reply ≡ Denied
+access_denied : (o : Option Region) (allowed : Bool) (reply : Reply) → is_some o ≡ true → allowed ≡ false
+    → access_reply o allowed reply ≡ Denied
 access_denied None allowed reply has refused = cc
 access_denied (Some r) allowed reply has refused = cond-false _ _ _ refused
 
-pub rights_here : (old : Kept) (q page : ℕ) (r : Region) → q ≡ page → region_at old.regions page ≡ Some r → (is_some (region_at old.regions q) ≡ true) × (rights_at old q ≡ rights_by (own_in old.table page) (Some r))
+pub rights_here : (old : Kept) (q page : ℕ) (r : Region) → q ≡ page → region_at old.regions page ≡ Some r
+    → (is_some (region_at old.regions q) ≡ true) × (rights_at old q ≡ rights_by (own_in old.table page) (Some r))
 rights_here old q page r same at = rw same (ap is_some at, ap (rights_by (own_in old.table page)) at)
 
 -- an access without the right is denied
-pub begins_denied : (old : Kept) (c : ℕ) (call : Call) (page : ℕ) (r : Region) → CanBegin call → IsResting old → access_page call ≡ Some page → region_at old.regions page ≡ Some r → permits (rights_by (own_in old.table page) (Some r)) call ≡ false → BeginsAnswered old old c call (record { reply = Denied; hit = false; size = None })
+pub begins_denied : (old : Kept) (c : ℕ) (call : Call) (page : ℕ) (r : Region) → CanBegin call → IsResting old
+    → access_page call ≡ Some page → region_at old.regions page ≡ Some r → permits (rights_by (own_in old.table page) (Some r)) call ≡ false
+    → BeginsAnswered old old c call (record { reply = Denied; hit = false; size = None })
 begins_denied old c (Load space address) page r can resting is at refused =
     let here = rights_here old (page_of address) page r (same_Some _ _ is) at in
     begins_refused old c (Load space address) Denied can resting refl tt (λ st s.
-    access_denied _ _ _ (ap (λ rs. is_some (region_at rs (page_of address))) s.beside.regions ∙ here.0) (ap can_read (s.beside.rights (page_of address) here.0 ∙ here.1) ∙ refused))
+    access_denied _ _ _ (ap (λ rs. is_some (region_at rs (page_of address))) s.beside.regions ∙ here.0)
+    (ap can_read (s.beside.rights (page_of address) here.0 ∙ here.1) ∙ refused))
 begins_denied old c (Store space address word) page r can resting is at refused =
     let here = rights_here old (page_of address) page r (same_Some _ _ is) at in
     begins_refused old c (Store space address word) Denied can resting refl tt (λ st s.
-    access_denied _ _ _ (ap (λ rs. is_some (region_at rs (page_of address))) s.beside.regions ∙ here.0) (ap can_write (s.beside.rights (page_of address) here.0 ∙ here.1) ∙ refused))
+    access_denied _ _ _ (ap (λ rs. is_some (region_at rs (page_of address))) s.beside.regions ∙ here.0)
+    (ap can_write (s.beside.rights (page_of address) here.0 ∙ here.1) ∙ refused))
 begins_denied old c call page r can resting is at refused = absurd (none-some page is)
 
 -- an access to a page without a region is unmapped
@@ -160,30 +188,41 @@ access_unmapped : (o : Option Region) (allowed : Bool) (reply : Reply) → o ≡
 access_unmapped None allowed reply none = refl
 access_unmapped (Some r) allowed reply none = absurd (none-some r (sym none))
 
-pub begins_unmapped : (old : Kept) (c : ℕ) (call : Call) (page : ℕ) → CanBegin call → IsResting old → access_page call ≡ Some page → region_at old.regions page ≡ None → BeginsAnswered old old c call (record { reply = Unmapped; hit = false; size = None })
+pub begins_unmapped : (old : Kept) (c : ℕ) (call : Call) (page : ℕ) → CanBegin call → IsResting old → access_page call ≡ Some page
+    → region_at old.regions page ≡ None → BeginsAnswered old old c call (record { reply = Unmapped; hit = false; size = None })
 begins_unmapped old c (Load space address) page can resting is none =
     begins_refused old c (Load space address) Unmapped can resting refl tt (λ st s.
-    access_unmapped _ _ _ (ap (λ rs. region_at rs (page_of address)) s.beside.regions ∙ ap (region_at old.regions) (same_Some _ _ is) ∙ none))
+    access_unmapped _ _ _ (ap (λ rs. region_at rs (page_of address)) s.beside.regions ∙ ap (region_at old.regions) (same_Some _ _ is)
+    ∙ none))
 begins_unmapped old c (Store space address word) page can resting is none =
     begins_refused old c (Store space address word) Unmapped can resting refl tt (λ st s.
-    access_unmapped _ _ _ (ap (λ rs. region_at rs (page_of address)) s.beside.regions ∙ ap (region_at old.regions) (same_Some _ _ is) ∙ none))
+    access_unmapped _ _ _ (ap (λ rs. region_at rs (page_of address)) s.beside.regions ∙ ap (region_at old.regions) (same_Some _ _ is)
+    ∙ none))
 begins_unmapped old c call page can resting is none = absurd (none-some page is)
 
 -- and neither needs a frame, as an access that isn't allowed
-allowed_at : (kept : Kept) (call : Call) (page : ℕ) → access_page call ≡ Some page → is_allowed kept call ≡ true → (is_some (region_at kept.regions page) ≡ true) × (permits (rights_at kept page) call ≡ true)
+allowed_at : (kept : Kept) (call : Call) (page : ℕ) → access_page call ≡ Some page → is_allowed kept call ≡ true
+    → (is_some (region_at kept.regions page) ≡ true) × (permits (rights_at kept page) call ≡ true)
 allowed_at kept (Load space address) page is allowed =
-    subst (λ p. (is_some (region_at kept.regions p) ≡ true) × (permits (rights_at kept p) (Load space address) ≡ true)) (same_Some _ _ is) (and_parts _ _ allowed)
+    subst (λ p. (is_some (region_at kept.regions p) ≡ true) × (permits (rights_at kept p) (Load space address) ≡ true)) (same_Some _ _ is)
+    (and_parts _ _ allowed)
 allowed_at kept (Store space address word) page is allowed =
-    subst (λ p. (is_some (region_at kept.regions p) ≡ true) × (permits (rights_at kept p) (Store space address word) ≡ true)) (same_Some _ _ is) (and_parts _ _ allowed)
+    subst (λ p. (is_some (region_at kept.regions p) ≡ true) × (permits (rights_at kept p) (Store space address word) ≡ true))
+    (same_Some _ _ is) (and_parts _ _ allowed)
 allowed_at kept call page is allowed = absurd (none-some page is)
 
-pub unmapped_needs_none : (kept : Kept) (call : Call) (page : ℕ) → access_page call ≡ Some page → region_at kept.regions page ≡ None → NeedsNoFrame kept call
+pub unmapped_needs_none : (kept : Kept) (call : Call) (page : ℕ) → access_page call ≡ Some page → region_at kept.regions page ≡ None
+    → NeedsNoFrame kept call
 unmapped_needs_none kept call page is none allowed = absurd (true≢false (sym (allowed_at kept call page is allowed).0 ∙ ap is_some none))
 
-pub denied_needs_none : (kept : Kept) (call : Call) (page : ℕ) (r : Region) → access_page call ≡ Some page → region_at kept.regions page ≡ Some r → permits (rights_by (own_in kept.table page) (Some r)) call ≡ false → NeedsNoFrame kept call
-denied_needs_none kept call page r is at refused allowed = absurd (true≢false (sym (allowed_at kept call page is allowed).1 ∙ ap (λ o. permits (rights_by (own_in kept.table page) o) call) at ∙ refused))
+pub denied_needs_none : (kept : Kept) (call : Call) (page : ℕ) (r : Region) → access_page call ≡ Some page
+    → region_at kept.regions page ≡ Some r → permits (rights_by (own_in kept.table page) (Some r)) call ≡ false → NeedsNoFrame kept call
+denied_needs_none kept call page r is at refused allowed =
+    absurd (true≢false (sym (allowed_at kept call page is allowed).1 ∙ ap (λ o. permits (rights_by (own_in kept.table page) o) call) at
+    ∙ refused))
 
-refused_if : (b : Bool) (x y : Reply) → is_refusal x ≡ true → (y ≢ Done → is_refusal y ≡ true) → (if b then x else y) ≢ Done → is_refusal (if b then x else y) ≡ true
+refused_if : (b : Bool) (x y : Reply) → is_refusal x ≡ true → (y ≢ Done → is_refusal y ≡ true) → (if b then x else y) ≢ Done
+    → is_refusal (if b then x else y) ≡ true
 refused_if true x y hx hy n = hx
 refused_if false x y hx hy n = hy n
 

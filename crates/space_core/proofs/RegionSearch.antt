@@ -7,7 +7,8 @@ use Rattle.region_table.specs.Table.{LieFrom}
 use Rattle.region_table.proofs.TableLemmas.{LieFrom-within}
 
 -- it begins above the page, and in the space or at its end
-pub next_above : (low : ℕ) (rs : List Region) → LieFrom low rs → (page : ℕ) → page < 1048576 → (page < next_start rs page) × (next_start rs page ≤ 1048576)
+pub next_above : (low : ℕ) (rs : List Region) → LieFrom low rs → (page : ℕ) → page < 1048576
+    → (page < next_start rs page) × (next_start rs page ≤ 1048576)
 next_above low [] l page h = (h, omega arith)
 next_above low (r ∷ rs) l page h =
     elim (cases_lt page r.first) [

@@ -8,9 +8,19 @@ use Rattle.pager_model.specs.SpaceStates.{SpaceState, Rises, pages_of}
 use Rattle.pager_model.specs.Stores.{IsCopy}
 use Rattle.pager_model.specs.Stored.{copy_at}
 use Rattle.space_core.specs.Beginning.{SameRegions}
-use Rattle.space_core.specs.Standing.{Kept, StandsBeside, StandsFor, Translates, IsCopied, frame_at, rights_at, dirty_at, is_in, is_settled, is_behind, word_at, word_in_copy}
+use Rattle.space_core.specs.Standing.{Kept, StandsBeside, StandsFor, Translates, IsCopied, IsResting, frame_at, rights_at, dirty_at, is_in, is_settled, is_behind, word_at, word_in_copy}
 use Rattle.space_core.specs.Tables.{mapping_in, word_in, own_in}
+use Rattle.space_core.specs.Translating.{ChangesPages}
 use Rattle.space_core.proofs.Translations.{Follows, Still, same_translates, stays}
+
+-- the space with another's table of pages, its images and its counts of moves
+abbrev pub with_pages_of : Kept → Kept → Kept
+with_pages_of other kept =
+    record kept { table = other.table; images = other.images; promotions = other.promotions; demotions = other.demotions }
+
+-- the space as its fields are, which is what contracts see of it
+abbrev pub as_fields : {fields seen : Kept} → fields ≡ seen → Kept
+as_fields {fields} is = fields
 
 -- what a space and a state have in common of one page, but for its frame
 pub record BesideAt (aside : Bool) (kept : Kept) (st : SpaceState) (p : ℕ) : Type 0 where
@@ -45,15 +55,18 @@ pub record SameRest (old new : SpaceState) : Type 0 where
   pub rights : (p : ℕ) → new.flat.rights p ≡ old.flat.rights p
   pub told : new.told ≡ old.told
 
--- a space stands for a state where each page does
-beside_from : (aside : ℕ → Bool) (old new : Kept) (st after : SpaceState) → SameWhole old new → SameRest st after → after.highest ≤ new.store.faults → StandsBeside aside old st → ((p : ℕ) → BesideAt (aside p) new after p) → StandsBeside aside new after
-beside_from aside old new st after same rest highest s at =
+-- a space stands for a state where each page does, and the regions and their rights are the same
+pub beside_each : (aside : ℕ → Bool) (kept : Kept) (st : SpaceState) → st.flat.regions ≡ kept.regions
+    → ((p : ℕ) → is_some (region_at kept.regions p) ≡ true → st.flat.rights p ≡ rights_at kept p)
+    → (st.told ≡ true → kept.store.tells ≡ true)
+    → st.highest ≤ kept.store.faults → ((p : ℕ) → BesideAt (aside p) kept st p) → StandsBeside aside kept st
+beside_each aside kept st regions rights tells highest at =
     record {
-      regions = rest.regions ∙ s.regions ∙ sym same.regions;
-      rights = λ p has. rest.rights p ∙ s.rights p (ap (λ rs. is_some (region_at rs p)) (sym same.regions) ∙ has) ∙ sym (same.rights p);
+      regions = regions;
+      rights = rights;
       dirty = λ p. (at p).dirty;
       told = λ told. record {
-        tells = same.tells ∙ (s.told (sym rest.told ∙ told)).tells;
+        tells = tells told;
         words = λ p i out. (at p).words told out i;
         copies = λ p. (at p).copies told;
         copied = λ p. (at p).copied told;
@@ -62,6 +75,14 @@ beside_from aside old new st after same rest highest s at =
       untied = λ p. (at p).untied;
       highest = highest;
     }
+
+pub beside_from : (aside : ℕ → Bool) (old new : Kept) (st after : SpaceState) → SameWhole old new → SameRest st after
+    → after.highest ≤ new.store.faults
+    → StandsBeside aside old st → ((p : ℕ) → BesideAt (aside p) new after p) → StandsBeside aside new after
+beside_from aside old new st after same rest highest s at =
+    beside_each aside new after (rest.regions ∙ s.regions ∙ sym same.regions)
+    (λ p has. rest.rights p ∙ s.rights p (ap (λ rs. is_some (region_at rs p)) (sym same.regions) ∙ has) ∙ sym (same.rights p))
+    (λ told. same.tells ∙ (s.told (sym rest.told ∙ told)).tells) highest at
 
 -- the page is seen the same
 pub record SameAt (old new : Kept) (p : ℕ) : Type 0 where
@@ -99,7 +120,8 @@ same_word old new p same tells i =
     ]
 
 -- a page stands as before where it is seen the same
-same_at : (aside : ℕ → Bool) (old new : Kept) (st after : SpaceState) → StandsBeside aside old st → after.told ≡ st.told → (p : ℕ) → SameAt old new p → SameStateAt st after p → BesideAt (aside p) new after p
+pub same_at : (aside : ℕ → Bool) (old new : Kept) (st after : SpaceState) → StandsBeside aside old st → after.told ≡ st.told → (p : ℕ)
+    → SameAt old new p → SameStateAt st after p → BesideAt (aside p) new after p
 same_at aside old new st after s same_told p same state =
     let was = beside_at aside old st s p in
     let tells : after.told ≡ true → old.store.tells ≡ true = λ told. (s.told (sym same_told ∙ told)).tells in
@@ -109,7 +131,11 @@ same_at aside old new st after s same_told p same state =
       copies = λ told out paged. rw (state.copies, same.copy (tells told)) (was.copies (sym same_told ∙ told) out (sym same.paged ∙ paged));
       copied = λ told out behind.
           let copied = was.copied (sym same_told ∙ told) out (rw (sym same.dirty, sym same.paged) behind) in
-          record { words = copied.words; known = same.copy (tells told) ∙ copied.known; equal = λ i. same_word old new p same (tells told) i ∙ copied.equal i };
+          record {
+            words = copied.words;
+            known = same.copy (tells told) ∙ copied.known;
+            equal = λ i. same_word old new p same (tells told) i ∙ copied.equal i;
+          };
       tied = λ i word tied settled.
           let was_settled = sym (same_settled old new p same) ∙ settled in
           same.word i was_settled ∙ was.tied i word (sym (state.tied i) ∙ tied) was_settled;
@@ -117,43 +143,67 @@ same_at aside old new st after s same_told p same state =
     }
 
 -- A space that is seen the same on every page stands for a state with the same of every page, whose highest count may have risen.
-pub raised_stands : (old new : Kept) (st after : SpaceState) → SameWhole old new → new.clearing ≡ old.clearing → SameRest st after → after.highest ≤ new.store.faults
+pub raised_stands : (old new : Kept) (st after : SpaceState) → SameWhole old new → new.clearing ≡ old.clearing → SameRest st after
+    → after.highest ≤ new.store.faults
     → ((p : ℕ) → SameAt old new p) → ((p : ℕ) → SameStateAt st after p) → ((p : ℕ) → after.base p ≡ st.base p)
     → StandsFor old st → ((p : ℕ) → pages_of after p ≡ mapping_in new.table p) → Translates new after → StandsFor new after
 raised_stands old new st after same clearing rest within at unmoved base s pages translates =
     record {
-      beside = subst (λ (r : Option PageRange). StandsBeside (is_in r) new after) (sym clearing) (beside_from (is_in old.clearing) old new st after same rest within s.beside
+      beside =
+          subst (λ (r : Option PageRange). StandsBeside (is_in r) new after) (sym clearing)
+          (beside_from (is_in old.clearing) old new st after same rest within s.beside
           (λ p. same_at (is_in old.clearing) old new st after s.beside rest.told p (at p) (unmoved p)));
       base = λ p. base p ∙ s.base p ∙ sym ((at p).frame);
       pages = pages;
       translates = translates;
     }
 
-pub same_stands : (old new : Kept) (st : SpaceState) → SameWhole old new → new.clearing ≡ old.clearing → ((p : ℕ) → SameAt old new p) → ((p : ℕ) → mapping_in new.table p ≡ mapping_in old.table p) → Still old new → StandsFor old st → StandsFor new st
+pub same_stands : (old new : Kept) (st : SpaceState) → SameWhole old new → new.clearing ≡ old.clearing → ((p : ℕ) → SameAt old new p)
+    → ((p : ℕ) → mapping_in new.table p ≡ mapping_in old.table p) → Still old new → StandsFor old st → StandsFor new st
 same_stands old new st same clearing at mapping still s =
-    raised_stands old new st st same clearing (record { regions = refl; rights = λ p. refl; told = refl }) (omega (arith, s.beside.highest, same.faults)) at
-    (λ p. record { dirty = refl; words = λ i. refl; copies = refl; tied = λ i. refl }) (λ p. refl) s (λ p. s.pages p ∙ sym (mapping p)) (same_translates old new st still s.translates)
+    raised_stands old new st st same clearing (record { regions = refl; rights = λ p. refl; told = refl })
+    (omega (arith, s.beside.highest, same.faults)) at
+    (λ p. record {
+      dirty = refl;
+      words = λ i. refl;
+      copies = refl;
+      tied = λ i. refl;
+    }) (λ p. refl) s (λ p. s.pages p ∙ sym (mapping p)) (same_translates old new st still s.translates)
 
 -- an entry that changes nothing but who makes the next one
-pub next_stands : (k : Kept) (st after : SpaceState) (c : ℕ) → SameRest st after → ((p : ℕ) → SameStateAt st after p) → ((p : ℕ) → after.base p ≡ st.base p) → after.highest ≡ st.highest
+pub next_stands : (k : Kept) (st after : SpaceState) (c : ℕ) → SameRest st after → ((p : ℕ) → SameStateAt st after p)
+    → ((p : ℕ) → after.base p ≡ st.base p) → after.highest ≡ st.highest
     → ((p : ℕ) → pages_of after p ≡ pages_of st p) → Follows st after c None → StandsFor k st → StandsFor k after
 next_stands k st after c rest at base highest pages follows s =
     let is : (p : ℕ) → pages_of after p ≡ mapping_in k.table p = λ p. pages p ∙ s.pages p in
-    raised_stands k k st after (record { regions = refl; rights = λ p. refl; tells = refl; faults = omega arith }) refl rest (omega (arith, highest, s.beside.highest))
+    raised_stands k k st after (record {
+      regions = refl;
+      rights = λ p. refl;
+      tells = refl;
+      faults = omega arith;
+    }) refl rest (omega (arith, highest, s.beside.highest))
     (λ p. record { frame = refl; dirty = refl; pending = refl; paged = refl; word = λ i _. refl; copy = λ _. refl }) at base s is
-    (stays k k st after c follows s.translates s.pages is (record { sizes = refl; images = refl; promotions = refl; demotions = refl }) (λ p. refl))
+    (stays k k st after c (record {
+      stands = s;
+      follows = follows;
+      pages = is;
+    }) (record { sizes = refl; images = refl; promotions = refl; demotions = refl }) (λ p. refl))
 
 -- A space where one page changed stands for a state where nothing but that page did.
-pub one_stands : (old new : Kept) (st after : SpaceState) (page : ℕ) → SameWhole old new → new.clearing ≡ old.clearing → SameRest st after → after.highest ≤ new.store.faults
-    → ((p : ℕ) → p ≢ page → SameAt old new p) → ((p : ℕ) → p ≢ page → SameStateAt st after p) → ((p : ℕ) → p ≢ page → after.base p ≡ st.base p)
+pub one_stands : (old new : Kept) (st after : SpaceState) (page : ℕ) → SameWhole old new → new.clearing ≡ old.clearing → SameRest st after
+    → after.highest ≤ new.store.faults
+    → ((p : ℕ) → p ≢ page → SameAt old new p) → ((p : ℕ) → p ≢ page → SameStateAt st after p)
+    → ((p : ℕ) → p ≢ page → after.base p ≡ st.base p)
     → StandsFor old st → BesideAt (is_in old.clearing page) new after page → after.base page ≡ frame_at new page
     → ((p : ℕ) → pages_of after p ≡ mapping_in new.table p) → Translates new after → StandsFor new after
 one_stands old new st after page same clearing rest highest at state base s here resident pages translates =
     record {
-      beside = subst (λ (r : Option PageRange). StandsBeside (is_in r) new after) (sym clearing) (beside_from (is_in old.clearing) old new st after same rest highest s.beside (λ p. elim (cases_eq p page) [
-        | inl e ↦ rw e here
-        | inr n ↦ same_at (is_in old.clearing) old new st after s.beside rest.told p (at p n) (state p n)
-      ]));
+      beside =
+          subst (λ (r : Option PageRange). StandsBeside (is_in r) new after) (sym clearing)
+          (beside_from (is_in old.clearing) old new st after same rest highest s.beside (λ p. elim (cases_eq p page) [
+            | inl e ↦ rw e here
+            | inr n ↦ same_at (is_in old.clearing) old new st after s.beside rest.told p (at p n) (state p n)
+          ]));
       base = λ p. elim (cases_eq p page) [
         | inl e ↦ rw e resident
         | inr n ↦ base p n ∙ s.base p ∙ sym ((at p n).frame)
@@ -167,10 +217,49 @@ pub rises_told : (highest before count : ℕ) → highest ≤ before → Rises b
 rises_told highest before count within rises = elim rises [ inl l ↦ inl (omega arith) | inr e ↦ inr e ]
 
 -- the highest count stays within the store's
-pub within_faults : (highest count faults : ℕ) → highest ≤ faults → count ≡ faults → (if nat_lt highest count then count else highest) ≤ faults
-within_faults highest count faults within is = cond_both (nat_lt highest count) count highest (λ n. n ≤ faults) (λ _. omega arith) (λ _. within)
+pub within_faults : (highest count faults : ℕ) → highest ≤ faults → count ≡ faults
+    → (if nat_lt highest count then count else highest) ≤ faults
+within_faults highest count faults within is =
+    cond_both (nat_lt highest count) count highest (λ n. n ≤ faults) (λ _. omega arith) (λ _. within)
 
 -- the space's number, its regions and their rights are the same where the table's own rights are
-pub same_regions : (old new : Kept) → new.number ≡ old.number → new.frames ≡ old.frames → length new.images ≡ length old.images → new.regions ≡ old.regions → ((p : ℕ) → own_in new.table p ≡ own_in old.table p) → SameRegions old new
+pub same_regions : (old new : Kept) → new.number ≡ old.number → new.frames ≡ old.frames → length new.images ≡ length old.images
+    → new.regions ≡ old.regions → ((p : ℕ) → own_in new.table p ≡ own_in old.table p) → SameRegions old new
 same_regions old new number frames processors regions own =
     record { number = number; frames = frames; processors = processors; regions = regions; rights = λ p. rw (own p, regions) refl }
+
+-- A resting space has no page that is set aside, pending or being evicted.
+module _ (old : Kept) (resting : IsResting old) where
+  pub none_in : (p : ℕ) → is_in old.clearing p ≡ false
+  none_in p = ap (λ (r : Option PageRange). is_in r p) resting.none_clearing
+
+  pub none_pending : (p : ℕ) → is_that p old.pending ≡ false
+  none_pending p = ap (is_that p) resting.none_pending
+
+  pub none_paged : (p : ℕ) → is_that p old.paged ≡ false
+  none_paged p = ap (is_that p) resting.none_paged
+
+-- What a space keeps whose pages, images and counts of moves alone changed.
+module _ (old new : Kept) (changes : ChangesPages old new) where
+  pub changed_resting : IsResting old → IsResting new
+  changed_resting resting =
+      record {
+        none_pending = ap (λ (k : Kept). k.pending) changes ∙ resting.none_pending;
+        none_clearing = ap (λ (k : Kept). k.clearing) changes ∙ resting.none_clearing;
+        none_paged = ap (λ (k : Kept). k.paged) changes ∙ resting.none_paged;
+      }
+
+  module _ (own : (p : ℕ) → own_in new.table p ≡ own_in old.table p) where
+    pub changed_regions : length new.images ≡ length old.images → SameRegions old new
+    changed_regions processors =
+        same_regions old new (ap (λ (k : Kept). k.number) changes) (ap (λ (k : Kept). k.frames) changes) processors
+        (ap (λ (k : Kept). k.regions) changes) own
+
+    pub changed_whole : SameWhole old new
+    changed_whole =
+        record {
+          regions = ap (λ (k : Kept). k.regions) changes;
+          rights = λ p. rw (own p, ap (λ (k : Kept). k.regions) changes) refl;
+          tells = ap (λ (k : Kept). k.store.tells) changes;
+          faults = omega (arith, ap (λ (k : Kept). k.store.faults) changes);
+        }

@@ -1,8 +1,7 @@
 -- What becomes of a space when the copy of a page is written, or isn't, while the page keeps its frame.
-use Rattle.std.proofs.Common.{◌≡◌, ◌≢◌, ℕ, ◌≤◌, ◌+◌, ◌⊎◌, Bool, true, false, if◌then◌else◌, option_map, length, ◌&&◌, ◌==◌, not, List, Option, Some, None, slice_index_or, refl, sym, ap, inl, inr, ◌∙◌, arith, subst}
+use Rattle.std.proofs.Common.{◌≡◌, ◌≢◌, ℕ, ◌≤◌, ◌+◌, Bool, true, false, if◌then◌else◌, option_map, length, ◌&&◌, ◌==◌, not, List, Option, Some, None, slice_index_or, refl, sym, ap, inl, inr, ◌∙◌, arith, subst}
 use Rattle.std.proofs.lemmas.Bool.{cases_Bool, ne_eqb, eq-eqb, true≢false, cond-true, cond-false}
 use Rattle.pager_model.specs.Options.{is_that}
-use Rattle.pager_model.specs.declared.page_range.PageRange.{PageRange}
 use Rattle.pager_model.specs.declared.tile.Mapping.{Mapping}
 use Rattle.pager_model.specs.Flat.{Flat, out}
 use Rattle.pager_model.specs.Images.{images_with}
@@ -10,7 +9,7 @@ use Rattle.pager_model.specs.Regions.{region_at}
 use Rattle.pager_model.specs.SpaceStates.{SpaceState, Next, pages_of, space_after}
 use Rattle.pager_model.specs.SpaceStates.Next.{Only}
 use Rattle.pager_model.specs.Tiles.{mappings, promotions_in, demotions_in}
-use Rattle.space_core.specs.Beginning.{SameRegions, SameFrames, FailsToWrite, LeavesUnwritten, WritesOut}
+use Rattle.space_core.specs.Beginning.{SameFrames, FailsToWrite, LeavesUnwritten, WritesOut}
 use Rattle.space_core.specs.Pages.{Cleans}
 use Rattle.space_core.specs.Saving.{Saves, FailsToSave, LacksRoom, with_store}
 use Rattle.space_core.specs.Standing.{Kept, StandsFor, IsResting, IsCopied, frame_at, rights_at, dirty_at, is_in, is_settled, is_behind, word_at, word_in_copy}
@@ -18,10 +17,10 @@ use Rattle.pager_model.specs.CallEntries.{failed_entry}
 use Rattle.pager_model.specs.Stored.{Stored, copy_at}
 use Rattle.space_core.specs.Tables.{Table, mapping_in, frame_in, word_in, dirty_in}
 use Rattle.space_core.specs.Translating.{Retouches, CleansPage}
-use Rattle.space_core.proofs.SameView.{BesideAt, SameWhole, SameAt, settled_from, same_regions, one_stands, same_stands, rises_told, within_faults}
+use Rattle.space_core.proofs.SameView.{BesideAt, SameWhole, SameAt, settled_from, same_regions, none_in, none_paged, none_pending, one_stands, same_stands, rises_told, within_faults}
 use Rattle.space_core.proofs.ServedPages.{resident_from}
 use Rattle.space_core.proofs.TableLemmas.{dirty_in-absent, dirty-same, cleans_frame, cleans_dirty, cleans_none}
-use Rattle.space_core.proofs.Translations.{Still, same_translates, stays, retouches, said_flag}
+use Rattle.space_core.proofs.Translations.{IsTurned, Still, same_translates, stays, said_flag, turned_processors, turns}
 use Rattle.tiles.specs.Resident.{with_flag}
 
 -- a dirty page is resident
@@ -30,7 +29,12 @@ dirty_resident t page dirty none = true≢false (sym dirty ∙ dirty_in-absent t
 
 -- a clean page is clean as it is
 pub clean_already : (kept : Kept) (page : ℕ) → dirty_at kept page ≡ false → CleansPage kept kept page
-clean_already kept page clean = record { same = refl; table = cleans_none kept.table page clean; retouched = λ dirty. absurd (true≢false (sym dirty ∙ clean)); as_it_was = λ _. refl }
+clean_already kept page clean = record {
+  same = refl;
+  table = cleans_none kept.table page clean;
+  retouched = λ dirty. absurd (true≢false (sym dirty ∙ clean));
+  as_it_was = λ _. refl;
+}
 
 -- and so is a page that wasn't written as it was saved
 pub unwritten_clean : (old saved : Kept) (page : ℕ) → Saves old saved page false → CleansPage saved saved page
@@ -43,14 +47,9 @@ written_dirty old saved page saves = ap (λ (k : Kept). dirty_at k page) saves.s
 -- the state after an entry of a processor that leaves this flat memory, and each page its frame
 abbrev pub with_flat : SpaceState → ℕ → Next → Flat → SpaceState
 with_flat st c next f =
-    record {
-      sizes = st.sizes;
+    record st {
       flat = f;
-      base = st.base;
       next = next;
-      told = st.told;
-      tied = st.tied;
-      highest = st.highest;
       images = images_with st.sizes (mappings f st.base) c None st.images;
       promotions = st.promotions + promotions_in st.sizes (pages_of st) (mappings f st.base);
       demotions = st.demotions + demotions_in st.sizes (pages_of st) (mappings f st.base);
@@ -59,10 +58,6 @@ with_flat st c next f =
 -- the state in which the page was paged out, with the next maker
 abbrev pub outed : SpaceState → ℕ → ℕ → Next → SpaceState
 outed st c page next = with_flat st c next (out st.flat page)
-
--- pages changed and the moves were counted, or nothing is said of any page that wasn't before
-abbrev pub IsTurned : Kept → Kept → Type 0
-IsTurned old new = Retouches old new ⊎ (Still old new × ((p : ℕ) → mapping_in new.table p ≡ mapping_in old.table p))
 
 -- a state has the same of the page, but that its copy is unknown
 record SameLost (old new : SpaceState) (p : ℕ) : Type 0 where
@@ -102,14 +97,24 @@ module _ (old new : Kept) (only : new ≡ with_store old new.store) where
   store_reads = ap (λ (k : Kept). k.reads) only
 
   pub store_still : Still old new
-  store_still = record { sizes = ap (λ (k : Kept). k.table.sizes) only; images = ap (λ (k : Kept). k.images) only; promotions = ap (λ (k : Kept). k.promotions) only; demotions = ap (λ (k : Kept). k.demotions) only }
+  store_still = record {
+    sizes = ap (λ (k : Kept). k.table.sizes) only;
+    images = ap (λ (k : Kept). k.images) only;
+    promotions = ap (λ (k : Kept). k.promotions) only;
+    demotions = ap (λ (k : Kept). k.demotions) only;
+  }
 
   pub store_mapping : (p : ℕ) → mapping_in new.table p ≡ mapping_in old.table p
   store_mapping p = ap (λ (k : Kept). mapping_in k.table p) only
 
   store_whole : new.store.tells ≡ old.store.tells → old.store.faults ≤ new.store.faults → SameWhole old new
   store_whole tells faults =
-      record { regions = ap (λ (k : Kept). k.regions) only; rights = λ p. ap (λ (k : Kept). rights_at k p) only; tells = tells; faults = faults }
+      record {
+        regions = ap (λ (k : Kept). k.regions) only;
+        rights = λ p. ap (λ (k : Kept). rights_at k p) only;
+        tells = tells;
+        faults = faults;
+      }
 
   store_at : (p : ℕ) → (old.store.tells ≡ true → copy_at new.store p ≡ copy_at old.store p) → SameAt old new p
   store_at p copy =
@@ -129,16 +134,15 @@ pub record IsSaved (old : Kept) (store : Stored) (page : ℕ) : Type 0 where
   pub others : old.store.tells ≡ true → (p : ℕ) → p ≢ page → copy_at store p ≡ copy_at old.store p
   pub copied : (st : SpaceState) → StandsFor old st → st.told ≡ true → HasCopy old store page
 
+-- The page's copy is saved, each page keeps its frame and its words, and no page is pending and no range being cleared.
+pub record SavesOnly (old new : Kept) (page : ℕ) : Type 0 where
+  pub saved : IsSaved old new.store page
+  pub same : SameFrames old new
+  pub word : (p i : ℕ) → word_in new.table p i ≡ word_in old.table p i
+  pub none_pending : new.pending ≡ None
+  pub none_clearing : new.clearing ≡ None
+
 module _ (old : Kept) (resting : IsResting old) where
-  pub none_in : (p : ℕ) → is_in old.clearing p ≡ false
-  none_in p = ap (λ (r : Option PageRange). is_in r p) resting.none_clearing
-
-  none_pending : (p : ℕ) → is_that p old.pending ≡ false
-  none_pending p = ap (is_that p) resting.none_pending
-
-  none_paged : (p : ℕ) → is_that p old.paged ≡ false
-  none_paged p = ap (is_that p) resting.none_paged
-
   settled_if : (p : ℕ) → frame_at old p ≢ None → is_settled old p ≡ true
   settled_if p resident = settled_from old p resident resting.none_pending
 
@@ -163,43 +167,47 @@ module _ (old : Kept) (resting : IsResting old) where
         faults = saves.never_falls;
         others = λ tells p n. ap (λ s. copy_at s p) same;
         copied = λ st s told.
-            let is = (s.beside.told told).copied page (none_in page) (ap (λ d. d && not (is_that page old.paged)) saves.was) in
+            let is = (s.beside.told told).copied page (none_in old resting page) (ap (λ d. d && not (is_that page old.paged)) saves.was) in
             (is.words, ap (λ s. copy_at s page) same ∙ is.known, is.equal);
       }
 
-  -- The page's copy is saved, the page keeps its words and its frame, and nothing else is seen of the store.
-  module _ (new : Kept) (page : ℕ) (same : SameRegions old new) (clearing : new.clearing ≡ None) (pending : new.pending ≡ None)
-      (frame : (p : ℕ) → frame_at new p ≡ frame_at old p) (word : (p i : ℕ) → word_in new.table p i ≡ word_in old.table p i)
-      (is_saved : IsSaved old new.store page) where
+  module _ (new : Kept) (page : ℕ) (saves : SavesOnly old new page) where
     whole : SameWhole old new
-    whole = record { regions = same.regions; rights = same.rights; tells = is_saved.tells; faults = is_saved.faults }
+    whole = record {
+      regions = saves.same.same.regions;
+      rights = saves.same.same.rights;
+      tells = saves.saved.tells;
+      faults = saves.saved.faults;
+    }
 
     settled : (p : ℕ) → is_settled new p ≡ is_settled old p
-    settled p = rw (frame p, pending, resting.none_pending) refl
+    settled p = rw (saves.same.frame p, saves.none_pending, resting.none_pending) refl
 
     word_kept : (copy : HasCopy old new.store page) (i : ℕ) → word_at new page i ≡ word_at old page i
     word_kept copy i =
         elim (cases_Bool (is_settled old page)) [
-          | inl is ↦ cond-true _ _ _ (settled page ∙ is) ∙ word page i ∙ sym (cond-true _ _ _ is)
+          | inl is ↦ cond-true _ _ _ (settled page ∙ is) ∙ saves.word page i ∙ sym (cond-true _ _ _ is)
           | inr isnt ↦ cond-false _ _ _ (settled page ∙ isnt) ∙ ap (λ copy. word_in_copy copy i) copy.1 ∙ sym (copy.2 i)
         ]
 
     copied : (copy : HasCopy old new.store page) → IsCopied new page
     copied copy = record { words = copy.0; known = copy.1; equal = λ i. word_kept copy i ∙ copy.2 i }
 
-    at_other : ((p : ℕ) → p ≢ page → dirty_at new p ≡ dirty_at old p) → ((p : ℕ) → p ≢ page → is_that p new.paged ≡ false) → (p : ℕ) → p ≢ page → SameAt old new p
+    at_other : ((p : ℕ) → p ≢ page → dirty_at new p ≡ dirty_at old p) → ((p : ℕ) → p ≢ page → is_that p new.paged ≡ false) → (p : ℕ)
+        → p ≢ page → SameAt old new p
     at_other dirty paged p n =
         record {
-          frame = frame p;
+          frame = saves.same.frame p;
           dirty = dirty p n;
-          pending = ap (is_that p) pending ∙ sym (none_pending p);
-          paged = paged p n ∙ sym (none_paged p);
-          word = λ i _. word p i;
-          copy = λ tells. is_saved.others tells p n;
+          pending = ap (is_that p) saves.none_pending ∙ sym (none_pending old resting p);
+          paged = paged p n ∙ sym (none_paged old resting p);
+          word = λ i _. saves.word p i;
+          copy = λ tells. saves.saved.others tells p n;
         }
 
     -- the page is clean then, as one that was paged out
-    pub copied_out : Cleans page old.table new.table → new.paged ≡ None → IsTurned old new → (st : SpaceState) (c : ℕ) (next : Next) → StandsFor old st → StandsFor new (outed st c page next)
+    pub copied_out : Cleans page old.table new.table → new.paged ≡ None → IsTurned old new → (st : SpaceState) (c : ℕ) (next : Next)
+        → StandsFor old st → StandsFor new (outed st c page next)
     copied_out cleans unpaged turned st c next s =
         let b = s.beside in
         let after = outed st c page next in
@@ -207,46 +215,59 @@ module _ (old : Kept) (resting : IsResting old) where
         said_flag (p == page) false (st.flat.dirty p) (st.base p) (region_at st.flat.regions p) (st.flat.rights p)
         ∙ ap (λ (o : Option Mapping). if p == page then option_map (with_flag false) o else o) (s.pages p) ∙ sym (cleans.mapping p) in
         let this : (page == page) ≡ true = eq-eqb page page refl in
-        one_stands old new st after page whole (clearing ∙ sym resting.none_clearing) (record { regions = refl; rights = λ p. refl; told = refl })
-        (omega (arith, b.highest, is_saved.faults))
-        (at_other (λ p n. cleans_dirty page old.table new.table cleans p ∙ cond-false _ _ _ (ne_eqb p page n)) (λ p n. ap (is_that p) unpaged))
-        (λ p n. record { dirty = cond-false _ _ _ (ne_eqb p page n); words = λ i. refl; copies = cond-false _ _ _ (ne_eqb p page n); tied = λ i. refl })
+        one_stands old new st after page whole (saves.none_clearing ∙ sym resting.none_clearing) (record {
+          regions = refl;
+          rights = λ p. refl;
+          told = refl;
+        })
+        (omega (arith, b.highest, saves.saved.faults))
+        (at_other (λ p n. cleans_dirty page old.table new.table cleans p ∙ cond-false _ _ _ (ne_eqb p page n))
+        (λ p n. ap (is_that p) unpaged))
+        (λ p n. record {
+          dirty = cond-false _ _ _ (ne_eqb p page n);
+          words = λ i. refl;
+          copies = cond-false _ _ _ (ne_eqb p page n);
+          tied = λ i. refl;
+        })
         (λ p n. refl) s
         (record {
           dirty = λ out. cond-true _ _ _ this ∙ sym (cleans_dirty page old.table new.table cleans page ∙ cond-true _ _ _ this);
-          words = λ told out i. (b.told told).words page i out ∙ sym (word_kept (is_saved.copied st s told) i);
-          copies = λ told out _. let copy = is_saved.copied st s told in
+          words = λ told out i. (b.told told).words page i out ∙ sym (word_kept (saves.saved.copied st s told) i);
+          copies = λ told out _. let copy = saves.saved.copied st s told in
               rw (this, copy.1) (λ i. (b.told told).words page i out ∙ copy.2 i);
-          copied = λ told out _. copied (is_saved.copied st s told);
-          tied = λ i w tied is. word page i ∙ b.tied page i w tied (sym (settled page) ∙ is);
-          untied = λ i is. absurd (true≢false (sym is ∙ ap (is_that page) pending));
+          copied = λ told out _. copied (saves.saved.copied st s told);
+          tied = λ i w tied is. saves.word page i ∙ b.tied page i w tied (sym (settled page) ∙ is);
+          untied = λ i is. absurd (true≢false (sym is ∙ ap (is_that page) saves.none_pending));
         })
-        (s.base page ∙ sym (frame page)) is
-        (elim turned [
-          | inl retouched ↦ retouches old new st after c (record { sizes = refl; images = refl; promotions = refl; demotions = refl }) s.translates s.pages is retouched
-          | inr still ↦ stays old new st after c (record { sizes = refl; images = refl; promotions = refl; demotions = refl }) s.translates s.pages is still.0 still.1
-        ])
+        (s.base page ∙ sym (saves.same.frame page)) is
+        (turns old new st after c
+        (record { stands = s; follows = record { sizes = refl; images = refl; promotions = refl; demotions = refl }; pages = is }) turned)
 
     -- the page is being evicted then
-    pub copied_aside : ((p : ℕ) → mapping_in new.table p ≡ mapping_in old.table p) → Still old new → new.paged ≡ Some page → (st : SpaceState) → StandsFor old st → StandsFor new st
+    pub copied_aside : ((p : ℕ) → mapping_in new.table p ≡ mapping_in old.table p) → Still old new → new.paged ≡ Some page
+        → (st : SpaceState) → StandsFor old st → StandsFor new st
     copied_aside mapping still paged st s =
         let dirty : (p : ℕ) → dirty_at new p ≡ dirty_at old p = λ p. dirty-same old.table new.table p (mapping p) in
         let b = s.beside in
         let this : is_that page new.paged ≡ true = ap (is_that page) paged ∙ eq-eqb page page refl in
-        one_stands old new st st page whole (clearing ∙ sym resting.none_clearing) (record { regions = refl; rights = λ p. refl; told = refl })
-        (omega (arith, b.highest, is_saved.faults))
+        one_stands old new st st page whole (saves.none_clearing ∙ sym resting.none_clearing) (record {
+          regions = refl;
+          rights = λ p. refl;
+          told = refl;
+        })
+        (omega (arith, b.highest, saves.saved.faults))
         (at_other (λ p n. dirty p) (λ p n. ap (is_that p) paged ∙ ne_eqb page p (λ e. n (sym e))))
         (λ p n. record { dirty = refl; words = λ i. refl; copies = refl; tied = λ i. refl })
         (λ p n. refl) s
         (record {
           dirty = λ out. b.dirty page out ∙ sym (dirty page);
-          words = λ told out i. (b.told told).words page i out ∙ sym (word_kept (is_saved.copied st s told) i);
+          words = λ told out i. (b.told told).words page i out ∙ sym (word_kept (saves.saved.copied st s told) i);
           copies = λ told out staying. absurd (true≢false (sym this ∙ staying));
-          copied = λ told out _. copied (is_saved.copied st s told);
-          tied = λ i w tied is. word page i ∙ b.tied page i w tied (sym (settled page) ∙ is);
-          untied = λ i is. absurd (true≢false (sym is ∙ ap (is_that page) pending));
+          copied = λ told out _. copied (saves.saved.copied st s told);
+          tied = λ i w tied is. saves.word page i ∙ b.tied page i w tied (sym (settled page) ∙ is);
+          untied = λ i is. absurd (true≢false (sym is ∙ ap (is_that page) saves.none_pending));
         })
-        (s.base page ∙ sym (frame page)) (λ p. s.pages p ∙ sym (mapping p)) (same_translates old new st still s.translates)
+        (s.base page ∙ sym (saves.same.frame page)) (λ p. s.pages p ∙ sym (mapping p)) (same_translates old new st still s.translates)
 
   -- The write failed, and the page's copy is unknown.
   module _ (new : Kept) (page count : ℕ) (fails : FailsToSave old new page count) where
@@ -260,21 +281,28 @@ module _ (old : Kept) (resting : IsResting old) where
     settled_after = ap (λ (k : Kept). is_settled k page) fails.same ∙ settled_if page resident
 
     still_behind : is_behind new page ≡ true
-    still_behind = ap (λ (k : Kept). is_behind k page) fails.same ∙ rw (fails.dirty, none_paged page) refl
+    still_behind = ap (λ (k : Kept). is_behind k page) fails.same ∙ rw (fails.dirty, none_paged old resting page) refl
 
     word_same : (i : ℕ) → word_in new.table page i ≡ word_in old.table page i
     word_same i = ap (λ (k : Kept). word_in k.table page i) fails.same
 
-    lost_here : (st after : SpaceState) → after.told ≡ st.told → SameLost st after page → StandsFor old st → BesideAt (is_in old.clearing page) new after page
+    lost_here : (st after : SpaceState) → after.told ≡ st.told → SameLost st after page → StandsFor old st
+        → BesideAt (is_in old.clearing page) new after page
     lost_here st after told_same at s =
         let b = s.beside in
         record {
           dirty = λ out. at.dirty ∙ b.dirty page out ∙ sym (ap (λ (k : Kept). dirty_at k page) fails.same);
-          words = λ told out i. at.words i ∙ (b.told (sym told_same ∙ told)).words page i out ∙ cond-true _ _ _ (settled_if page resident) ∙ sym (word_same i) ∙ sym (cond-true _ _ _ settled_after);
-          copies = λ told out _. rw (at.copies, fails.lost.copies (b.told (sym told_same ∙ told)).tells page ∙ cond-true _ _ _ (eq-eqb page page refl)) tt;
+          words = λ told out i. at.words i ∙ (b.told (sym told_same ∙ told)).words page i out ∙ cond-true _ _ _ (settled_if page resident)
+              ∙ sym (word_same i) ∙ sym (cond-true _ _ _ settled_after);
+          copies = λ told out _. rw (
+            at.copies,
+            fails.lost.copies (b.told (sym told_same ∙ told)).tells page
+                ∙ cond-true _ _ _ (eq-eqb page page refl),
+          ) tt;
           copied = λ told out behind. absurd (true≢false (sym still_behind ∙ behind));
           tied = λ i w tied is. word_same i ∙ b.tied page i w (sym (at.tied i) ∙ tied) (settled_if page resident);
-          untied = λ i is. absurd (true≢false (sym is ∙ ap (λ (k : Kept). is_that page k.pending) fails.same ∙ none_pending page));
+          untied = λ i is. absurd (true≢false
+              (sym is ∙ ap (λ (k : Kept). is_that page k.pending) fails.same ∙ none_pending old resting page));
         }
 
     pub fails_to_write : FailsToWrite old new page count
@@ -286,7 +314,12 @@ module _ (old : Kept) (resting : IsResting old) where
           resting = store_resting old new fails.same resting;
           same = store_frames old new fails.same;
           unread = store_reads old new fails.same;
-          allowed = λ st s c. (resident_from st.base page _ (s.base page) resident, s.beside.dirty page (none_in page) ∙ fails.dirty, rises_told _ _ _ s.beside.highest fails.rose);
+          allowed = λ st s c. (
+            resident_from st.base page _ (s.base page) resident,
+            s.beside.dirty page (none_in old resting page)
+                ∙ fails.dirty,
+            rises_told _ _ _ s.beside.highest fails.rose,
+          );
           stands = λ st s c.
               one_stands old new st (space_after st (failed_entry c old.number page true count)) page
               (store_whole old new fails.same fails.lost.tells fails.never_falls)
@@ -298,8 +331,12 @@ module _ (old : Kept) (resting : IsResting old) where
               (lost_here st (space_after st (failed_entry c old.number page true count)) refl
               (record { dirty = refl; words = λ i. refl; copies = cond-true _ _ _ (eq-eqb page page refl); tied = λ i. refl }) s)
               (s.base page ∙ sym ((store_frames old new fails.same).frame page)) (λ p. s.pages p ∙ sym (store_mapping old new fails.same p))
-              (stays old new st (space_after st (failed_entry c old.number page true count)) c (record { sizes = refl; images = refl; promotions = refl; demotions = refl }) s.translates s.pages
-              (λ p. s.pages p ∙ sym (store_mapping old new fails.same p)) (store_still old new fails.same) (store_mapping old new fails.same));
+              (stays old new st (space_after st (failed_entry c old.number page true count)) c
+              (record {
+                stands = s;
+                follows = record { sizes = refl; images = refl; promotions = refl; demotions = refl };
+                pages = λ p. s.pages p ∙ sym (store_mapping old new fails.same p);
+              }) (store_still old new fails.same) (store_mapping old new fails.same));
         }
 
   -- there was no memory for the copy
@@ -323,7 +360,21 @@ retouches_from old mid new only r =
     record { sizes = is.sizes; processors = is.processors; images = is.images; promotions = is.promotions; demotions = is.demotions }
 
 -- A page's copy is saved, and then the page is clean.
-module _ (old mid new : Kept) (page : ℕ) (written : Bool) (resting : IsResting old) (saves : Saves old mid page written) (cleans : CleansPage mid new page) where
+pub record CopiesOut (old new : Kept) (page : ℕ) (written : Bool) : Type 0 where
+  pub mid : Kept
+  pub saves : Saves old mid page written
+  pub cleans : CleansPage mid new page
+
+module _ (old new : Kept) (page : ℕ) (written : Bool) (resting : IsResting old) (copies : CopiesOut old new page written) where
+  abbrev mid : Kept
+  mid = copies.mid
+
+  abbrev saves : Saves old mid page written
+  saves = copies.saves
+
+  abbrev cleans : CleansPage mid new page
+  cleans = copies.cleans
+
   rested : IsResting mid
   rested = store_resting old mid saves.same resting
 
@@ -358,14 +409,13 @@ module _ (old mid new : Kept) (page : ℕ) (written : Bool) (resting : IsResting
         )
   ]
 
-  turned_processors : length new.images ≡ length old.images
-  turned_processors = elim cleaned_turned [ inl r ↦ r.processors | inr still ↦ ap length still.0.images ]
-
   pub cleaned_same : SameFrames old new
   cleaned_same =
       let stored = store_frames old mid saves.same in
       record {
-        same = same_regions old new (ap (λ (k : Kept). k.number) cleans.same ∙ stored.same.number) (ap (λ (k : Kept). k.frames) cleans.same ∙ stored.same.frames) turned_processors
+        same =
+            same_regions old new (ap (λ (k : Kept). k.number) cleans.same ∙ stored.same.number)
+            (ap (λ (k : Kept). k.frames) cleans.same ∙ stored.same.frames) (turned_processors old new cleaned_turned)
             (ap (λ (k : Kept). k.regions) cleans.same ∙ stored.same.regions) cleaned_table.same.own;
         frame = cleaned_frame;
       }
@@ -375,8 +425,15 @@ module _ (old mid new : Kept) (page : ℕ) (written : Bool) (resting : IsResting
 
   pub cleaned_out : (st : SpaceState) (c : ℕ) (next : Next) → StandsFor old st → StandsFor new (outed st c page next)
   cleaned_out st c next s =
-      copied_out old resting new page cleaned_same.same cleaned_resting.none_clearing cleaned_resting.none_pending cleaned_frame cleaned_table.word
-      (subst (λ (store : Stored). IsSaved old store page) (sym (ap (λ (k : Kept). k.store) cleans.same)) (saved old resting mid page written saves))
+      copied_out old resting new page
+      (record {
+        saved = subst (λ (store : Stored). IsSaved old store page) (sym (ap (λ (k : Kept). k.store) cleans.same))
+            (saved old resting mid page written saves);
+        same = cleaned_same;
+        word = cleaned_table.word;
+        none_pending = cleaned_resting.none_pending;
+        none_clearing = cleaned_resting.none_clearing;
+      })
       cleaned_table cleaned_resting.none_paged cleaned_turned st c next s
 
   pub writes_out : frame_at old page ≢ None → WritesOut old new page written
@@ -387,6 +444,10 @@ module _ (old mid new : Kept) (page : ℕ) (written : Bool) (resting : IsResting
         resting = cleaned_resting;
         same = cleaned_same;
         unread = cleaned_reads;
-        allowed = λ st s c. (resident_from st.base page _ (s.base page) resident, s.beside.dirty page (none_in old resting page) ∙ saves.was);
+        allowed = λ st s c. (
+          resident_from st.base page _ (s.base page) resident,
+          s.beside.dirty page (none_in old resting page)
+              ∙ saves.was,
+        );
         stands = λ st s c. cleaned_out st c (Only c) s;
       }

@@ -86,7 +86,8 @@ pub record IsMappedBy (kept : Kept) (page : ℕ) (found : Translation) : Type 0 
 
 -- What there is at the page of a load or a store: it is refused, its page isn't resident, or its page is.
 abbrev pub Finds : Kept → Call → ℕ → Found → Type 0
-Finds kept call page (Refused reply) = NeedsNoFrame kept call × (IsResting kept → (c : ℕ) → BeginsAnswered kept kept c call (record { reply = reply; hit = false; size = None }))
+Finds kept call page (Refused reply) = NeedsNoFrame kept call × (IsResting kept → (c : ℕ)
+    → BeginsAnswered kept kept c call (record { reply = reply; hit = false; size = None }))
 Finds kept call page (Absent want) = NeedsItsFrame kept call page want
 Finds kept call page (Resident found) = (is_allowed kept call ≡ true) × IfSome (access_page call) (λ p. IsMappedBy kept p found)
 
@@ -159,7 +160,8 @@ pub record Places (old new : Kept) (page frame : ℕ) : Type 0 where
   pub unread : new.reads ≡ old.reads
   pub resident : frame_at new page ≡ Some frame
   pub same_others : (p : ℕ) → p ≢ page → frame_at new p ≡ frame_at old p
-  pub stands : (st : SpaceState) (c : ℕ) (want : Want) → StandsFor old st → StandsFor new (space_after st (take_entry c old.number page frame want))
+  pub stands : (st : SpaceState) (c : ℕ) (want : Want) → StandsFor old st
+      → StandsFor new (space_after st (take_entry c old.number page frame want))
 
 -- The store was read once, no page is pending, each page keeps its frame, and the space stands for the same list of entries.
 pub record ReadsIn (old new : Kept) : Type 0 where
@@ -236,7 +238,8 @@ pub record Evicts (old new : Kept) (page frame : ℕ) (a : Answered) : Type 0 wh
   pub replied : a.reply ≡ copied_reply (dirty_at old page)
   pub resting : IsResting new
   pub allowed : (st : SpaceState) → StandsFor old st → (c number : ℕ) → WhatAllowed st true c (Answer number (Evict old.number page) a)
-  pub stands : (st : SpaceState) → StandsFor old st → (c number : ℕ) → StandsFor new (space_after st (evict_entry c number old.number page a))
+  pub stands : (st : SpaceState) → StandsFor old st → (c number : ℕ) → StandsFor new
+      (space_after st (evict_entry c number old.number page a))
 
 -- no page of the range is resident
 abbrev pub NoneResident : Kept → ℕ → ℕ → Type 0
@@ -269,5 +272,7 @@ pub record Unmapped (old new : Kept) (page : ℕ) (a : Answered) : Type 0 where
   pub same_processors : length new.images ≡ length old.images
   pub unread : new.reads ≡ old.reads
   pub resting : IsResting new
-  pub allowed : (st : SpaceState) → StandsFor old st → (c number : ℕ) (r : Region) → region_at old.regions page ≡ Some r → st.next ≡ AfterClear c r.first r.length → WhatAllowed st false c (Answer number (Unmap old.number page) a)
-  pub stands : (st : SpaceState) → StandsFor old st → (c number : ℕ) → StandsFor new (space_after st (answer_entry c number (Unmap old.number page) a))
+  pub allowed : (st : SpaceState) → StandsFor old st → (c number : ℕ) (r : Region) → region_at old.regions page ≡ Some r
+      → st.next ≡ AfterClear c r.first r.length → WhatAllowed st false c (Answer number (Unmap old.number page) a)
+  pub stands : (st : SpaceState) → StandsFor old st → (c number : ℕ) → StandsFor new
+      (space_after st (answer_entry c number (Unmap old.number page) a))

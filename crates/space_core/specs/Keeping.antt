@@ -4,9 +4,8 @@ use Rattle.std.specs.Option.{ForSome}
 use Rattle.pager_model.specs.declared.page_range.PageRange.{PageRange}
 use Rattle.pager_model.specs.declared.region.Region.{Region}
 use Rattle.pager_model.specs.declared.tile.Mapping.{Mapping}
-use Rattle.pager_model.specs.Regions.{region_at}
+use Rattle.pager_model.specs.Regions.{region_at, rights_by}
 use Rattle.region_table.specs.Table.{IsTable}
-use Rattle.space_core.specs.Standing.{rights_by}
 use Rattle.space_core.specs.Tables.{Table, mapping_in, frame_in, own_in, dirty_in}
 use Rattle.pager_model.specs.Bounds.{space_pages}
 

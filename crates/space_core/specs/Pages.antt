@@ -75,7 +75,8 @@ pub record Cleans (page : ℕ) (old new : Table) : Type 0 where
 pub record Protects (first len : ℕ) (rights : Rights) (old new : Table) : Type 0 where
   pub sizes : new.sizes ≡ old.sizes
   pub count : length new.frames ≡ length old.frames
-  pub mapping : (p : ℕ) → mapping_in new p ≡ (if in_range first len p then option_map (with_rights rights) (mapping_in old p) else mapping_in old p)
+  pub mapping : (p : ℕ) → mapping_in new p ≡ (if in_range first len p then option_map (with_rights rights)
+      (mapping_in old p) else mapping_in old p)
   pub word : (p i : ℕ) → word_in new p i ≡ word_in old p i
   pub own : (p : ℕ) → own_in new p ≡ (if in_range first len p then Some rights else own_in old p)
 

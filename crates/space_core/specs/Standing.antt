@@ -6,10 +6,9 @@ use Rattle.pager_model.specs.declared.call.Call.TheVariants.{Load, Store, Sync, 
 use Rattle.pager_model.specs.declared.page_range.PageRange.{PageRange}
 use Rattle.pager_model.specs.declared.region.Region.{Region}
 use Rattle.pager_model.specs.declared.region.Rights.{Rights}
-use Rattle.pager_model.specs.declared.region.Rights.TheVariants.{NoAccess}
 use Rattle.pager_model.specs.declared.tile.Tile.{Tile}
 use Rattle.pager_model.specs.Flat.{page_of, can_read, can_write}
-use Rattle.pager_model.specs.Regions.{in_range, region_at, is_wired}
+use Rattle.pager_model.specs.Regions.{in_range, region_at, rights_by, is_wired}
 use Rattle.pager_model.specs.Images.{still_tiles}
 use Rattle.pager_model.specs.SpaceStates.{SpaceState, pages_of, last_count}
 use Rattle.pager_model.specs.TraceText.{IsCall}
@@ -52,11 +51,6 @@ image_at kept processor = slice_index_or kept.images processor []
 -- the number of its frame, where it is resident
 abbrev pub frame_at : Kept → ℕ → Option ℕ
 frame_at kept page = frame_in kept.table page
-
-abbrev pub rights_by : Option Rights → Option Region → Rights
-rights_by None None = NoAccess
-rights_by None (Some r) = r.rights
-rights_by (Some own) region = own
 
 -- its rights: its own, or else its region's first
 abbrev pub rights_at : Kept → ℕ → Rights
@@ -154,14 +148,16 @@ pub record StandsBut (first len : ℕ) (kept : Kept) (state : SpaceState) : Type
   pub pages : (page : ℕ) → in_range first len page ≡ false → pages_of state page ≡ mapping_in kept.table page
   pub translates : Translates kept state
   pub not_begun : is_clearing kept.clearing first len ≡ false → (page : ℕ) → pages_of state page ≡ mapping_in kept.table page
-  pub counted : is_clearing kept.clearing first len ≡ true → kept.broken ≡ large_tiles_meeting_in kept.table.sizes first len (pages_of state)
+  pub counted : is_clearing kept.clearing first len ≡ true → kept.broken
+      ≡ large_tiles_meeting_in kept.table.sizes first len (pages_of state)
 
 -- Calls.
 
 -- the call is a load or a store that the rights of its page allow
 abbrev pub is_allowed : Kept → Call → Bool
 is_allowed kept (Load space address) = is_some (region_at kept.regions (page_of address)) && can_read (rights_at kept (page_of address))
-is_allowed kept (Store space address word) = is_some (region_at kept.regions (page_of address)) && can_write (rights_at kept (page_of address))
+is_allowed kept (Store space address word) = is_some (region_at kept.regions (page_of address)) && can_write
+    (rights_at kept (page_of address))
 is_allowed kept call = false
 
 -- the page has a region, which isn't wired

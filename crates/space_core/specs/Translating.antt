@@ -25,7 +25,8 @@ untouched_tiles z range pages image = filter (λ t. not (is_touched range t.exte
 pub record Retouches (old new : Kept) : Type 0 where
   pub sizes : new.table.sizes ≡ old.table.sizes
   pub processors : length new.images ≡ length old.images
-  pub images : (c : ℕ) → c < length old.images → still_tiles old.table.sizes (mapping_in old.table) (image_at old c) ≡ image_at old c → image_at new c ≡ still_tiles old.table.sizes (mapping_in new.table) (image_at old c)
+  pub images : (c : ℕ) → c < length old.images → still_tiles old.table.sizes (mapping_in old.table) (image_at old c) ≡ image_at old c
+      → image_at new c ≡ still_tiles old.table.sizes (mapping_in new.table) (image_at old c)
   pub promotions : new.promotions ≡ counted_up old.promotions (promotions_in old.table.sizes (mapping_in old.table) (mapping_in new.table))
   pub demotions : new.demotions ≡ counted_up old.demotions (demotions_in old.table.sizes (mapping_in old.table) (mapping_in new.table))
 
@@ -51,4 +52,5 @@ pub record BeginsClear (old new : Kept) (first len : ℕ) : Type 0 where
   pub same : new ≡ record old { clearing = new.clearing; broken = new.broken }
   pub begun : new.clearing ≡ Some (range_of first len)
   pub went_on : is_clearing old.clearing first len ≡ true → new.broken ≡ old.broken
-  pub counted : is_clearing old.clearing first len ≡ false → new.broken ≡ large_tiles_meeting_in old.table.sizes first len (mapping_in old.table)
+  pub counted : is_clearing old.clearing first len ≡ false → new.broken
+      ≡ large_tiles_meeting_in old.table.sizes first len (mapping_in old.table)

@@ -1,30 +1,14 @@
 //! Loads and stores as a space sees them: the page, the word in it, and what the rights of a page allow.
 
 ghost use Rattle.std.specs.Prelude.{◌≡◌, ◌+◌, ◌<◌, ◌≤◌, false, None, IfSome};
-ghost use Rattle.pager_model.specs.Flat.{page_of, word_of};
 ghost use Rattle.pager_model.specs.PreferredSize.{IsWanted};
 ghost use Rattle.pager_model.specs.Regions.{is_wired, want_end};
 ghost use Rattle.pager_model.specs.SpaceStates.{access_page};
 ghost use Rattle.space_core.specs.Pages.{permits};
 ghost use Rattle.space_core.specs.Standing.{CanBegin};
-ghost use Rattle.pager_model.specs.Bounds.{space_bytes, space_pages};
+ghost use Rattle.pager_model.specs.Bounds.{space_pages};
 
-use pager_model::{Answered, Call, Kind, Region, Reply, Rights, Want};
-
-/// The bytes of a base page.
-const PAGE_BYTES: u64 = 8192;
-
-/// The bytes of a word.
-const WORD_BYTES: u64 = 8;
-
-/// The page of an address.
-pub fn page_of(address: u64) -> u32
-    requires { address < space_bytes }
-    ensures page { result ≡ page_of address }
-    ensures in_space { result < space_pages }
-{
-    (address / PAGE_BYTES) as u32
-}
+use pager_model::{Answered, Call, Kind, Region, Reply, Rights, Want, page_of};
 
 /// The page of a load or a store.
 pub fn accessed_page(call: &Call) -> Option<u32>
@@ -36,14 +20,6 @@ pub fn accessed_page(call: &Call) -> Option<u32>
         Call::Load { address, .. } | Call::Store { address, .. } => Some(page_of(address)),
         _ => None,
     }
-}
-
-/// The number of an address's word in its page.
-pub fn word_of(address: u64) -> usize
-    ensures word { result ≡ word_of address }
-    ensures in_page { result < 1024 }
-{
-    (address % PAGE_BYTES / WORD_BYTES) as usize
 }
 
 /// Whether a page's rights allow the load or the store.

@@ -2,7 +2,7 @@
 
 ghost use Rattle.std.specs.Prelude.{◌≡◌, ◌≤◌, [], replicate, IfOk};
 ghost use Rattle.space_core.specs.Pages.{IsFresh};
-ghost use Rattle.pager_model.specs.Bounds.{most_frames};
+ghost use Rattle.pager_model.specs.Bounds.{most_frames, most_actors};
 
 use crate::table::PageTable;
 use pager_model::{NoMemory, Sizes};
@@ -40,7 +40,7 @@ impl SpaceRoom {
         sizes: Sizes,
     ) -> Result<SpaceRoom, NoMemory>
         requires frames { frames ≤ most_frames }
-        requires few { processors ≤ 17 }
+        requires few { processors ≤ most_actors }
         ensures { IfOk result (λ room. room ≡ record { frames = frames; processors = processors; sizes = sizes }) }
     {
         let table = PageTable::create(alloc, frames, sizes)?;

@@ -3,7 +3,7 @@ ghost use Rattle.pager_model.specs.declared.region.Region.{Region as Item};
 ghost use Rattle.pager_model.specs.Flat.{page_of, space_of_call};
 ghost use Rattle.pager_model.specs.Order.{is_access};
 ghost use Rattle.pager_model.specs.Images.{is_in_image, still_tiles, touched};
-ghost use Rattle.pager_model.specs.Regions.{region_at};
+ghost use Rattle.pager_model.specs.Regions.{region_at, rights_by};
 ghost use Rattle.pager_model.specs.Tiles.{tile_count_in};
 ghost use Rattle.pager_model.specs.SpaceStates.{empty_state, access_page};
 ghost use Rattle.pager_model.specs.Stored.{TellsZero};
@@ -11,16 +11,18 @@ ghost use Rattle.space_core.specs.Beginning.{Begins, Finds, IsMappedBy, NeedsIts
 ghost use Rattle.space_core.specs.Beginning.{NoneResident, ClearsOne, ClearsNone, Unmapped};
 ghost use Rattle.space_core.specs.Pages.{Maps};
 ghost use Rattle.space_core.specs.Saving.{Saves, FailsToSave, LacksRoom, unwritten_by};
-ghost use Rattle.space_core.specs.Standing.{Kept, StandsFor, IsResting, range_of, frame_at, dirty_at, image_at, rights_by, is_allowed, CanBegin};
+ghost use Rattle.space_core.specs.Standing.{Kept, StandsFor, IsResting, range_of, frame_at, dirty_at, image_at, is_allowed, CanBegin};
 ghost use Rattle.space_core.specs.Tables.{mapping_in, own_in};
-ghost use Rattle.tiles.specs.Touched.{is_touched};
 ghost use Rattle.space_core.specs.Translating.{counted_up, untouched_tiles, Retouches, ChangesPages, CleansPage, Touches, BeginsClear};
-ghost use Rattle.pager_model.specs.Bounds.{space_bytes, space_pages};
+ghost use Rattle.pager_model.specs.Bounds.{space_bytes, space_pages, most_spaces};
 
-use crate::access::{accessed_page, answered, page_of, permits, want_in, word_of};
+use crate::access::{accessed_page, answered, permits, want_in};
 use crate::room::SpaceRoom;
 use crate::table::PageTable;
-use pager_model::{Answered, Call, Frame, Kind, PageRange, Region, Reply, Rights, Tile, Want};
+use pager_model::{
+    Answered, Call, Frame, Kind, Mapping, PageRange, Region, Reply, Rights, Tile, Want, page_of,
+    word_of,
+};
 use region_table::Regions;
 use std::marker::Model;
 use store_core::{Store, StoreFailed, WriteRefused};
@@ -66,7 +68,7 @@ pub enum OutFault {
 #[derive(Drop)]
 pub struct Space<S: Store + Send + Drop> {
     number: u32,
-    ghost few: { number < 16 },
+    ghost few: { number < most_spaces },
     regions: Regions,
     table: PageTable,
     /// The page that was placed and is not yet read in.
@@ -115,7 +117,7 @@ impl<S: Store + Send + Drop> Model for Space<S> {
 impl<S: Store + Send + Drop> Space<S> {
     /// A space without regions, in this room, with its page sizes, and over this store. It takes no memory.
     pub fn over(number: u32, room: SpaceRoom, store: S) -> Space<S>
-        requires few { number < 16 }
+        requires few { number < most_spaces }
         ensures made { (result.number ≡ number) × (result.frames ≡ room.frames) × (length result.images ≡ room.processors) × (result.store ≡ S.seen store) × IsResting result }
         ensures unread { result.reads ≡ S.reads store }
         ensures stands { (told : Bool) → (told ≡ true → TellsZero result.store) → StandsFor result (empty_state room.sizes told result.store.faults) }
@@ -140,7 +142,7 @@ impl<S: Store + Send + Drop> Space<S> {
     /// Its number among the program's spaces.
     pub fn number(&self) -> u32
         ensures number { result ≡ self.now.number }
-        ensures few { result < 16 }
+        ensures few { result < most_spaces }
     {
         self.number
     }
@@ -481,10 +483,10 @@ impl<S: Store + Send + Drop> Space<S> {
         if region.is_wired() {
             return Begun::Answered(answered(Reply::Denied));
         }
-        if self.table.number(page).is_none() {
+        let Some(mapping) = self.table.mapping(page) else {
             return Begun::Answered(answered(Reply::Clean));
-        }
-        match self.save(page) {
+        };
+        match self.save(page, mapping) {
             Ok(written) => {
                 self.paged = Some(page);
                 Begun::NeedsEvict { page, written }
@@ -499,7 +501,10 @@ impl<S: Store + Send + Drop> Space<S> {
         ensures failed { (count : ℕ) → result ≡ Err (OutFault.Failed count) → FailsToSave self.old self.new page count }
         ensures no_memory { result ≡ Err OutFault.NoMemory → LacksRoom self.old self.new page }
     {
-        let written = self.save(page)?;
+        let Some(mapping) = self.table.mapping(page) else {
+            return Ok(false);
+        };
+        let written = self.save(page, mapping)?;
         if written {
             let moves = self.table.set_clean(page);
             self.follow(moves);
@@ -507,16 +512,18 @@ impl<S: Store + Send + Drop> Space<S> {
         Ok(written)
     }
 
-    /// Writes the copy of a page where it is dirty, tells whether it was, and leaves it so.
-    fn save(&mut self, page: u32) -> Result<bool, OutFault>
+    /// Writes the copy of a page that is mapped so, where it is dirty, tells whether it was, and leaves it so.
+    fn save(&mut self, page: u32, mapping: Mapping) -> Result<bool, OutFault>
+        requires frame { frame_at self.old page ≡ Some mapping.frame }
+        requires dirty { dirty_at self.old page ≡ mapping.dirty }
         ensures saved { IfOk result (λ written. Saves self.old self.new page written) }
         ensures failed { (count : ℕ) → result ≡ Err (OutFault.Failed count) → FailsToSave self.old self.new page count }
         ensures no_memory { result ≡ Err OutFault.NoMemory → LacksRoom self.old self.new page }
     {
-        if !self.table.is_dirty(page) {
+        if !mapping.dirty {
             return Ok(false);
         }
-        match self.table.write_copy(page, &mut self.store) {
+        match self.table.write_copy(page, mapping.frame, &mut self.store) {
             Ok(()) => Ok(true),
             Err(WriteRefused::Failed) => Err(OutFault::Failed {
                 count: self.store.faults(),
@@ -637,7 +644,10 @@ impl<S: Store + Send + Drop> Space<S> {
 
     /// How many tiles there are of each size.
     pub fn tile_counts(&self) -> [u32; 4]
-        ensures { result ≡ tile_count_in self.now.table.sizes (mapping_in self.now.table) 0 ∷ tile_count_in self.now.table.sizes (mapping_in self.now.table) 1 ∷ tile_count_in self.now.table.sizes (mapping_in self.now.table) 2 ∷ tile_count_in self.now.table.sizes (mapping_in self.now.table) 3 ∷ [] }
+        ensures { result ≡ tile_count_in self.now.table.sizes (mapping_in self.now.table) 0
+            ∷ tile_count_in self.now.table.sizes (mapping_in self.now.table) 1
+            ∷ tile_count_in self.now.table.sizes (mapping_in self.now.table) 2
+            ∷ tile_count_in self.now.table.sizes (mapping_in self.now.table) 3 ∷ [] }
     {
         self.table.tile_counts()
     }

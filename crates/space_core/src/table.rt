@@ -79,6 +79,16 @@ impl PageTable {
         Some(self.pages.mapping(page)?.frame)
     }
 
+    /// The mapping of a page, where it is resident.
+    pub fn mapping(&self, page: u32) -> Option<Mapping>
+        ensures mapping { result ≡ mapping_in self.now page }
+        ensures some { IfSome result (λ m. (frame_in self.now page ≡ Some m.frame) × (dirty_in self.now page ≡ m.dirty)) }
+        ensures in_space { IfSome result (λ _. page < space_pages) }
+        ensures none { IfNone result ((frame_in self.now page ≡ None) × (dirty_in self.now page ≡ false)) }
+    {
+        self.pages.mapping(page)
+    }
+
     /// What a page is mapped by, where it is resident: its mapping and its tile.
     pub fn translate(&self, page: u32) -> Option<Translation>
         ensures mapping { option_map (λ t. t.mapping) result ≡ mapping_in self.now page }
@@ -105,7 +115,8 @@ impl PageTable {
 
     /// How many tiles there are of each size.
     pub fn tile_counts(&self) -> [u32; 4]
-        ensures { result ≡ tile_count_in self.now.sizes (mapping_in self.now) 0 ∷ tile_count_in self.now.sizes (mapping_in self.now) 1 ∷ tile_count_in self.now.sizes (mapping_in self.now) 2 ∷ tile_count_in self.now.sizes (mapping_in self.now) 3 ∷ [] }
+        ensures { result ≡ tile_count_in self.now.sizes (mapping_in self.now) 0 ∷ tile_count_in self.now.sizes (mapping_in self.now) 1
+            ∷ tile_count_in self.now.sizes (mapping_in self.now) 2 ∷ tile_count_in self.now.sizes (mapping_in self.now) 3 ∷ [] }
     {
         self.pages.counts(self.sizes)
     }
@@ -207,9 +218,14 @@ impl PageTable {
         Ok(())
     }
 
-    /// Writes the words of a resident page to its copy in the store.
-    pub fn write_copy<S: Store>(&self, page: u32, store: &mut S) -> Result<(), WriteRefused>
-        requires resident { frame_in self.now page ≢ None }
+    /// Writes the words of the page that has the frame of this number to its copy in the store.
+    pub fn write_copy<S: Store>(
+        &self,
+        page: u32,
+        number: u32,
+        store: &mut S,
+    ) -> Result<(), WriteRefused>
+        requires resident { frame_in self.now page ≡ Some number }
         ensures wrote { IfOk result (λ _. (words : List ℕ) × HasWords self.now page words
             × SetsCopy page (Some words) (S.seen store.old) (S.seen store.new)) }
         ensures failed { result ≡ Err WriteRefused.Failed
@@ -219,9 +235,6 @@ impl PageTable {
         ensures unread { S.reads store.new ≡ S.reads store.old }
         ensures never_falls { (S.seen store.old).faults ≤ (S.seen store.new).faults }
     {
-        let Some(number) = self.number(page) else {
-            unreachable!()
-        };
         let Some(frame) = &self.frames[number as usize] else {
             unreachable!()
         };

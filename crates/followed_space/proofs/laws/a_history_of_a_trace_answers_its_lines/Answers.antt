@@ -5,4 +5,5 @@ pub returns-clause-lines : goal.returns-clause-lines
 returns-clause-lines c = λ plan g before after e text marks legal shows. AnswersLine-run plan g before after e text marks legal shows
 
 pub returns-clause-processors : goal.returns-clause-processors
-returns-clause-processors c = λ plan g before after e number call answered text marks legal shows is. processor-run plan g before after e text marks legal shows number call answered is
+returns-clause-processors c =
+    λ plan g before after e number call answered text marks legal shows is. processor-run plan g before after e text marks legal shows number call answered is

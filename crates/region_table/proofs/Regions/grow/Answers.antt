@@ -12,7 +12,8 @@ returns-in_default-clause-reply c =
 
 pub overflow_sub-end : goal.overflow_sub-end
 overflow_sub-end c =
-    rw (c.deref.ensures.0 ∙ c.self.view_is) ((end-le 0 c.args.self.now c.in-Some.ensures.ordered.in_order c.in-Some.place blank c.in-Some.ensures.within).1)
+    rw (c.deref.ensures.0 ∙ c.self.view_is)
+    ((end-le 0 c.args.self.now c.in-Some.ensures.ordered.in_order c.in-Some.place blank c.in-Some.ensures.within).1)
 
 pub overflow_add-end : goal.overflow_add-end
 overflow_add-end c = omega (arith, overflow_sub-end c)
@@ -45,12 +46,14 @@ returns-clause-reply c =
     (rw (c.deref.ensures.0 ∙ c.self.view_is) at c.if-meets.ensures)
 
 law : (c : goal.After-self-1)
-    → (grown_regions c.args.page c.args.by c.args.self.now ≡ set c.args.self.now c.in-Some.place (longer c.args.by (get_or c.args.self.now c.in-Some.place blank))) × IsTable (grown_regions c.args.page c.args.by c.args.self.now)
+    → (grown_regions c.args.page c.args.by c.args.self.now ≡ set c.args.self.now c.in-Some.place
+    (longer c.args.by (get_or c.args.self.now c.in-Some.place blank))) × IsTable (grown_regions c.args.page c.args.by c.args.self.now)
 law c =
     let near = rw (c.deref.ensures.0 ∙ c.self.view_is) at c.if-by-end.false in
     let within = end-le 0 c.args.self.now c.in-Some.ensures.ordered.in_order c.in-Some.place blank c.in-Some.ensures.within in
     let meets = rw (c.deref.ensures.0 ∙ c.self.view_is) at c.if-meets.ensures in
-    IsTable-grown c.args.self.now c.args.page c.args.by c.in-Some.place blank c.in-Some.ensures.ordered (sym c.in-Some.ensures.value) c.requires (omega (arith, within.1)) (sym meets)
+    IsTable-grown c.args.self.now c.args.page c.args.by c.in-Some.place blank c.in-Some.ensures.ordered
+    (sym c.in-Some.ensures.value) c.requires (omega (arith, within.1)) (sym meets)
 
 pub returns-clause-after : goal.returns-clause-after
 returns-clause-after c =

@@ -14,9 +14,11 @@ pub invariant_of-self : goal.invariant_of-self
 invariant_of-self c =
     let new = region_of c.args.page c.args.length c.args.kind c.args.rights in
     let place = c.count_up_to-place in
-    let room : length c.args.self.now < 64 = rw (sym c.self.view_is) (omega (arith, c.self.invariant.at_most, eqb-false _ _ (sym c.if-is_full.ensures.value))) in
+    let room : length c.args.self.now < 64 = rw (sym c.self.view_is) (omega
+    (arith, c.self.invariant.at_most, eqb-false _ _ (sym c.if-is_full.ensures.value))) in
     rw (returns-clause-after c)
-    (IsTable-with_region c.args.self.now new place.result place.ensures.ordered c.requires.some (omega (arith, c.if-length-page.false)) (sym c.if-meets.ensures) room place.ensures.value)
+    (IsTable-with_region c.args.self.now new place.result place.ensures.ordered c.requires.some (omega (arith, c.if-length-page.false))
+    (sym c.if-meets.ensures) room place.ensures.value)
 
 pub returns-clause-ordered : goal.returns-clause-ordered
 returns-clause-ordered c = invariant_of-self c

@@ -5,7 +5,8 @@ use Rattle.region_table.proofs.Regions.unmap.Goals as goal
 
 pub returns-in-Some-clause-region : goal.returns-in-Some-clause-region
 returns-in-Some-clause-region c =
-    region_at-place c.args.self.now c.args.page c.in-Some.place c.remove.result (sym c.in-Some.ensures.value) ∙ rw (sym c.self.view_is) (ap Some (sym c.remove.ensures.value))
+    region_at-place c.args.self.now c.args.page c.in-Some.place c.remove.result (sym c.in-Some.ensures.value)
+    ∙ rw (sym c.self.view_is) (ap Some (sym c.remove.ensures.value))
 
 pub returns-in-Some-clause-reply : goal.returns-in-Some-clause-reply
 returns-in-Some-clause-reply c = ap unmap_reply_at (returns-in-Some-clause-region c)
@@ -15,12 +16,14 @@ returns-in-None-clause-reply c = ap unmap_reply_at (find-at_none _ c.args.self.n
 
 pub returns-in-Some-clause-after : goal.returns-in-Some-clause-after
 returns-in-Some-clause-after c =
-    let law = IsTable-without_region c.args.self.now c.args.page c.in-Some.place c.in-Some.ensures.ordered (sym c.in-Some.ensures.value) c.remove.result in
+    let law = IsTable-without_region c.args.self.now c.args.page c.in-Some.place c.in-Some.ensures.ordered
+    (sym c.in-Some.ensures.value) c.remove.result in
     c.remove.ensures.items ∙ rw c.self.view_is (sym law.0)
 
 pub invariant_of-self : goal.invariant_of-self
 invariant_of-self c =
-    let law = IsTable-without_region c.args.self.now c.args.page c.in-Some.place c.in-Some.ensures.ordered (sym c.in-Some.ensures.value) c.remove.result in
+    let law = IsTable-without_region c.args.self.now c.args.page c.in-Some.place c.in-Some.ensures.ordered
+    (sym c.in-Some.ensures.value) c.remove.result in
     rw (returns-in-Some-clause-after c) law.1
 
 pub returns-in-Some-clause-ordered : goal.returns-in-Some-clause-ordered

@@ -9,4 +9,5 @@ loop-word-preserved c = λ none.
     let i = c.loop-word.word-index in
     let bits : c.loop-word.bits ≡ 0 = (let low = le_or_l c.loop-word.bits (get_or words i 0) in omega (arith, none, low)) in
     let word : get_or words i 0 ≡ 0 = (let low = le_or_r c.loop-word.bits (get_or words i 0) in omega (arith, none, low)) in
-    take_more words i 0 c.loop-word-test.true ∙ ap (λ l. l ++ get_or words i 0 ∷ []) (c.loop-word.invariant bits) ∙ ap (λ w. replicate i 0 ++ w ∷ []) word ∙ replicate_more i 0
+    take_more words i 0 c.loop-word-test.true ∙ ap (λ l. l ++ get_or words i 0 ∷ []) (c.loop-word.invariant bits)
+    ∙ ap (λ w. replicate i 0 ++ w ∷ []) word ∙ replicate_more i 0

@@ -10,10 +10,12 @@ pub returns-in-Unmap-clause-follows : goal.returns-in-Unmap-clause-follows
 returns-in-Unmap-clause-follows c = λ st e serves next. c.unmap.ensures.follows st e c.in-Unmap.space (rw c.in-Unmap.is at serves) next
 
 pub returns-in-Protect-clause-follows : goal.returns-in-Protect-clause-follows
-returns-in-Protect-clause-follows c = λ st e serves next. c.protect.ensures.follows st e c.in-Protect.space (rw c.in-Protect.is at serves) next
+returns-in-Protect-clause-follows c = λ st e serves next. c.protect.ensures.follows st e c.in-Protect.space
+    (rw c.in-Protect.is at serves) next
 
 pub returns-in-Store-clause-follows : goal.returns-in-Store-clause-follows
-returns-in-Store-clause-follows c = λ st e serves next. c.store.ensures.follows st e c.in-Store.space c.in-Store.word (rw c.in-Store.is at serves) next
+returns-in-Store-clause-follows c = λ st e serves next. c.store.ensures.follows st e c.in-Store.space c.in-Store.word
+    (rw c.in-Store.is at serves) next
 
 pub returns-in-Sync-clause-follows : goal.returns-in-Sync-clause-follows
 returns-in-Sync-clause-follows c = λ st e serves next. c.sync.ensures.follows st e c.in-Sync.space (rw c.in-Sync.is at serves) next

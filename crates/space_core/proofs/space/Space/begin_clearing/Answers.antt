@@ -9,7 +9,8 @@ pub returns-in_default-clause-counts : goal.returns-in_default-clause-counts
 returns-in_default-clause-counts g c =
     let t = c.self.inside.table in
     let none : large_tiles_meeting_in t.sizes c.args.range.first c.args.range.length (mapping_in t) ≡ 0 =
-    meeting_bare t.sizes (mapping_in t) c.args.range.first c.args.range.length (λ p on before. mapping-absent t p (c.in_default.ensures.none p on before)) in
+    meeting_bare t.sizes (mapping_in t) c.args.range.first c.args.range.length
+    (λ p on before. mapping-absent t p (c.in_default.ensures.none p on before)) in
     rw (← c.self.view_is) (record { same = refl; begun = refl; went_on = search rules; counted = λ _. sym none })
 
 pub returns-clause-counts : goal.returns-clause-counts
@@ -19,7 +20,10 @@ returns-clause-counts g c =
     let length = c.args.range.length in
     let page = c.in-Some.page in
     let is = c.in-Some.ensures.some in
-    let rest : large_tiles_meeting_in t.sizes first length (mapping_in t) ≡ large_tiles_meeting_in t.sizes page (first + length - page) (mapping_in t) =
+    let rest : large_tiles_meeting_in t.sizes first length (mapping_in t)
+    ≡ large_tiles_meeting_in t.sizes page (first + length - page) (mapping_in t) =
     ap (λ n. large_tiles_meeting_in t.sizes first n (mapping_in t)) (omega arith)
-    ∙ meeting_from t.sizes (mapping_in t) first page (first + length) is.from_on (omega (arith, is.before_end)) (λ p on before. mapping-absent t p (is.lowest p on before)) in
-    rw (← c.self.view_is) (record { same = refl; begun = refl; went_on = search rules; counted = λ _. c.tiles_meeting-self-inside.ensures ∙ sym rest })
+    ∙ meeting_from t.sizes (mapping_in t) first page (first + length) is.from_on (omega (arith, is.before_end))
+    (λ p on before. mapping-absent t p (is.lowest p on before)) in
+    rw (← c.self.view_is)
+    (record { same = refl; begun = refl; went_on = search rules; counted = λ _. c.tiles_meeting-self-inside.ensures ∙ sym rest })

@@ -11,22 +11,28 @@ use Rattle.space_core.proofs.space.Space.begin_evict.Goals as goal
 
 pub returns-in_default : goal.returns-in_default
 returns-in_default g c =
-    let none : region_at c.args.self.now.regions c.args.page ≡ None = ap (λ (k : Kept). region_at k.regions c.args.page) (sym c.self.view_is) ∙ sym c.find.ensures.value ∙ c.in_default.is in
-    rw c.answered.ensures (λ processor. begins_refused c.args.self.now processor (Evict c.args.self.now.number c.args.page) Unmapped c.requires.can c.requires.resting refl tt
+    let none : region_at c.args.self.now.regions c.args.page ≡ None =
+    ap (λ (k : Kept). region_at k.regions c.args.page) (sym c.self.view_is) ∙ sym c.find.ensures.value ∙ c.in_default.is in
+    rw c.answered.ensures (λ processor. begins_refused c.args.self.now processor
+    (Evict c.args.self.now.number c.args.page) Unmapped c.requires.can c.requires.resting refl tt
     (λ st s. ap (λ o. evict_reply o (st.flat.dirty c.args.page)) (ap (λ rs. region_at rs c.args.page) s.beside.regions ∙ none)))
 
 pub returns-then-is_wired : goal.returns-then-is_wired
 returns-then-is_wired g c =
-    let found : region_at c.args.self.now.regions c.args.page ≡ Some c.in-Some.region = ap (λ (k : Kept). region_at k.regions c.args.page) (sym c.self.view_is) ∙ sym c.in-Some.ensures.value in
+    let found : region_at c.args.self.now.regions c.args.page ≡ Some c.in-Some.region =
+    ap (λ (k : Kept). region_at k.regions c.args.page) (sym c.self.view_is) ∙ sym c.in-Some.ensures.value in
     let wired : is_wired c.in-Some.region ≡ true = search rules in
-    rw c.answered-then-is_wired.ensures (λ processor. begins_refused c.args.self.now processor (Evict c.args.self.now.number c.args.page) Denied c.requires.can c.requires.resting refl tt
-    (λ st s. ap (λ rs. evict_reply (region_at rs c.args.page) (st.flat.dirty c.args.page)) s.beside.regions ∙ evict_denied _ c.args.page c.in-Some.region found wired (st.flat.dirty c.args.page)))
+    rw c.answered-then-is_wired.ensures (λ processor. begins_refused c.args.self.now processor
+    (Evict c.args.self.now.number c.args.page) Denied c.requires.can c.requires.resting refl tt
+    (λ st s. ap (λ rs. evict_reply (region_at rs c.args.page) (st.flat.dirty c.args.page)) s.beside.regions
+    ∙ evict_denied _ c.args.page c.in-Some.region found wired (st.flat.dirty c.args.page)))
 
-pub returns-then-is_none : goal.returns-then-is_none
-returns-then-is_none g c =
+pub returns-in_default-mapping : goal.returns-in_default-mapping
+returns-in_default-mapping g c =
     let unwired : is_unwired (region_at c.args.self.now.regions c.args.page) ≡ true = rw (← c.self.view_is) (search (rules, unwired_at)) in
     let absent : frame_at c.args.self.now c.args.page ≡ None = rw (← c.self.view_is) (search rules) in
-    rw c.answered-then-is_none.ensures (λ processor. evicts_absent c.args.self.now processor c.args.page c.requires.resting unwired absent)
+    rw c.answered-in_default-mapping.ensures
+    (λ processor. evicts_absent c.args.self.now processor c.args.page c.requires.resting unwired absent)
 
 pub returns-in-Ok : goal.returns-in-Ok
 returns-in-Ok g c =
@@ -34,10 +40,20 @@ returns-in-Ok g c =
     let resident : frame_at c.args.self.now c.args.page ≢ None = rw (← c.self.view_is) (search rules) in
     let in_space : c.args.page < 1048576 = search rules in
     λ processor. begins_evicting c.args.self.now c.save.new.self _ c.args.page c.in-Ok.written c.requires.resting in_space unwired resident c.in-Ok.ensures.saved
-    (rw (← c.self-2.view_is) (record { same = same_regions _ _ refl refl refl refl (λ p. refl); table = refl; pending = refl; clearing = refl; paged = refl; store = refl; unread = refl; still = record { sizes = refl; images = refl; promotions = refl; demotions = refl } }))
+    (rw (← c.self-2.view_is) (record {
+      same = same_regions _ _ refl refl refl refl (λ p. refl);
+      table = refl;
+      pending = refl;
+      clearing = refl;
+      paged = refl;
+      store = refl;
+      unread = refl;
+      still = record { sizes = refl; images = refl; promotions = refl; demotions = refl };
+    }))
 
 pub returns-in-Err : goal.returns-in-Err
 returns-in-Err g c =
     let unwired : is_unwired (region_at c.args.self.now.regions c.args.page) ≡ true = rw (← c.self.view_is) (search (rules, unwired_at)) in
-    rw c.unwritten.ensures (λ processor. begins_unwritten c.args.self.now c.save.new.self processor c.args.page c.requires.resting (Evict c.args.self.now.number c.args.page) c.in-Err.fault refl unwired
+    rw c.unwritten.ensures (λ processor. begins_unwritten c.args.self.now c.save.new.self processor c.args.page c.requires.resting
+    (Evict c.args.self.now.number c.args.page) c.in-Err.fault refl unwired
     (λ count h. c.in-Err.ensures.failed count (ap Err h)) (λ h. c.in-Err.ensures.no_memory (ap Err h)))

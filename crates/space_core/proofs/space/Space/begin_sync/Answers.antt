@@ -10,7 +10,8 @@ use Rattle.space_core.proofs.space.Space.begin_sync.Goals as goal
 pub returns-then-is_none : goal.returns-then-is_none
 returns-then-is_none g c =
     let none : region_at c.args.self.now.regions c.args.page ≡ None = rw (← c.self.view_is) (search rules) in
-    rw c.answered.ensures (λ processor. begins_refused c.args.self.now processor (Sync c.args.self.now.number c.args.page) Unmapped c.requires.can c.requires.resting refl tt
+    rw c.answered.ensures (λ processor. begins_refused c.args.self.now processor
+    (Sync c.args.self.now.number c.args.page) Unmapped c.requires.can c.requires.resting refl tt
     (λ st s. ap (λ o. sync_reply o (st.flat.dirty c.args.page)) (ap (λ rs. region_at rs c.args.page) s.beside.regions ∙ none)))
 
 pub returns-in-Ok : goal.returns-in-Ok
@@ -18,10 +19,12 @@ returns-in-Ok g c =
     let has : is_some (region_at c.args.self.now.regions c.args.page) ≡ true = rw (← c.self.view_is) (search rules) in
     let copied = c.in-Ok.ensures.copied in
     rw (c.answered-in-Ok.ensures, c.copied.ensures)
-    (λ processor. syncs c.args.self.now copied.0 c.copy_out.new.self processor c.args.page _ c.requires.resting has copied.1 copied.2)
+    (λ processor. syncs c.args.self.now c.copy_out.new.self processor c.args.page _ c.requires.resting has
+    (record { mid = copied.0; saves = copied.1; cleans = copied.2 }))
 
 pub returns-in-Err : goal.returns-in-Err
 returns-in-Err g c =
     let has : is_some (region_at c.args.self.now.regions c.args.page) ≡ true = rw (← c.self.view_is) (search rules) in
-    rw c.unwritten.ensures (λ processor. begins_unwritten c.args.self.now c.copy_out.new.self processor c.args.page c.requires.resting (Sync c.args.self.now.number c.args.page) c.in-Err.fault refl has
+    rw c.unwritten.ensures (λ processor. begins_unwritten c.args.self.now c.copy_out.new.self processor c.args.page c.requires.resting
+    (Sync c.args.self.now.number c.args.page) c.in-Err.fault refl has
     (λ count h. c.in-Err.ensures.failed count (ap Err h)) (λ h. c.in-Err.ensures.no_memory (ap Err h)))

@@ -1,4 +1,7 @@
-use Rattle.pager_model.specs.Flat.{page_of}
+use Rattle.std.proofs.Common.{◌∙◌, ap}
+use Rattle.pager_model.specs.Flat.{page_of, word_of}
+use Rattle.space_core.specs.Standing.{Kept}
+use Rattle.space_core.specs.Tables.{word_in}
 use Rattle.space_core.proofs.MappedAccesses.{mapped_resident}
 use Rattle.space_core.proofs.ServedPages.{loads}
 use Rattle.space_core.proofs.TableLemmas.{frame-mapped}
@@ -11,10 +14,16 @@ word_by-word-requires-clause-resident g c =
 
 pub returns : goal.returns
 returns g c =
-    let rest = rw (← c.self.view_is) at c.requires.resting in
     let found = rw (← c.self.view_is) at c.requires.found in
     let has = frame-mapped c.self.inside.table (page_of c.args.address) c.args.found.mapping found.mapping in
     let read = rw c.word_of.ensures.word at (c.word_by-word.ensures (page_of c.args.address) has) in
-    rw (c.touch.ensures.answered, ← c.self.view_is, rest.none_pending, rest.none_clearing, rest.none_paged)
-    (loads _ _ _ _ _ _ _ _ _ c.args.address (mapped_resident _ _ _ found) c.args.processor (rw (← c.self.view_is) at c.requires.processor) _ (rw (← c.self.view_is) at c.requires.allowed) read c.args.found.tile found.tile c.touch.new.self
-    (rw (← c.self.view_is, rest.none_pending, rest.none_clearing, rest.none_paged) at c.touch.ensures.touched))
+    rw c.touch.ensures.answered
+    (loads c.args.self.now c.touch.new.self c.args.processor c.args.address c.args.found.tile
+    (record {
+      resting = c.requires.resting;
+      processor = c.requires.processor;
+      allowed = c.requires.allowed;
+      resident = mapped_resident c.args.self.now (page_of c.args.address) c.args.found c.requires.found;
+      tile_is = c.requires.found.tile;
+    })
+    c.touch.ensures.touched _ (read ∙ ap (λ (k : Kept). word_in k.table (page_of c.args.address) (word_of c.args.address)) c.self.view_is))

@@ -7,30 +7,43 @@ use Rattle.space_core.proofs.RegionSearch.{next_above}
 use Rattle.space_core.proofs.space.Space.look_at_region.Goals as goal
 
 pub want_in-requires-clause-has_first : goal.want_in-requires-clause-has_first
-want_in-requires-clause-has_first g c = omega (arith, found_page c.self.inside.regions c.self.invariant.ordered.in_order c.args.page c.in-Some.region (sym c.in-Some.ensures.value))
+want_in-requires-clause-has_first g c = omega
+    (arith, found_page c.self.inside.regions c.self.invariant.ordered.in_order c.args.page c.in-Some.region (sym c.in-Some.ensures.value))
 
 pub want_in-requires-clause-has_last : goal.want_in-requires-clause-has_last
-want_in-requires-clause-has_last g c = omega (arith, found_page c.self.inside.regions c.self.invariant.ordered.in_order c.args.page c.in-Some.region (sym c.in-Some.ensures.value))
+want_in-requires-clause-has_last g c = omega
+    (arith, found_page c.self.inside.regions c.self.invariant.ordered.in_order c.args.page c.in-Some.region (sym c.in-Some.ensures.value))
 
 pub want_in-requires-clause-in_space : goal.want_in-requires-clause-in_space
-want_in-requires-clause-in_space g c = omega (arith, found_page c.self.inside.regions c.self.invariant.ordered.in_order c.args.page c.in-Some.region (sym c.in-Some.ensures.value))
+want_in-requires-clause-in_space g c = omega
+    (arith, found_page c.self.inside.regions c.self.invariant.ordered.in_order c.args.page c.in-Some.region (sym c.in-Some.ensures.value))
 
 pub want_in-requires-clause-above : goal.want_in-requires-clause-above
-want_in-requires-clause-above g c = omega (arith, c.next_start.ensures.value, (next_above 0 c.self.inside.regions c.self.invariant.ordered.in_order c.args.page c.requires.in_space).0)
+want_in-requires-clause-above g c = omega (
+  arith,
+  c.next_start.ensures.value,
+  (next_above 0 c.self.inside.regions c.self.invariant.ordered.in_order c.args.page c.requires.in_space).0,
+)
 
 pub want_in-requires-clause-next_in_space : goal.want_in-requires-clause-next_in_space
-want_in-requires-clause-next_in_space g c = omega (arith, c.next_start.ensures.value, (next_above 0 c.self.inside.regions c.self.invariant.ordered.in_order c.args.page c.requires.in_space).1)
+want_in-requires-clause-next_in_space g c = omega (
+  arith,
+  c.next_start.ensures.value,
+  (next_above 0 c.self.inside.regions c.self.invariant.ordered.in_order c.args.page c.requires.in_space).1,
+)
 
 pub returns-in_default : goal.returns-in_default
 returns-in_default g c =
-    let none : region_at c.args.self.now.regions c.args.page ≡ None = ap (λ (k : Kept). region_at k.regions c.args.page) (sym c.self.view_is) ∙ sym c.find.ensures.value ∙ c.in_default.is in (
+    let none : region_at c.args.self.now.regions c.args.page ≡ None =
+    ap (λ (k : Kept). region_at k.regions c.args.page) (sym c.self.view_is) ∙ sym c.find.ensures.value ∙ c.in_default.is in (
       unmapped_needs_none c.args.self.now c.args.call.now c.args.page c.requires.page none,
       λ resting processor. begins_unmapped c.args.self.now processor c.args.call.now c.args.page c.requires.can resting c.requires.page none,
     )
 
 pub returns-then-not-permits : goal.returns-then-not-permits
 returns-then-not-permits g c =
-    let found : region_at c.args.self.now.regions c.args.page ≡ Some c.in-Some.region = ap (λ (k : Kept). region_at k.regions c.args.page) (sym c.self.view_is) ∙ sym c.in-Some.ensures.value in
+    let found : region_at c.args.self.now.regions c.args.page ≡ Some c.in-Some.region =
+    ap (λ (k : Kept). region_at k.regions c.args.page) (sym c.self.view_is) ∙ sym c.in-Some.ensures.value in
     let refused = rw c.rights.ensures at (sym c.permits.ensures ∙ c.if-not-permits.true) in (
       denied_needs_none c.args.self.now c.args.call.now c.args.page c.in-Some.region c.requires.page found refused,
       λ resting processor. begins_denied c.args.self.now processor c.args.call.now c.args.page c.in-Some.region c.requires.can resting c.requires.page found refused,

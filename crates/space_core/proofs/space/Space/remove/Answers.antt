@@ -13,13 +13,26 @@ returns g c =
     let clean = rw (← c.self.view_is) at c.requires.clean in
     rw (← c.self.view_is)
     (removes _ c.take.new.self c.args.page c.take.result.number
-    (same_regions _ _ (ap (λ (k : Kept). k.number) e.same) (ap (λ (k : Kept). k.frames) e.same) e.retouched.processors (ap (λ (k : Kept). k.regions) e.same) e.maps.same.own)
-    (clean_only _ c.args.page none_clearing none_paged (rw (← c.self.view_is) at c.requires.no_other_pending))
     (record {
-      none_pending = ap (λ (k : Kept). k.pending) e.same;
-      none_clearing = ap (λ (k : Kept). k.clearing) e.same ∙ none_clearing;
-      none_paged = ap (λ (k : Kept). k.paged) e.same ∙ none_paged;
+      only = clean_only _ c.args.page none_clearing none_paged (rw (← c.self.view_is) at c.requires.no_other_pending);
+      unbehind = ap (λ d. d && not (is_that c.args.page c.self.inside.paged)) clean;
+      had = e.taken;
+      moves = e.maps;
+      retouched = record {
+        sizes = e.retouched.sizes;
+        processors = e.retouched.processors;
+        images = e.retouched.images;
+        promotions = e.retouched.promotions;
+        demotions = e.retouched.demotions;
+      };
+      resting = record {
+        none_pending = ap (λ (k : Kept). k.pending) e.same;
+        none_clearing = ap (λ (k : Kept). k.clearing) e.same ∙ none_clearing;
+        none_paged = ap (λ (k : Kept). k.paged) e.same ∙ none_paged;
+      };
+      same = same_regions _ _ (ap (λ (k : Kept). k.number) e.same) (ap (λ (k : Kept). k.frames) e.same) e.retouched.processors
+          (ap (λ (k : Kept). k.regions) e.same) e.maps.same.own;
+      store = ap (λ (k : Kept). k.store) e.same;
+      unread = ap (λ (k : Kept). k.reads) e.same;
     })
-    (ap (λ (k : Kept). k.store) e.same) (ap (λ (k : Kept). k.reads) e.same) e.taken e.maps
-    (record { sizes = e.retouched.sizes; processors = e.retouched.processors; images = e.retouched.images; promotions = e.retouched.promotions; demotions = e.retouched.demotions })
-    (ap (λ d. d && not (is_that c.args.page c.self.inside.paged)) clean) clean none_paged)
+    clean none_paged)

@@ -10,6 +10,7 @@ returns-in-Refused g c =
       some = tt;
       none = elim c.in-Refused.is [
         | inl refused ↦ (rw refused.1 at c.look.ensures).0
-        | inr found ↦ λ _. IfSome_then (access_page c.args.call.now) (rw found.1 at c.look.ensures).1 (λ page. mapped_resident c.args.self.now page found.0)
+        | inr found ↦ λ _. IfSome_then (access_page c.args.call.now) (rw found.1 at c.look.ensures).1
+            (λ page. mapped_resident c.args.self.now page found.0)
       ];
     }

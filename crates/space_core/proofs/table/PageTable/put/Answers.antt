@@ -13,12 +13,26 @@ after_fill-changes-requires-clause-other c p e =
 pub invariant_of-self : goal.invariant_of-self
 invariant_of-self c =
     rw c.number-number.ensures
-    (put_paged (the_view c.self.inside) c.self.invariant c.args.page _ c.args.frame _ c.after_fill-changes.ensures.maps c.number-number.ensures (rw (← c.self.view_is) at c.requires.known) (rw (← c.self.view_is) at c.requires.other))
+    (put_paged (the_view c.self.inside) c.args.page _ c.args.frame _
+    (record {
+      paged = c.self.invariant;
+      maps = c.after_fill-changes.ensures.maps;
+      number = c.number-number.ensures;
+      known = rw (← c.self.view_is) at c.requires.known;
+      other = rw (← c.self.view_is) at c.requires.other;
+    }))
 
 pub returns-clause-maps : goal.returns-clause-maps
 returns-clause-maps c =
     rw (← c.self.view_is, c.number-number.ensures)
-    (put_maps (the_view c.self.inside) c.self.invariant c.args.page _ c.args.frame _ (rw c.number-number.ensures at c.after_fill-changes.ensures.maps) refl (rw (← c.self.view_is) at c.requires.known) (rw (← c.self.view_is) at c.requires.other))
+    (put_maps (the_view c.self.inside) c.args.page _ c.args.frame _
+    (record {
+      paged = c.self.invariant;
+      maps = rw c.number-number.ensures at c.after_fill-changes.ensures.maps;
+      number = refl;
+      known = rw (← c.self.view_is) at c.requires.known;
+      other = rw (← c.self.view_is) at c.requires.other;
+    }))
 
 pub returns-clause-moves : goal.returns-clause-moves
 returns-clause-moves c = rw (← c.self.view_is, c.moves.ensures) (c.after_fill-changes.ensures.changes.moves_in c.self.inside.sizes)

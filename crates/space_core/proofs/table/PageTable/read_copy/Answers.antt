@@ -12,7 +12,8 @@ pub unreachable-requires : goal.unreachable-requires
 unreachable-requires g c =
     let t = the_view c.self.inside in
     let has = rw (← c.self.view_is) at c.requires.resident in
-    frame-there t c.self.invariant _ _ has (frame-read t _ _ (found_within _ c.self.invariant _ _ has) c.index_mut.ensures.value ∙ c.in_default.is)
+    frame-there t c.self.invariant _ _ has (frame-read t _ _ (found_within _ c.self.invariant _ _ has) c.index_mut.ensures.value
+    ∙ c.in_default.is)
 
 pub invariant_of-self : goal.invariant_of-self
 invariant_of-self g c =
@@ -41,4 +42,5 @@ returns-clause-read g c = λ words tells known i.
     let has = rw (← c.self.view_is) at c.requires.resident in
     let is = frame-read t _ _ (found_within _ c.self.invariant _ _ has) c.index_mut.ensures.value ∙ c.in-Some.is in
     let copied = rw (known, ← c.deref.ensures) at (c.in_ok-copied.ensures.read tells) in
-    rw c.set_copied.ensures (rewritten_has t c.self.invariant _ _ _ has (frame-number t c.self.invariant _ _ _ has is) i ∙ ap (λ (ws : List ℕ). slice_index_or ws i 0) copied)
+    rw c.set_copied.ensures (rewritten_has t c.self.invariant _ _ _ has (frame-number t c.self.invariant _ _ _ has is) i
+    ∙ ap (λ (ws : List ℕ). slice_index_or ws i 0) copied)

@@ -19,7 +19,8 @@ invariant_of-self c =
 
 pub returns-in_err-number-clause-none : goal.returns-in_err-number-clause-none
 returns-in_err-number-clause-none c =
-    rw (c.from_residual.ensures, ← c.self.view_is) (told (goal.at.returns-in_err-number-clause-none c).After-frame_before ∙ c.in_err-number.was)
+    rw (c.from_residual.ensures, ← c.self.view_is) (told (goal.at.returns-in_err-number-clause-none c).After-frame_before
+    ∙ c.in_err-number.was)
 
 pub returns-in_err-number-clause-after : goal.returns-in_err-number-clause-after
 returns-in_err-number-clause-after c =
@@ -64,7 +65,12 @@ returns-clause-some c =
     let has = told (goal.at.returns-clause-some c).After-frame_before ∙ c.in_ok-number.was in
     let at = c.self.invariant.found _ _ has in
     let is = sym at.is ∙ frame-read t _ _ (found_within _ c.self.invariant _ _ has) c.index_mut.ensures.value ∙ sym c.take.ensures.value in
-    rw (← c.self.view_is) (has ∙ ap Some (sym at.number_is) ∙ ap (λ (f : Framed). Some f.number) (same_Some _ _ (is ∙ c.in_ok-frame.was)), rw c.moves.ensures (c.after_remove-changes.ensures.changes.moves_in c.self.inside.sizes))
+    rw (← c.self.view_is) (
+      has ∙ ap Some (sym at.number_is)
+          ∙ ap (λ (f : Framed). Some f.number) (same_Some _ _ (is ∙ c.in_ok-frame.was)),
+      rw c.moves.ensures
+          (c.after_remove-changes.ensures.changes.moves_in c.self.inside.sizes),
+    )
 
 pub returns-clause-after : goal.returns-clause-after
 returns-clause-after c =

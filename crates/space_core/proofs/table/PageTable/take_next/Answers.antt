@@ -7,7 +7,10 @@ pub returns-in_err-page-clause-none : goal.returns-in_err-page-clause-none
 returns-in_err-page-clause-none c =
     let t = the_view c.self.inside in
     let e = c.in_err-page.ensures.none in
-    rw (c.from_residual.ensures, ← c.self.view_is) (next_none t c.args.from c.args.end None e.0, ap (λ pages. record t { pages = pages }) e.1)
+    rw (c.from_residual.ensures, ← c.self.view_is) (
+      next_none t c.args.from c.args.end None e.0,
+      ap (λ pages. record t { pages = pages }) e.1,
+    )
 
 pub index_mut-requires : goal.index_mut-requires
 index_mut-requires c =
@@ -24,7 +27,8 @@ pub returns-in_err-frame-clause-none : goal.returns-in_err-frame-clause-none
 returns-in_err-frame-clause-none c =
     let t = the_view c.self.inside in
     let has = frame_in-is t c.in_ok-page.page ∙ c.in_ok-page.ensures.some.1 in
-    absurd (frame-there t c.self.invariant _ _ has (frame-read t _ _ (found_within t c.self.invariant _ _ has) c.index_mut.ensures.value ∙ sym c.take.ensures.value ∙ c.in_err-frame.was))
+    absurd (frame-there t c.self.invariant _ _ has (frame-read t _ _ (found_within t c.self.invariant _ _ has) c.index_mut.ensures.value
+    ∙ sym c.take.ensures.value ∙ c.in_err-frame.was))
 
 pub invariant_of-self-2 : goal.invariant_of-self-2
 invariant_of-self-2 c =
@@ -37,6 +41,11 @@ returns-clause-some c =
     let t = the_view c.self.inside in
     let e = c.in_ok-page.ensures.some in
     let has = frame_in-is t c.in_ok-page.page ∙ e.1 in
-    let is = frame-read t _ _ (found_within t c.self.invariant _ _ has) c.index_mut.ensures.value ∙ sym c.take.ensures.value ∙ c.in_ok-frame.was in
-    rw (← c.self.view_is, c.take.ensures.after)
-    (next_some t c.args.from c.args.end (Some c.in_ok-page.page) e.0, has ∙ ap Some (sym (frame-number t c.self.invariant _ _ _ has is)), take_maps t c.self.invariant c.in_ok-page.page _ _ e.2 has)
+    let is = frame-read t _ _ (found_within t c.self.invariant _ _ has) c.index_mut.ensures.value ∙ sym c.take.ensures.value
+    ∙ c.in_ok-frame.was in
+    rw (← c.self.view_is, c.take.ensures.after) (
+      next_some t c.args.from c.args.end (Some c.in_ok-page.page) e.0,
+      has
+          ∙ ap Some (sym (frame-number t c.self.invariant _ _ _ has is)),
+      take_maps t c.self.invariant c.in_ok-page.page _ _ e.2 has,
+    )

@@ -12,7 +12,8 @@ pub unreachable-requires : goal.unreachable-requires
 unreachable-requires c =
     let t = the_view c.self.inside in
     let has = rw (← c.self.view_is) at c.requires.resident.1 in
-    frame-there t c.self.invariant _ _ has (frame-read t _ _ (found_within _ c.self.invariant _ _ has) c.index_mut.ensures.value ∙ c.in_default.is)
+    frame-there t c.self.invariant _ _ has (frame-read t _ _ (found_within _ c.self.invariant _ _ has) c.index_mut.ensures.value
+    ∙ c.in_default.is)
 
 pub invariant_of-self : goal.invariant_of-self
 invariant_of-self c =
@@ -27,4 +28,5 @@ returns c = λ page there.
     let has = rw (← c.self.view_is) at there in
     let is = frame-read t _ _ (found_within _ c.self.invariant _ _ has) c.index_mut.ensures.value ∙ c.in-Some.is in
     rw (← c.self.view_is, c.set_word.ensures.written)
-    (sets_word t c.self.invariant _ _ _ has (frame-number t c.self.invariant _ _ _ has is) _ _ _ is refl (omega (arith, c.set_word.ensures.count, c.requires.index)))
+    (sets_word t c.self.invariant _ _ _ has (frame-number t c.self.invariant _ _ _ has is) _ _ _ is refl
+    (omega (arith, c.set_word.ensures.count, c.requires.index)))
