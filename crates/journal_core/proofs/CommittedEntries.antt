@@ -77,7 +77,8 @@ space_allows : (g : Given) (spaces part : ℕ) (entries history : List Entry) (e
     → IfSome space (λ s. SpaceJudges g s (space_part s history) e)
 space_allows g spaces part entries history e None is only allows = tt
 space_allows g spaces part entries history e (Some s) is only allows =
-    subst (λ l. SpaceJudges g s l e) (is ∙ part_list-space spaces part history (omega (arith, only.0, only.1)) ∙ ap (λ k. space_part k history) (sym only.0)) allows
+    subst (λ l. SpaceJudges g s l e) (is ∙ part_list-space spaces part history (omega (arith, only.0, only.1))
+    ∙ ap (λ k. space_part k history) (sym only.0)) allows
 
 space_below : (spaces part : ℕ) (space : Option ℕ) → IfSome space (λ s. (s ≡ part) × (s < spaces)) → IfSome space (λ s. s < spaces)
 space_below spaces part None only = tt
@@ -98,7 +99,8 @@ short_enough p history e own is room most =
 -- an author and a pass, under the pass's setting
 pub one_may : (a : AuthorState) (p : PassState) (e : Entry) → a.journal ≡ p.journal → NamesItsParts e
     → NamesOnly (length a.journal.setting.told) a.part e → e.processor ≡ p.processor
-    → AllowedAfter a.journal.setting a.entries e → KeepsOrder p.journal.setting (entries_in p.entries) e → length p.entries < p.room → p.room ≤ most_entries → p.processor < length p.journal.setting.marks → MayGrow (joined (pass_view p) (author_view a)) e
+    → AllowedAfter a.journal.setting a.entries e → KeepsOrder p.journal.setting (entries_in p.entries) e → length p.entries < p.room
+    → p.room ≤ most_entries → p.processor < length p.journal.setting.marks → MayGrow (joined (pass_view p) (author_view a)) e
 one_may a p e same parts only own allowed order room most processor = record {
   live = refl;
   named = (named_by spaces a.part e.space e.frames only' (on_something e.space e.frames e.what parts), tt);

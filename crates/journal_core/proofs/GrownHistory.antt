@@ -27,11 +27,15 @@ use Rattle.journal_core.proofs.RuleSteps.{found_is, meets}
 -- growing changes no count
 parts_counted : (e : Entry) (part : ℕ) (ps : List Part) → count_by (is_part part) (map (part_grown e) ps) ≡ count_by (is_part part) ps
 parts_counted e part [] = refl
-parts_counted e part (p ∷ ps) = omega (arith, sum_by-cons (λ (q : Part). cond (eqb q.part part) 1 0) (part_grown e p) (map (part_grown e) ps), sum_by-cons (λ (q : Part). cond (eqb q.part part) 1 0) p ps, parts_counted e part ps)
+parts_counted e part (p ∷ ps) =
+    let weight : Part → ℕ = λ q. cond (eqb q.part part) 1 0 in
+    omega (arith, sum_by-cons weight (part_grown e p) (map (part_grown e) ps), sum_by-cons weight p ps, parts_counted e part ps)
 
 owns_counted : (place : ℕ) (e : Entry) (c : ℕ) (os : List Own) → count_by (is_own c) (map (own_grown place e) os) ≡ count_by (is_own c) os
 owns_counted place e c [] = refl
-owns_counted place e c (o ∷ os) = omega (arith, sum_by-cons (λ (q : Own). cond (eqb q.processor c) 1 0) (own_grown place e o) (map (own_grown place e) os), sum_by-cons (λ (q : Own). cond (eqb q.processor c) 1 0) o os, owns_counted place e c os)
+owns_counted place e c (o ∷ os) =
+    let weight : Own → ℕ = λ q. cond (eqb q.processor c) 1 0 in
+    omega (arith, sum_by-cons weight (own_grown place e o) (map (own_grown place e) os), sum_by-cons weight o os, owns_counted place e c os)
 
 head_counts : (part : ℕ) (p : Part) (ps : List Part) → p.part ≡ part → 0 < count_by (is_part part) (p ∷ ps)
 head_counts part p ps is = omega (arith, hit-same p.part part is, sum_by-cons (λ (q : Part). cond (eqb q.part part) 1 0) p ps)
@@ -58,14 +62,21 @@ module _ (spaces : ℕ) (history : List Entry) (e : Entry) where
       → AllByRecursion (λ (p : Part). p.entries ≡ part_list spaces p.part history) ps
       → AllByRecursion (λ (p : Part). p.entries ≡ part_list spaces p.part (history ++ e ∷ [])) ps
   other_parts [] none k = tt
-  other_parts (p ∷ ps) none k = (k.0 ∙ sym (part_list-same spaces p.part history e (none p.part (head_counts p.part p ps refl))), other_parts ps (λ part h. none part (tail_counts part p ps h)) k.1)
+  other_parts (p ∷ ps) none k = (
+    k.0 ∙ sym (part_list-same spaces p.part history e (none p.part (head_counts p.part p ps refl))),
+    other_parts ps (λ part h. none part (tail_counts part p ps h)) k.1,
+  )
 
   own_owns : (place : ℕ) → place ≡ length history → (os : List Own) → AllByRecursion (λ (o : Own). o.processor ≡ e.processor) os
       → AllByRecursion (λ (o : Own). o.entries ≡ own_list o.processor history) os
       → AllByRecursion (λ (o : Own). o.entries ≡ own_list o.processor (history ++ e ∷ [])) (map (own_grown place e) os)
   own_owns place at [] own k = tt
   own_owns place at (o ∷ os) own k = (
-    ap (λ l. l ++ record { number = place; entry = e } ∷ []) k.0 ∙ ap (λ n. own_list o.processor history ++ record { number = n; entry = e } ∷ []) at ∙ sym (own_list-push o.processor history e (eq-eqb e.processor o.processor (sym own.0))),
+    ap (λ l. l ++ record { number = place; entry = e } ∷ []) k.0
+        ∙ ap (λ n. own_list o.processor history ++ record {
+          number = n;
+          entry = e;
+        } ∷ []) at ∙ sym (own_list-push o.processor history e (eq-eqb e.processor o.processor (sym own.0))),
     own_owns place at os own.1 k.1,
   )
 
@@ -73,24 +84,36 @@ module _ (spaces : ℕ) (history : List Entry) (e : Entry) where
       → AllByRecursion (λ (o : Own). o.entries ≡ own_list o.processor history) os
       → AllByRecursion (λ (o : Own). o.entries ≡ own_list o.processor (history ++ e ∷ [])) os
   other_owns [] none k = tt
-  other_owns (o ∷ os) none k = (k.0 ∙ sym (own_list-same o.processor history e (none o.processor (head_owns o.processor o os refl))), other_owns os (λ c h. none c (tail_owns c o os h)) k.1)
+  other_owns (o ∷ os) none k = (
+    k.0 ∙ sym (own_list-same o.processor history e (none o.processor (head_owns o.processor o os refl))),
+    other_owns os (λ c h. none c (tail_owns c o os h)) k.1,
+  )
 
 -- every processor still has room
 short_by : (history : List Entry) (e : Entry) (c : ℕ) → length (entries_of e.processor history) < most_entries
     → length (entries_of c history) ≤ most_entries → (b : Bool) → is_of c e ≡ b → length (entries_of c (history ++ e ∷ [])) ≤ most_entries
-short_by history e c room short true is = let same = ap (λ d. length (entries_of d history)) (eqb-true e.processor c is) in omega (arith, ap length (entries_of-push c history e is), length_push (entries_of c history) e)
+short_by history e c room short true is =
+    let same =
+    ap (λ d. length (entries_of d history)) (eqb-true e.processor c is) in
+    omega (arith, ap length (entries_of-push c history e is), length_push (entries_of c history) e)
 short_by history e c room short false is = omega (arith, ap length (entries_of-same c history e is))
 
+-- the view at a seat may grow by an entry
+pub record GrowsAt (views : List View) (seat : ℕ) (v : View) (e : Entry) : Type 0 where
+  pub at : get_elem? views seat ≡ some v
+  pub may : MayGrow v e
+
 module _ (words : List ℕ) (views : List View) (seat : ℕ) (v : View) (e : Entry) (s : Stands v.setting words views)
-    (at : get_elem? views seat ≡ some v) (may : MayGrow v e) where
+    (by : GrowsAt views seat v e) where
   place : ℕ
   place = slice_index words 16
 
   mine : Knows v.setting s.history v
-  mine = s.known seat v at
+  mine = s.known seat v by.at
 
   fits : length s.history < 17 * 2 ^ 31 + 1
-  fits = let b = length_bound v.setting s.history most_entries s.legal s.short in let f = s.few in omega (arith, mul-le-mul_right most_entries f)
+  fits = let b = length_bound v.setting s.history most_entries s.legal s.short in let f = s.few in
+      omega (arith, mul-le-mul_right most_entries f)
 
   grown_word : slice_set words 16 ((slice_index words 16 + 1) % 18446744073709551616) ≡ words_of (length (s.history ++ e ∷ []))
   grown_word =
@@ -101,9 +124,10 @@ module _ (words : List ℕ) (views : List View) (seat : ℕ) (v : View) (e : Ent
   grown_knows : Knows v.setting (s.history ++ e ∷ []) (grown (slice_index words 16) e v)
   grown_knows = record {
     setting = λ live. refl;
-    spent_has_none = λ spent. absurd (true≢false (sym may.live ∙ spent));
-    authors = own_parts (length v.setting.told) s.history e v.authors may.named mine.authors;
-    passes = own_owns (length v.setting.told) s.history e (slice_index words 16) (found_is v.setting words views s) v.passes may.own mine.passes;
+    spent_has_none = λ spent. absurd (true≢false (sym by.may.live ∙ spent));
+    authors = own_parts (length v.setting.told) s.history e v.authors by.may.named mine.authors;
+    passes = own_owns (length v.setting.told) s.history e (slice_index words 16)
+        (found_is v.setting words views s) v.passes by.may.own mine.passes;
   }
 
   other_knows : (j : ℕ) (u : View) → j ≢ seat → get_elem? views j ≡ some u → Knows v.setting (s.history ++ e ∷ []) u
@@ -111,22 +135,40 @@ module _ (words : List ℕ) (views : List View) (seat : ℕ) (v : View) (e : Ent
     setting = k.setting;
     spent_has_none = k.spent_has_none;
     authors = other_parts (length v.setting.told) s.history e u.authors
-        (λ part h. false_from_ne_true _ (λ names. let m = may.has_parts part names in let t = total_two (authors_of part) views seat j v u apart at there in let o = s.one_author part in let one = one_below-le (length v.setting.told + 1) part in absurd (omega arith)))
+        (λ part h. false_from_ne_true _
+        (λ names. let m = by.may.has_parts part names in let t = total_two (authors_of part) views seat j v u apart by.at there in
+        let o = s.one_author part in let one = one_below-le (length v.setting.told + 1) part in absurd (omega arith)))
         k.authors;
     passes = other_owns (length v.setting.told) s.history e u.passes
-        (λ c h. false_from_ne_true _ (λ own. let m = may.has_pass in let is = eqb-true e.processor c own in let same = ap (λ (d : ℕ). passes_of d v) is in let t = total_two (passes_of c) views seat j v u apart at there in let o = s.one_pass c in let one = one_below-le (length v.setting.marks) c in absurd (omega arith)))
+        (λ c h. false_from_ne_true _ (λ own. let m = by.may.has_pass in let is = eqb-true e.processor c own in
+        let same =
+        ap (λ (d : ℕ). passes_of d v) is in let t = total_two (passes_of c) views seat j v u apart by.at there in let o = s.one_pass c in
+        let one = one_below-le (length v.setting.marks) c in absurd (omega arith)))
         k.passes;
   }
 
-  grows : Stands v.setting (slice_set words 16 ((slice_index words 16 + 1) % 18446744073709551616)) (set views seat (grown (slice_index words 16) e v))
+  grows : Stands v.setting (slice_set words 16 ((slice_index words 16 + 1) % 18446744073709551616))
+      (set views seat (grown (slice_index words 16) e v))
   grows = record {
     history = s.history ++ e ∷ [];
     word = grown_word;
-    legal = IsLegal-push v.setting s.history e s.legal (may.follows s.history mine);
+    legal = IsLegal-push v.setting s.history e s.legal (by.may.follows s.history mine);
     few = s.few;
-    short = λ c. short_by s.history e c (may.room s.history mine) (s.short c) (is_of c e) refl;
-    one_author = λ part. omega (arith, total_set (authors_of part) views seat v (grown (slice_index words 16) e v) at, parts_counted e part v.authors, s.one_author part);
-    one_pass = λ c. omega (arith, total_set (passes_of c) views seat v (grown (slice_index words 16) e v) at, owns_counted (slice_index words 16) e c v.passes, s.one_pass c);
+    short = λ c. short_by s.history e c (by.may.room s.history mine) (s.short c) (is_of c e) refl;
+    one_author = λ part. omega (
+      arith,
+      total_set (authors_of part) views seat v
+          (grown (slice_index words 16) e v) by.at,
+      parts_counted e part v.authors,
+      s.one_author part,
+    );
+    one_pass = λ c. omega (
+      arith,
+      total_set (passes_of c) views seat v (grown (slice_index words 16) e v) by.at,
+      owns_counted
+          (slice_index words 16) e c v.passes,
+      s.one_pass c,
+    );
     known = λ j u is. ⊎_elim
         (λ (t : (j ≡ seat) × (grown (slice_index words 16) e v ≡ u)). subst (Knows v.setting (s.history ++ e ∷ [])) t.1 grown_knows)
         (λ (t : (j ≢ seat) × (get_elem? views j ≡ some u)). other_knows j u t.0 t.1)
@@ -141,6 +183,10 @@ writes g slots seat me e st may x s wide at _ =
       grown (slice_index x.words 16) e me.0,
       keeps,
       tt,
-      subst (λ h. Stands h (slice_set x.words 16 ((slice_index x.words 16 + 1) % 18446744073709551616)) (set x.views seat (grown (slice_index x.words 16) e me.0))) is (grows x.words x.views seat me.0 e s' at may),
+      subst (λ h. Stands h (slice_set x.words 16 ((slice_index x.words 16 + 1) % 18446744073709551616))
+          (set x.views seat (grown (slice_index x.words 16) e me.0))) is (grows x.words x.views seat me.0 e s' (record {
+            at = at;
+            may = may;
+          })),
       (refl, meets g x.words x.views seat me.0 s may.live at),
     )

@@ -44,9 +44,11 @@ one_below-le n k = grind (arith, nat_tests)
 
 up_from-past : (x a n : ℕ) → x < a → up_from (hit x) a n ≡ 0
 up_from-past x a zero past = refl
-up_from-past x a (suc n) past = let none = hit-other x a (λ (is : x ≡ a). omega arith) in omega (arith, up_from-past x (a + 1) n (omega arith))
+up_from-past x a (suc n) past = let none = hit-other x a (λ (is : x ≡ a). omega arith) in
+    omega (arith, up_from-past x (a + 1) n (omega arith))
 
-up_from-hit_by : (x a n : ℕ) → ((a' : ℕ) → a' ≤ x → x < a' + n → up_from (hit x) a' n ≡ 1) → a ≤ x → x < a + suc n → Dec (x ≡ a) → up_from (hit x) a (suc n) ≡ 1
+up_from-hit_by : (x a n : ℕ) → ((a' : ℕ) → a' ≤ x → x < a' + n → up_from (hit x) a' n ≡ 1) → a ≤ x → x < a + suc n → Dec (x ≡ a)
+    → up_from (hit x) a (suc n) ≡ 1
 up_from-hit_by x a n later low high (yes is) = let one = hit-same x a is in omega (arith, up_from-past x (a + 1) n (omega arith))
 up_from-hit_by x a n later low high (no other) = let none = hit-other x a other in omega (arith, later (a + 1) (omega arith) (omega arith))
 
@@ -62,7 +64,8 @@ up_from-le f m a (suc n) le = omega (arith, le a, up_from-le f m (a + 1) n le, s
 abbrev pub count_of : List Entry → ℕ → ℕ
 count_of history c = length (entries_of c history)
 
-count_of-cons_by : (x : Entry) (xs : List Entry) (c : ℕ) (b : Bool) → eqb x.processor c ≡ b → count_of (x ∷ xs) c ≡ hit x.processor c + count_of xs c
+count_of-cons_by : (x : Entry) (xs : List Entry) (c : ℕ) (b : Bool) → eqb x.processor c ≡ b
+    → count_of (x ∷ xs) c ≡ hit x.processor c + count_of xs c
 count_of-cons_by x xs c true is = rw is (omega arith)
 count_of-cons_by x xs c false is = rw is (omega arith)
 
@@ -79,13 +82,20 @@ length_by_processors n (x ∷ xs) all =
     let split = up_from-same (count_of (x ∷ xs)) (λ c. hit x.processor c + count_of xs c) 0 n (count_of-cons x xs) in
     omega (arith, up_from-add (hit x.processor) (count_of xs) 0 n)
 
-processors_follow : (g : Given) (before es : List Entry) → AllFollow g before es → AllByRecursion (λ (e : Entry). e.processor < length g.marks) es
+processors_follow : (g : Given) (before es : List Entry) → AllFollow g before es
+    → AllByRecursion (λ (e : Entry). e.processor < length g.marks) es
 processors_follow g before [] all = tt
 processors_follow g before (x ∷ xs) all = (all.0.processor, processors_follow g (before ++ x ∷ []) xs all.1)
 
 -- the entries of a legal history are of the setting's processors
-pub processors_of : (g : Given) (history : List Entry) → IsLegal g history → AllByRecursion (λ (e : Entry). e.processor < length g.marks) history
+pub processors_of : (g : Given) (history : List Entry) → IsLegal g history
+    → AllByRecursion (λ (e : Entry). e.processor < length g.marks) history
 processors_of g history legal = processors_follow g [] history legal
 
-pub length_bound : (g : Given) (history : List Entry) (m : ℕ) → IsLegal g history → ((c : ℕ) → count_of history c ≤ m) → length history ≤ length g.marks * m
-length_bound g history m legal short = omega (arith, length_by_processors (length g.marks) history (processors_of g history legal), up_from-le (count_of history) m 0 (length g.marks) short)
+pub length_bound : (g : Given) (history : List Entry) (m : ℕ) → IsLegal g history → ((c : ℕ) → count_of history c ≤ m)
+    → length history ≤ length g.marks * m
+length_bound g history m legal short = omega (
+  arith,
+  length_by_processors (length g.marks) history (processors_of g history legal),
+  up_from-le (count_of history) m 0 (length g.marks) short,
+)

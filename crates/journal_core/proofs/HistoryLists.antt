@@ -35,23 +35,29 @@ part_list-nil spaces part = part_list-nil_by spaces part (eqb part spaces) refl
 numbered_from-push : (place : ℕ) (history : List Entry) (e : Entry) (n : ℕ) → place + length history ≡ n
     → numbered_from place (history ++ e ∷ []) ≡ numbered_from place history ++ record { number = n; entry = e } ∷ []
 numbered_from-push place [] e n is = let same : place ≡ n = omega arith in ap (λ (k : ℕ). record { number = k; entry = e } ∷ []) same
-numbered_from-push place (x ∷ xs) e n is = ap (λ l. record { number = place; entry = x } ∷ l) (numbered_from-push (suc place) xs e n (omega arith))
+numbered_from-push place (x ∷ xs) e n is = ap (λ l. record { number = place; entry = x } ∷ l)
+    (numbered_from-push (suc place) xs e n (omega arith))
 
-pub numbered-push : (history : List Entry) (e : Entry) → numbered (history ++ e ∷ []) ≡ numbered history ++ record { number = length history; entry = e } ∷ []
+pub numbered-push : (history : List Entry) (e : Entry) → numbered (history ++ e ∷ []) ≡ numbered history
+    ++ record { number = length history; entry = e } ∷ []
 numbered-push history e = numbered_from-push 0 history e (length history) (omega arith)
 
 -- a processor's list grows by its entry, with the entry's place
 pub own_list-push : (c : ℕ) (history : List Entry) (e : Entry) → is_of c e ≡ true
     → own_list c (history ++ e ∷ []) ≡ own_list c history ++ record { number = length history; entry = e } ∷ []
-own_list-push c history e own = ap (filter (is_numbered_of c)) (numbered-push history e) ∙ filter-push_in (is_numbered_of c) (numbered history) (record { number = length history; entry = e }) own
+own_list-push c history e own = ap (filter (is_numbered_of c)) (numbered-push history e)
+    ∙ filter-push_in (is_numbered_of c) (numbered history) (record { number = length history; entry = e }) own
 
 pub own_list-same : (c : ℕ) (history : List Entry) (e : Entry) → is_of c e ≡ false → own_list c (history ++ e ∷ []) ≡ own_list c history
-own_list-same c history e other = ap (filter (is_numbered_of c)) (numbered-push history e) ∙ filter-push_out (is_numbered_of c) (numbered history) (record { number = length history; entry = e }) other
+own_list-same c history e other = ap (filter (is_numbered_of c)) (numbered-push history e)
+    ∙ filter-push_out (is_numbered_of c) (numbered history) (record { number = length history; entry = e }) other
 
-pub entries_of-push : (c : ℕ) (history : List Entry) (e : Entry) → is_of c e ≡ true → entries_of c (history ++ e ∷ []) ≡ entries_of c history ++ e ∷ []
+pub entries_of-push : (c : ℕ) (history : List Entry) (e : Entry) → is_of c e ≡ true
+    → entries_of c (history ++ e ∷ []) ≡ entries_of c history ++ e ∷ []
 entries_of-push c history e own = filter-push_in (is_of c) history e own
 
-pub entries_of-same : (c : ℕ) (history : List Entry) (e : Entry) → is_of c e ≡ false → entries_of c (history ++ e ∷ []) ≡ entries_of c history
+pub entries_of-same : (c : ℕ) (history : List Entry) (e : Entry) → is_of c e ≡ false
+    → entries_of c (history ++ e ∷ []) ≡ entries_of c history
 entries_of-same c history e other = filter-push_out (is_of c) history e other
 
 own_entries_by : (c place : ℕ) (x : Entry) (xs : List Entry) (b : Bool) → is_of c x ≡ b
@@ -60,7 +66,8 @@ own_entries_by : (c place : ℕ) (x : Entry) (xs : List Entry) (b : Bool) → is
 own_entries_by c place x xs true is rest = rw is (ap (λ l. x ∷ l) rest)
 own_entries_by c place x xs false is rest = rw is rest
 
-own_entries_from : (c place : ℕ) (history : List Entry) → entries_in (filter (is_numbered_of c) (numbered_from place history)) ≡ entries_of c history
+own_entries_from : (c place : ℕ) (history : List Entry) → entries_in (filter (is_numbered_of c) (numbered_from place history))
+    ≡ entries_of c history
 own_entries_from c place [] = refl
 own_entries_from c place (x ∷ xs) = own_entries_by c place x xs (is_of c x) refl (own_entries_from c (suc place) xs)
 

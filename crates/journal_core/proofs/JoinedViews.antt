@@ -21,11 +21,11 @@ pub board_one : (s q m : Me Unit View) (p : PassState) (a : AuthorState) → s �
     → m ≡ (joined s.0 q.0, s.1) → m.0 ≡ joined (pass_view p) (author_view a)
 board_one s q m p a pass author is = ap (λ (x : Me Unit View). x.0) is ∙ ap₂ (λ (x y : Me Unit View). joined x.0 y.0) pass author
 
-pub board_two : (s q m r n : Me Unit View) (p : PassState) (a b : AuthorState) → s ≡ (pass_view p, []) → q ≡ (author_view a, [])
-    → m ≡ (joined s.0 q.0, s.1) → r ≡ (author_view b, []) → n ≡ (joined m.0 r.0, m.1)
-    → n.0 ≡ joined (joined (pass_view p) (author_view a)) (author_view b)
-board_two s q m r n p a b pass author first other is =
-    ap (λ (x : Me Unit View). x.0) is ∙ ap₂ (λ (x : View) (y : Me Unit View). joined x y.0) (board_one s q m p a pass author first) other
+-- and one author more
+pub board_two : (m r n : Me Unit View) (p : PassState) (a b : AuthorState) → m.0 ≡ joined (pass_view p) (author_view a)
+    → r ≡ (author_view b, [])
+    → n ≡ (joined m.0 r.0, m.1) → n.0 ≡ joined (joined (pass_view p) (author_view a)) (author_view b)
+board_two m r n p a b first other is = ap (λ (x : Me Unit View). x.0) is ∙ ap₂ (λ (x : View) (y : Me Unit View). joined x y.0) first other
 
 -- what a meeting of an author and a pass tells
 pub one_tells : (a : AuthorState) (p : PassState) (v : View) (n : ℕ) → a.journal ≡ p.journal → v ≡ joined (pass_view p) (author_view a)
@@ -47,7 +47,8 @@ pub two_tells : (s f : AuthorState) (p : PassState) (v : View) (n : ℕ) → s.j
     → AreSpaceAndFrames s f → v ≡ joined (joined (pass_view p) (author_view s)) (author_view f) → Meets v.setting n v
     → (history : List Entry) × AreOfTwo s f p history × (length history ≡ n)
 two_tells s f p v n same other are is meets =
-    let m : Meets p.journal.setting n (joined (joined (pass_view p) (author_view s)) (author_view f)) = subst (λ (w : View). Meets w.setting n w) is meets in
+    let m : Meets p.journal.setting n (joined (joined (pass_view p) (author_view s)) (author_view f)) =
+    subst (λ (w : View). Meets w.setting n w) is meets in
     let k = m.known in
     let told = ap (λ j. length j.setting.told) same in (
       m.history,
@@ -82,21 +83,25 @@ two_counted space frames part (inr is) = omega (arith, hit-same frames part is)
 -- the authors of a space and of the frames, and a pass, under the pass's setting
 pub two_may : (s f : AuthorState) (p : PassState) (e : Entry) → s.journal ≡ p.journal → f.journal ≡ p.journal → NamesItsParts e
     → AreSpaceAndFrames s f × (e.space ≡ Some s.part) × (e.frames ≡ true) → e.processor ≡ p.processor
-    → SpaceJudges s.journal.setting s.part s.entries e → FramesJudge f.journal.setting f.entries e → KeepsOrder p.journal.setting (entries_in p.entries) e → length p.entries < p.room → p.room ≤ most_entries
+    → SpaceJudges s.journal.setting s.part s.entries e → FramesJudge f.journal.setting f.entries e
+    → KeepsOrder p.journal.setting (entries_in p.entries) e → length p.entries < p.room → p.room ≤ most_entries
     → p.processor < length p.journal.setting.marks → MayGrow (joined (joined (pass_view p) (author_view s)) (author_view f)) e
 two_may s f p e same other parts names own by_space by_frames order room most processor = record {
   live = refl;
   named = (named_space spaces s.part e below names.1, (named_frames spaces f.part e all names.2, tt));
   own = (sym own, tt);
-  has_parts = λ part n. omega (arith, two_counted s.part f.part part (two_named_by spaces s.part f.part part e (eqb part spaces) all names.1 refl n));
+  has_parts = λ part n. omega
+      (arith, two_counted s.part f.part part (two_named_by spaces s.part f.part part e (eqb part spaces) all names.1 refl n));
   has_pass = omega (arith, hit-same p.processor e.processor (sym own));
   follows = λ history k. record {
     parts = parts;
     processor = omega arith;
     space = subst (λ o. IfSome o (λ t. t < length p.journal.setting.told)) (sym names.1) below;
     by_space = subst (λ o. IfSome o (λ t. SpaceJudges g t (space_part t history) e)) (sym names.1)
-        (subst (λ l. SpaceJudges g s.part l e) (k.authors.0 ∙ part_list-space spaces s.part history below) (subst (λ j. SpaceJudges j.setting s.part s.entries e) same by_space));
-    by_frames = λ _. subst (λ l. FramesJudge g l e) (k.authors.1.0 ∙ part_list-frames spaces f.part history all) (subst (λ j. FramesJudge j.setting f.entries e) other by_frames);
+        (subst (λ l. SpaceJudges g s.part l e) (k.authors.0 ∙ part_list-space spaces s.part history below)
+        (subst (λ j. SpaceJudges j.setting s.part s.entries e) same by_space));
+    by_frames = λ _. subst (λ l. FramesJudge g l e) (k.authors.1.0 ∙ part_list-frames spaces f.part history all)
+        (subst (λ j. FramesJudge j.setting f.entries e) other by_frames);
     ordered = ordered g p history e own k.passes.0 order;
   };
   room = λ history k. short_enough p history e own k.passes.0 room most;

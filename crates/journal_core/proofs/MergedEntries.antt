@@ -16,7 +16,8 @@ use Rattle.journal_core.proofs.HistoryLists.{own_entries}
 use Rattle.journal_core.proofs.ViewTotals.{each_append}
 
 module _ {A : Type 0} (P : A → Type 0) where
-  each_filter_by : (p : A → Bool) (x : A) (xs : List A) (b : Bool) → p x ≡ b → P x → AllByRecursion P (filter p xs) → AllByRecursion P (filter p (x ∷ xs))
+  each_filter_by : (p : A → Bool) (x : A) (xs : List A) (b : Bool) → p x ≡ b → P x → AllByRecursion P (filter p xs)
+      → AllByRecursion P (filter p (x ∷ xs))
   each_filter_by p x xs true is h k = rw is (h, k)
   each_filter_by p x xs false is h k = rw is k
 
@@ -26,7 +27,8 @@ module _ {A : Type 0} (P : A → Type 0) where
 
   pub each_reverse : (xs : List A) → AllByRecursion P xs → AllByRecursion P (reverse xs)
   each_reverse [] k = k
-  each_reverse (x ∷ xs) k = subst (AllByRecursion P) (sym (reverse-append (x ∷ []) xs)) (each_append P (reverse xs) (x ∷ []) (each_reverse xs k.1) (k.0, tt))
+  each_reverse (x ∷ xs) k = subst (AllByRecursion P) (sym (reverse-append (x ∷ []) xs))
+      (each_append P (reverse xs) (x ∷ []) (each_reverse xs k.1) (k.0, tt))
 
   pub each_unreverse : (xs : List A) → AllByRecursion P (reverse xs) → AllByRecursion P xs
   each_unreverse xs k = subst (AllByRecursion P) (reverse-reverse xs) (each_reverse (reverse xs) k)
@@ -61,12 +63,14 @@ numbered_at_from all before place (e ∷ es) long is =
         omega (arith, ap length is, length-append before (n ∷ numbered_from (suc place) es)),
         λ d. ap (λ l. get_or l place d) is ∙ get_or_at before n (numbered_from (suc place) es) d place long,
       ),
-      numbered_at_from all (before ++ n ∷ []) (suc place) es (omega (arith, length-append before (n ∷ []))) (is ∙ sym (append_assoc before (n ∷ []) (numbered_from (suc place) es))),
+      numbered_at_from all (before ++ n ∷ []) (suc place) es (omega (arith, length-append before (n ∷ [])))
+          (is ∙ sym (append_assoc before (n ∷ []) (numbered_from (suc place) es))),
     )
 
 -- each processor's entries stand at their places
 pub own_at : (c : ℕ) (history : List Entry) → AllByRecursion (IsAt (numbered history)) (own_list c history)
-own_at c history = each_filter (IsAt (numbered history)) (is_numbered_of c) (numbered history) (numbered_at_from (numbered history) [] 0 history refl refl)
+own_at c history = each_filter (IsAt (numbered history)) (is_numbered_of c) (numbered history)
+    (numbered_at_from (numbered history) [] 0 history refl refl)
 
 length-numbered_from : (place : ℕ) (es : List Entry) → length (numbered_from place es) ≡ length es
 length-numbered_from place [] = refl
@@ -87,7 +91,8 @@ has_more : (i c : ℕ) (n : Numbered) (ns : List Numbered) (b : Bool) → is_num
 has_more i c n ns true is h = rw is (inr h)
 has_more i c n ns false is h = rw is h
 
-has_first : (i c : ℕ) (n : Numbered) (ns : List Numbered) → n.number ≡ i → n.entry.processor ≡ c → HasPlace i (filter (is_numbered_of c) (n ∷ ns))
+has_first : (i c : ℕ) (n : Numbered) (ns : List Numbered) → n.number ≡ i → n.entry.processor ≡ c
+    → HasPlace i (filter (is_numbered_of c) (n ∷ ns))
 has_first i c n ns at own = rw (eq-eqb n.entry.processor c own) (inl at)
 
 -- which processor has the entry at a place
@@ -96,7 +101,8 @@ Covered processors place es i = (c : ℕ) × (c < processors) × HasPlace i (fil
 
 covered_by : (processors place : ℕ) (e : Entry) (es : List Entry) (i : ℕ) → e.processor < processors
     → (place ≢ i → Covered processors (suc place) es i) → Dec (place ≡ i) → Covered processors place (e ∷ es) i
-covered_by processors place e es i own later (yes at) = (e.processor, own, has_first i e.processor (record { number = place; entry = e }) (numbered_from (suc place) es) at refl)
+covered_by processors place e es i own later (yes at) =
+    (e.processor, own, has_first i e.processor (record { number = place; entry = e }) (numbered_from (suc place) es) at refl)
 covered_by processors place e es i own later (no apart) =
     let l = later apart in
     (l.0, l.1, has_more i l.0 (record { number = place; entry = e }) (numbered_from (suc place) es) _ refl l.2)
@@ -105,7 +111,8 @@ covered_from : (processors place : ℕ) (es : List Entry) (i : ℕ) → AllByRec
     → i < place + length es → Covered processors place es i
 covered_from processors place [] i all low high = absurd (omega arith)
 covered_from processors place (e ∷ es) i all low high =
-    covered_by processors place e es i all.0 (λ apart. covered_from processors (suc place) es i all.1 (omega arith) (omega arith)) (ℕ_discrete place i)
+    covered_by processors place e es i all.0 (λ apart. covered_from processors (suc place) es i all.1 (omega arith) (omega arith))
+    (ℕ_discrete place i)
 
 -- the lists, one behind the other
 abbrev pub flat : List (List Numbered) → List Numbered
@@ -123,10 +130,12 @@ length-placed m (x ∷ xs) = length-placed (put m x) xs ∙ length-set m x.numbe
 placed_at : (all m xs : List Numbered) (i : ℕ) (d : Numbered) → length m ≡ length all → AllByRecursion (IsAt all) xs → i < length all
     → (get_or m i d ≡ get_or all i d) ⊎ HasPlace i xs → get_or (placed m xs) i d ≡ get_or all i d
 placed_at all m [] i d long k below here = ⊎_elim (λ (e : get_or m i d ≡ get_or all i d). e) (λ (h : ⊥). absurd h) here
-placed_at all m (x ∷ xs) i d long k below here = placed_at all (put m x) xs i d (length-set m x.number x ∙ long) k.1 below (next (ℕ_discrete i x.number))
+placed_at all m (x ∷ xs) i d long k below here = placed_at all (put m x) xs i d (length-set m x.number x ∙ long) k.1 below
+    (next (ℕ_discrete i x.number))
   where
     next : Dec (i ≡ x.number) → (get_or (put m x) i d ≡ get_or all i d) ⊎ HasPlace i xs
-    next (yes at) = inl (ap (λ j. get_or (put m x) j d) at ∙ get_or-set_same m x.number x d (omega arith) ∙ sym (k.0.1 d) ∙ ap (λ j. get_or all j d) (sym at))
+    next (yes at) = inl (ap (λ j. get_or (put m x) j d) at ∙ get_or-set_same m x.number x d (omega arith) ∙ sym (k.0.1 d)
+        ∙ ap (λ j. get_or all j d) (sym at))
     next (no apart) = ⊎_elim
         (λ (e : get_or m i d ≡ get_or all i d). inl (get_or-set_other m x.number i x d apart ∙ e))
         (λ (h : HasPlace i (x ∷ xs)). ⊎_elim (λ (e : x.number ≡ i). absurd (apart (sym e))) (λ (r : HasPlace i xs). inr r) h)
@@ -138,7 +147,8 @@ pub placed_is : (all m : List Numbered) (logs : List (List Numbered)) → length
 placed_is all m logs long k covered =
     placed_flat m logs
     ∙ same_lists (placed m (flat logs)) all (length-placed m (flat logs) ∙ long)
-    (λ i d below. placed_at all m (flat logs) i d long k (omega (arith, length-placed m (flat logs))) (inr (covered i (omega (arith, length-placed m (flat logs))))))
+    (λ i d below. placed_at all m (flat logs) i d long k (omega (arith, length-placed m (flat logs)))
+    (inr (covered i (omega (arith, length-placed m (flat logs))))))
 
 -- the passes of a history, in any order
 module _ (history : List Entry) where
@@ -160,14 +170,17 @@ module _ (history : List Entry) where
   pass_reverse : (c : ℕ) (ps : List PassState) → HasPass c ps → HasPass c (reverse ps)
   pass_reverse c [] h = absurd h
   pass_reverse c (p ∷ ps) h = subst (HasPass c) (sym (reverse-append (p ∷ []) ps))
-      (⊎_elim (λ (e : p.processor ≡ c). pass_right c (reverse ps) (p ∷ []) (inl e)) (λ (k : HasPass c ps). pass_left c (reverse ps) (p ∷ []) (pass_reverse c ps k)) h)
+      (⊎_elim (λ (e : p.processor ≡ c). pass_right c (reverse ps) (p ∷ []) (inl e))
+      (λ (k : HasPass c ps). pass_left c (reverse ps) (p ∷ []) (pass_reverse c ps k)) h)
 
-  pass_of_each_by : (p : PassState) (ps : List PassState) (a c : ℕ) → p.processor ≡ a → (a ≢ c → HasPass c ps) → Dec (a ≡ c) → HasPass c (p ∷ ps)
+  pass_of_each_by : (p : PassState) (ps : List PassState) (a c : ℕ) → p.processor ≡ a → (a ≢ c → HasPass c ps) → Dec (a ≡ c)
+      → HasPass c (p ∷ ps)
   pass_of_each_by p ps a c head later (yes e) = inl (head ∙ e)
   pass_of_each_by p ps a c head later (no apart) = inr (later apart)
 
   -- passes in order, one for each processor
-  pass_of_each : (ps : List PassState) (a n c : ℕ) → map (λ (p : PassState). p.processor) ps ≡ range_with_len a n → a ≤ c → c < a + n → HasPass c ps
+  pass_of_each : (ps : List PassState) (a n c : ℕ) → map (λ (p : PassState). p.processor) ps ≡ range_with_len a n → a ≤ c → c < a + n
+      → HasPass c ps
   pass_of_each [] a zero c is low high = absurd (omega arith)
   pass_of_each [] a (suc n) c is low high = absurd (cc is)
   pass_of_each (p ∷ ps) a zero c is low high = absurd (cc is)
@@ -181,12 +194,15 @@ module _ (history : List Entry) where
 
   pub logs_at : (ps : List PassState) → AllByRecursion Owns ps → AllByRecursion (IsAt (numbered history)) (flat (logs_of ps))
   logs_at [] k = tt
-  logs_at (p ∷ ps) k = each_append (IsAt (numbered history)) p.entries (flat (logs_of ps)) (subst (AllByRecursion (IsAt (numbered history))) (sym k.0) (own_at p.processor history)) (logs_at ps k.1)
+  logs_at (p ∷ ps) k = each_append (IsAt (numbered history)) p.entries (flat (logs_of ps))
+      (subst (AllByRecursion (IsAt (numbered history))) (sym k.0) (own_at p.processor history)) (logs_at ps k.1)
 
-  has_in : (i c : ℕ) (ps : List PassState) → AllByRecursion Owns ps → HasPass c ps → HasPlace i (own_list c history) → HasPlace i (flat (logs_of ps))
+  has_in : (i c : ℕ) (ps : List PassState) → AllByRecursion Owns ps → HasPass c ps → HasPlace i (own_list c history)
+      → HasPlace i (flat (logs_of ps))
   has_in i c [] k h at = absurd h
   has_in i c (p ∷ ps) k h at = ⊎_elim
-      (λ (e : p.processor ≡ c). has_left i p.entries (flat (logs_of ps)) (subst (HasPlace i) (ap (λ b. own_list b history) (sym e) ∙ sym k.0) at))
+      (λ (e : p.processor ≡ c). has_left i p.entries (flat (logs_of ps))
+      (subst (HasPlace i) (ap (λ b. own_list b history) (sym e) ∙ sym k.0) at))
       (λ (r : HasPass c ps). has_right i p.entries (flat (logs_of ps)) (has_in i c ps k.1 r at))
       h
 

@@ -19,7 +19,8 @@ off : false ≡ true → ⊥
 off e = true≢false (sym e)
 
 -- a seat's view is cut in two
-splits : (g : Given) (words : List ℕ) (views : List View) (seat : ℕ) (v left right : View) → Stands g words views → get_elem? views seat ≡ some v
+splits : (g : Given) (words : List ℕ) (views : List View) (seat : ℕ) (v left right : View) → Stands g words views
+    → get_elem? views seat ≡ some v
     → ((history : List Entry) → Knows g history v → Knows g history left × Knows g history right)
     → ((part : ℕ) → authors_of part left + authors_of part right ≡ authors_of part v)
     → ((c : ℕ) → passes_of c left + passes_of c right ≡ passes_of c v)
@@ -30,8 +31,20 @@ splits g words views seat v left right s at cut authors passes = record {
   legal = s.legal;
   few = s.few;
   short = s.short;
-  one_author = λ part. omega (arith, sum_by_push (authors_of part) (set views seat left) right, total_set (authors_of part) views seat v left at, s.one_author part, authors part);
-  one_pass = λ c. omega (arith, sum_by_push (passes_of c) (set views seat left) right, total_set (passes_of c) views seat v left at, s.one_pass c, passes c);
+  one_author = λ part. omega (
+    arith,
+    sum_by_push (authors_of part) (set views seat left) right,
+    total_set (authors_of part) views seat v left at,
+    s.one_author part,
+    authors part,
+  );
+  one_pass = λ c. omega (
+    arith,
+    sum_by_push (passes_of c) (set views seat left) right,
+    total_set (passes_of c) views seat v left at,
+    s.one_pass c,
+    passes c,
+  );
   known = λ j u is. let both = cut s.history (s.known seat v at) in
       ⊎_elim
       (λ (old : get_elem? (set views seat left) j ≡ some u). ⊎_elim
@@ -51,7 +64,12 @@ author_splits g seat v st s at = splits g st.words st.views seat v (without_auth
         authors = each_drop _ 1 v.authors k.authors;
         passes = k.passes;
       },
-      record { setting = k.setting; spent_has_none = λ spent. (ap (take 1) (k.spent_has_none spent).0, refl); authors = each_take _ 1 v.authors k.authors; passes = tt },
+      record {
+        setting = k.setting;
+        spent_has_none = λ spent. (ap (take 1) (k.spent_has_none spent).0, refl);
+        authors = each_take _ 1 v.authors k.authors;
+        passes = tt;
+      },
     ))
     (λ part. omega (arith, count_take_drop (λ (p : Part). cond (eqb p.part part) 1 0) 1 v.authors))
     (λ c. omega arith)
@@ -65,7 +83,12 @@ pass_splits g seat v st s at = splits g st.words st.views seat v (without_pass v
         authors = k.authors;
         passes = each_drop _ 1 v.passes k.passes;
       },
-      record { setting = k.setting; spent_has_none = λ spent. (refl, ap (take 1) (k.spent_has_none spent).1); authors = tt; passes = each_take _ 1 v.passes k.passes },
+      record {
+        setting = k.setting;
+        spent_has_none = λ spent. (refl, ap (take 1) (k.spent_has_none spent).1);
+        authors = tt;
+        passes = each_take _ 1 v.passes k.passes;
+      },
     ))
     (λ part. omega arith)
     (λ c. omega (arith, count_take_drop (λ (o : Own). cond (eqb o.processor c) 1 0) 1 v.passes))
@@ -78,10 +101,27 @@ joins g seat v other w live st s at apart there = record {
   legal = s.legal;
   few = s.few;
   short = s.short;
-  one_author = λ part. omega (arith, total_set (authors_of part) (set st.views seat (joined v w)) other w spent there, total_set (authors_of part) st.views seat v (joined v w) at, sum_by-append (λ (p : Part). cond (eqb p.part part) 1 0) v.authors w.authors, s.one_author part);
-  one_pass = λ c. omega (arith, total_set (passes_of c) (set st.views seat (joined v w)) other w spent there, total_set (passes_of c) st.views seat v (joined v w) at, sum_by-append (λ (o : Own). cond (eqb o.processor c) 1 0) v.passes w.passes, s.one_pass c);
+  one_author = λ part. omega (
+    arith,
+    total_set (authors_of part) (set st.views seat (joined v w)) other w spent there,
+    total_set
+        (authors_of part) st.views seat v (joined v w) at,
+    sum_by-append
+        (λ (p : Part). cond (eqb p.part part) 1 0) v.authors w.authors,
+    s.one_author part,
+  );
+  one_pass = λ c. omega (
+    arith,
+    total_set (passes_of c) (set st.views seat (joined v w)) other w spent there,
+    total_set
+        (passes_of c) st.views seat v (joined v w) at,
+    sum_by-append
+        (λ (o : Own). cond (eqb o.processor c) 1 0) v.passes w.passes,
+    s.one_pass c,
+  );
   known = λ j u is. ⊎_elim
-      (λ (t : (j ≡ other) × (spent ≡ u)). subst (Knows g s.history) t.1 (record { setting = λ on. absurd (off on); spent_has_none = λ _. (refl, refl); authors = tt; passes = tt }))
+      (λ (t : (j ≡ other) × (spent ≡ u)). subst (Knows g s.history) t.1
+      (record { setting = λ on. absurd (off on); spent_has_none = λ _. (refl, refl); authors = tt; passes = tt }))
       (λ (t : (j ≢ other) × (get_elem? (set st.views seat (joined v w)) j ≡ some u)). ⊎_elim
       (λ (r : (j ≡ seat) × (joined v w ≡ u)). subst (Knows g s.history) r.1 both)
       (λ (r : (j ≢ seat) × (get_elem? st.views j ≡ some u)). s.known j u r.1)
@@ -116,7 +156,8 @@ enters_keep g slots st x s wide _ = (
     one_author = λ part. omega (arith, sum_by_push (authors_of part) x.views (rest_view g), s.one_author part);
     one_pass = λ c. omega (arith, sum_by_push (passes_of c) x.views (rest_view g), s.one_pass c);
     known = λ j u is. ⊎_elim (λ (old : get_elem? x.views j ≡ some u). s.known j u old)
-        (λ (new : rest_view g ≡ u). subst (Knows g s.history) new (record { setting = λ _. refl; spent_has_none = λ spent. (refl, refl); authors = tt; passes = tt }))
+        (λ (new : rest_view g ≡ u). subst (Knows g s.history) new
+        (record { setting = λ _. refl; spent_has_none = λ spent. (refl, refl); authors = tt; passes = tt }))
         (at_snoc x.views (rest_view g) u j is);
   },
   refl,
@@ -132,7 +173,8 @@ meets g words views seat v s live at =
     subst (λ h. Meets h (slice_index words 16) v) (sym (k.setting live))
     (record { history = s.history; long_is = sym (found_is g words views s); legal = s.legal; few = s.few; short = s.short; known = k })
 
-pub looks : (g : Given) (slots seat : ℕ) (me : Me Unit View) (st : Step Unit) → me.0.live ≡ true → Allows (Holds g) slots seat me 16 (λ n. n) (Looks st me)
+pub looks : (g : Given) (slots seat : ℕ) (me : Me Unit View) (st : Step Unit) → me.0.live ≡ true
+    → Allows (Holds g) slots seat me 16 (λ n. n) (Looks st me)
 looks g slots seat me st live x s wide at _ = (
   me.0,
   keeps,

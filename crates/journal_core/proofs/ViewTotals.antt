@@ -22,8 +22,10 @@ module _ {A : Type 0} (f : A → ℕ) where
   pub total_two : (l : List A) (i j : ℕ) (a b : A) → j ≢ i → get_elem? l i ≡ some a → get_elem? l j ≡ some b → f a + f b ≤ sum_by f l
   total_two [] i j a b n e h = absurd (some-ne-none a (sym e))
   total_two (x ∷ xs) zero zero a b n e h = absurd (n refl)
-  total_two (x ∷ xs) zero (suc j) a b n e h = let is = some-injective x a e in omega (arith, sum_by-cons f x xs, ap f is, total_one xs j b h)
-  total_two (x ∷ xs) (suc i) zero a b n e h = let is = some-injective x b h in omega (arith, sum_by-cons f x xs, ap f is, total_one xs i a e)
+  total_two (x ∷ xs) zero (suc j) a b n e h = let is = some-injective x a e in
+      omega (arith, sum_by-cons f x xs, ap f is, total_one xs j b h)
+  total_two (x ∷ xs) (suc i) zero a b n e h = let is = some-injective x b h in
+      omega (arith, sum_by-cons f x xs, ap f is, total_one xs i a e)
   total_two (x ∷ xs) (suc i) (suc j) a b n e h = omega (arith, sum_by-cons f x xs, total_two xs i j a b (λ k. n (ap suc k)) e h)
 
 module _ {A : Type 0} (P : A → Type 0) where

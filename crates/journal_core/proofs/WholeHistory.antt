@@ -20,12 +20,18 @@ use Rattle.journal_core.proofs.HistoryLists.{own_entries}
 use Rattle.journal_core.proofs.MergedEntries.{each_unreverse, each_unmap, IsAt, Owns, own_at, length-numbered, entries_in-numbered, logs_of, logs_at, all_in, counts_fit, placed_is}
 
 -- first the authors board, and then the passes: what the last seat meets
-pub whole_meets : (g : Given) (authors : List AuthorState) (passes : List PassState) (n : ℕ) (s t u : Me Unit View) → s ≡ (rest_view g, []) → t ≡ (record { live = true; setting = s.0.setting; authors = map part_of (reverse authors); passes = [] }, [])
-    → u ≡ (record { live = true; setting = t.0.setting; authors = t.0.authors; passes = map own_of (reverse passes) }, []) → Meets u.0.setting n u.0 → Meets g n (whole_view g authors passes)
+pub whole_meets : (g : Given) (authors : List AuthorState) (passes : List PassState) (n : ℕ) (s t u : Me Unit View) → s ≡ (rest_view g, [])
+    → t ≡ (record { live = true; setting = s.0.setting; authors = map part_of (reverse authors); passes = [] }, [])
+    → u ≡ (record { live = true; setting = t.0.setting; authors = t.0.authors; passes = map own_of (reverse passes) }, [])
+    → Meets u.0.setting n u.0 → Meets g n (whole_view g authors passes)
 whole_meets g authors passes n s t u rest first then meets =
     let is = then
-    ∙ ap (λ (x : Me Unit View). (record { live = true; setting = x.0.setting; authors = x.0.authors; passes = map own_of (reverse passes) }, [])) first
-    ∙ ap (λ (x : Me Unit View). (record { live = true; setting = x.0.setting; authors = map part_of (reverse authors); passes = map own_of (reverse passes) }, [])) rest in
+    ∙ ap (λ (x : Me Unit View).
+    (record { live = true; setting = x.0.setting; authors = x.0.authors; passes = map own_of (reverse passes) }, [])) first
+    ∙ ap (λ (x : Me Unit View). (
+      record { live = true; setting = x.0.setting; authors = map part_of (reverse authors); passes = map own_of (reverse passes) },
+      [],
+    )) rest in
     subst (λ (x : Me Unit View). Meets x.0.setting n x.0) is meets
 
 module _ (g : Given) (authors : List AuthorState) (passes : List PassState) (n : ℕ) (m : Meets g n (whole_view g authors passes)) where
@@ -37,9 +43,15 @@ module _ (g : Given) (authors : List AuthorState) (passes : List PassState) (n :
 
   -- the history fits into the passes' rooms
   pub fits : (room : ℕ) → map (λ (p : PassState). p.processor) passes ≡ range_with_len 0 (length g.marks)
-      → AllByRecursion (λ (p : PassState). length p.entries ≤ p.room) passes → sum (map (λ (p : PassState). p.room) passes) ≤ room → n ≤ room
+      → AllByRecursion (λ (p : PassState). length p.entries ≤ p.room) passes → sum (map (λ (p : PassState). p.room) passes) ≤ room
+      → n ≤ room
   fits room in_order rooms enough =
-      omega (arith, m.long_is, length_by_processors (length g.marks) m.history (processors_of g m.history m.legal), counts_fit m.history passes 0 (length g.marks) in_order owns rooms)
+      omega (
+        arith,
+        m.long_is,
+        length_by_processors (length g.marks) m.history (processors_of g m.history m.legal),
+        counts_fit m.history passes 0 (length g.marks) in_order owns rooms,
+      )
 
   placed_from : (l : List Numbered) → AllByRecursion (IsAt (numbered m.history)) l → AllByRecursion (λ (x : Numbered). x.number < n) l
   placed_from [] k = tt
@@ -47,13 +59,19 @@ module _ (g : Given) (authors : List AuthorState) (passes : List PassState) (n :
 
   placed_each : (ps : List PassState) → AllByRecursion (Owns m.history) ps → AllByRecursion (IsPlaced n) (logs_of m.history ps)
   placed_each [] k = tt
-  placed_each (p ∷ ps) k = (subst (IsPlaced n) (sym k.0) (All-from_recursion _ (own_list p.processor m.history) (placed_from (own_list p.processor m.history) (own_at p.processor m.history))), placed_each ps k.1)
+  placed_each (p ∷ ps) k = (
+    subst (IsPlaced n) (sym k.0)
+        (All-from_recursion _ (own_list p.processor m.history)
+        (placed_from (own_list p.processor m.history) (own_at p.processor m.history))),
+    placed_each ps k.1,
+  )
 
   -- the places are below the history's length
   pub logs_placed : {X : Type 0} (entries : X → List Numbered) (logs : List X)
       → map entries logs ≡ map (λ (p : PassState). p.entries) (reverse passes) → All (λ x. IsPlaced n (entries x)) logs
   logs_placed entries logs is =
-      All-from_recursion (λ x. IsPlaced n (entries x)) logs (each_unmap (IsPlaced n) entries logs (subst (AllByRecursion (IsPlaced n)) (sym is) (placed_each (reverse passes) owns_back)))
+      All-from_recursion (λ x. IsPlaced n (entries x)) logs (each_unmap (IsPlaced n) entries logs
+      (subst (AllByRecursion (IsPlaced n)) (sym is) (placed_each (reverse passes) owns_back)))
 
   -- the merge is the history
   pub merged : (start : List Numbered) (logs : List (List Numbered))
@@ -62,7 +80,8 @@ module _ (g : Given) (authors : List AuthorState) (passes : List PassState) (n :
       → placed_all start logs ≡ numbered m.history
   merged start logs in_order long is =
       ap (placed_all start) is
-      ∙ placed_is (numbered m.history) start (logs_of m.history (reverse passes)) (omega (arith, length-numbered m.history, m.long_is)) (logs_at m.history (reverse passes) owns_back)
+      ∙ placed_is (numbered m.history) start (logs_of m.history (reverse passes)) (omega (arith, length-numbered m.history, m.long_is))
+      (logs_at m.history (reverse passes) owns_back)
       (all_in m.history (length g.marks) passes (processors_of g m.history m.legal) owns_back in_order)
 
   module _ (items : List Numbered) (is : items ≡ numbered m.history) where
@@ -75,9 +94,12 @@ module _ (g : Given) (authors : List AuthorState) (passes : List PassState) (n :
     pub history_told : IsHistory g (entries_in items)
     history_told = subst (IsHistory g) (sym same) (record { legal = m.legal; processors = m.few; entries = m.short })
 
-    pub authors_told : (name : JournalName) → name.setting ≡ g → All (λ (a : AuthorState). a.journal ≡ name) authors → All (λ (a : AuthorState). IsPartOf a (entries_in items)) authors
+    pub authors_told : (name : JournalName) → name.setting ≡ g → All (λ (a : AuthorState). a.journal ≡ name) authors
+        → All (λ (a : AuthorState). IsPartOf a (entries_in items)) authors
     authors_told name setting ours k d below =
-        let each = each_unreverse (λ (a : AuthorState). a.entries ≡ part_list (length g.told) a.part m.history) authors (each_unmap (λ (p : Part). p.entries ≡ part_list (length g.told) p.part m.history) part_of (reverse authors) m.known.authors) in
+        let each =
+        each_unreverse (λ (a : AuthorState). a.entries ≡ part_list (length g.told) a.part m.history) authors
+        (each_unmap (λ (p : Part). p.entries ≡ part_list (length g.told) p.part m.history) part_of (reverse authors) m.known.authors) in
         let a : AuthorState = get_or authors k d in
         All-from_recursion (λ (b : AuthorState). b.entries ≡ part_list (length g.told) b.part m.history) authors each k d below
         ∙ ap (λ h. part_list (length h.told) a.part m.history) (sym (ap (λ j. j.setting) (ours k d below) ∙ setting))

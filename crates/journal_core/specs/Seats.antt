@@ -11,10 +11,20 @@ use Rattle.journal_core.specs.Journals.{JournalName, AuthorState, PassState}
 use Rattle.journal_core.specs.Views.{most_entries, blank_part, word_count}
 
 abbrev pub author_view : AuthorState → View
-author_view a = record { live = true; setting = a.journal.setting; authors = record { part = a.part; entries = a.entries } ∷ []; passes = [] }
+author_view a = record {
+  live = true;
+  setting = a.journal.setting;
+  authors = record { part = a.part; entries = a.entries } ∷ [];
+  passes = [];
+}
 
 abbrev pub pass_view : PassState → View
-pass_view p = record { live = true; setting = p.journal.setting; authors = []; passes = record { processor = p.processor; entries = p.entries } ∷ [] }
+pass_view p = record {
+  live = true;
+  setting = p.journal.setting;
+  authors = [];
+  passes = record { processor = p.processor; entries = p.entries } ∷ [];
+}
 
 abbrev pub first_part : List Part → Part
 first_part [] = blank_part 0
@@ -56,4 +66,5 @@ own_of p = record { processor = p.processor; entries = p.entries }
 
 -- the seat that has taken in all of these
 abbrev pub whole_view : Given → List AuthorState → List PassState → View
-whole_view g authors passes = record { live = true; setting = g; authors = map part_of (reverse authors); passes = map own_of (reverse passes) }
+whole_view g authors passes =
+    record { live = true; setting = g; authors = map part_of (reverse authors); passes = map own_of (reverse passes) }

@@ -2,6 +2,7 @@
 use Rattle.std.specs.Prelude.{ℕ, ◌≡◌, ◌+◌, ◌^◌, ◌≤◌, ◌<◌, Bool, true, false, ◌==◌, nat_lt, if◌then◌else◌, List, [], ◌∷◌, ◌++◌, map, length, replicate, take, drop, count_by, None}
 use Rattle.std.specs.List.{sum_by}
 use Rattle.std.specs.List.{AllByRecursion, range_with_len}
+use Rattle.pager_model.specs.Bounds.{most_actors}
 use mathlib.Core.Option.{some}
 use lib.ListN.{get_elem?}
 use Rattle.atomic_table.specs.Table.{State, Me, Step}
@@ -16,10 +17,7 @@ use Rattle.journal_core.specs.declared.view.Part.{Part}
 use Rattle.journal_core.specs.declared.view.Own.{Own}
 use Rattle.journal_core.specs.Parts.{part_list, names_part, own_list}
 
--- the most processors, and the most entries of one
-abbrev pub most_processors : ℕ
-most_processors = 17
-
+-- the most entries of one processor
 abbrev pub most_entries : ℕ
 most_entries = 2 ^ 31
 
@@ -63,7 +61,7 @@ pub record Stands (g : Given) (words : List ℕ) (views : List View) : Type 0 wh
   pub history : List Entry
   pub word : words ≡ words_of (length history)
   pub legal : IsLegal g history
-  pub few : length g.marks ≤ most_processors
+  pub few : length g.marks ≤ most_actors
   pub short : (c : ℕ) → length (entries_of c history) ≤ most_entries
   pub one_author : (part : ℕ) → sum_by (authors_of part) views ≡ one_below (length g.told + 1) part
   pub one_pass : (c : ℕ) → sum_by (passes_of c) views ≡ one_below (length g.marks) c
@@ -81,7 +79,12 @@ blank_own c = record { processor = c; entries = [] }
 
 abbrev pub opener : Given → View
 opener g =
-    record { live = true; setting = g; authors = map blank_part (range_with_len 0 (length g.told + 1)); passes = map blank_own (range_with_len 0 (length g.marks)) }
+    record {
+      live = true;
+      setting = g;
+      authors = map blank_part (range_with_len 0 (length g.told + 1));
+      passes = map blank_own (range_with_len 0 (length g.marks));
+    }
 
 -- the first author goes, and what is left
 abbrev pub first_author : View → View
@@ -102,7 +105,12 @@ abbrev pub joined : View → View → View
 joined v w = record v { authors = v.authors ++ w.authors; passes = v.passes ++ w.passes }
 
 abbrev pub spent : View
-spent = record { live = false; setting = record { sizes = all_sizes; frames = 0; marks = []; told = []; faults = [] }; authors = []; passes = [] }
+spent = record {
+  live = false;
+  setting = record { sizes = all_sizes; frames = 0; marks = []; told = []; faults = [] };
+  authors = [];
+  passes = [];
+}
 
 -- the lists grown by an entry at this place of the history
 abbrev pub part_grown : Entry → Part → Part
@@ -119,7 +127,7 @@ pub record Meets (g : Given) (long : ℕ) (v : View) : Type 0 where
   pub history : List Entry
   pub long_is : length history ≡ long
   pub legal : IsLegal g history
-  pub few : length g.marks ≤ most_processors
+  pub few : length g.marks ≤ most_actors
   pub short : (c : ℕ) → length (entries_of c history) ≤ most_entries
   pub known : Knows g history v
 

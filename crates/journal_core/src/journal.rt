@@ -1,5 +1,6 @@
 ghost use Rattle.std.specs.Prelude.{◌≡◌, ◌+◌, ◌^◌, List, ◌≤◌, ◌<◌, true, [], map, length, sum, IfOk, Some};
 ghost use Rattle.std.specs.List.{All, range_with_len};
+ghost use Rattle.pager_model.specs.Bounds.{most_spaces, most_actors};
 ghost use Rattle.pager_model.specs.Entries.{NamesItsParts};
 ghost use Rattle.pager_model.specs.Legal.{SpaceJudges, FramesJudge, KeepsOrder, entries_in};
 ghost use Rattle.pager_model.specs.declared.entry.Entry.{Entry};
@@ -53,8 +54,8 @@ pub struct Opened {
 /// authors come in the order of the spaces, with that of the frames last, and the passes in the order of the processors.
 /// `NoMemory` where memory runs out. No other call of a journal takes any.
 pub fn create(alloc: Global, setting: Setting, rooms: &[usize]) -> Result<Opened, NoMemory>
-    requires spaces { length setting.told ≤ 16 }
-    requires processors { (1 ≤ length rooms.now) × (length rooms.now ≤ 17) × (length rooms.now ≡ length setting.marks) }
+    requires spaces { length setting.told ≤ most_spaces }
+    requires processors { (1 ≤ length rooms.now) × (length rooms.now ≤ most_actors) × (length rooms.now ≡ length setting.marks) }
     requires rooms { All (λ r. r ≤ 2 ^ 31) rooms.now }
     ensures setting { IfOk result (λ o. o.journal.name.setting ≡ setting) }
     ensures authors { IfOk result (λ o. o.authors.items ≡ map (new_author o.journal.name) (range_with_len 0 (length setting.told + 1))) }
@@ -80,7 +81,7 @@ pub fn create(alloc: Global, setting: Setting, rooms: &[usize]) -> Result<Opened
 }
 
 fn total(rooms: &[usize]) -> usize
-    requires { (length rooms.now ≤ 17) × All (λ r. r ≤ 2 ^ 31) rooms.now }
+    requires { (length rooms.now ≤ most_actors) × All (λ r. r ≤ 2 ^ 31) rooms.now }
     ensures { result ≡ sum rooms.now }
 {
     let mut total = 0;
@@ -121,7 +122,7 @@ fn deal_passes(
     requires table { (seat.old.table_id ≡ word.now.table_id) × (word.now.table_id.words ≡ word_count) }
     requires live { (seat.old.me.0.live ≡ true) × (seat.old.me.1 ≡ []) × (seat.old.me.0.authors ≡ []) }
     requires passes { seat.old.me.0.passes ≡ map blank_own (range_with_len 0 (length rooms.now)) }
-    requires rooms { (length rooms.now ≤ 17) × (length rooms.now ≡ length seat.old.me.0.setting.marks) × All (λ r. r ≤ 2 ^ 31) rooms.now }
+    requires rooms { (length rooms.now ≤ most_actors) × (length rooms.now ≡ length seat.old.me.0.setting.marks) × All (λ r. r ≤ 2 ^ 31) rooms.now }
     ensures passes { IfOk result (λ v. v.items ≡ new_passes (name_of seat.old.table_id seat.old.me.0) 0 rooms.now) }
     ensures rest { IfOk result (λ v. (seat.new.table_id ≡ seat.old.table_id) × (seat.new.me ≡ (record { live = true; setting = seat.old.me.0.setting; authors = []; passes = [] }, []))) }
 {

@@ -29,7 +29,12 @@ use Rattle.pager_core.proofs.Purposes.{in_phase, with_phase, same_work, by_ready
 
 -- a flight's answer, which names the frames or not
 abbrev pub ending : Flight → Answered → Bool → Entry
-ending f a named = record { processor = f.processor; space = Some (space_of_call (call_in f.purpose)); frames = named; what = Answer f.number (call_in f.purpose) a }
+ending f a named = record {
+  processor = f.processor;
+  space = Some (space_of_call (call_in f.purpose));
+  frames = named;
+  what = Answer f.number (call_in f.purpose) a;
+}
 
 -- An answer that ends its flight: one that the space allows and then stands for, and that may come where the flight is.
 pub record MayEnd (f : Flight) (from : Phase) (a : Answered) (named : Bool) (was now : Kept) (st : SpaceState) : Type 0 where
@@ -46,7 +51,8 @@ pub record MayEnd (f : Flight) (from : Phase) (a : Answered) (named : Bool) (was
 module _ (f : Flight) (from : Phase) (a : Answered) (was now : Kept) (st : SpaceState) where
   pub Makes-ending :
       (named : Bool) → IsReady (in_phase f from) was st → MayEnd f from a named was now st
-      → (before after : FrameState) → (named ≡ true → FramesAllow before 0 f.processor (Some (space_of_call (call_in f.purpose))) (Answer f.number (call_in f.purpose) a))
+      → (before after : FrameState) → (named ≡ true → FramesAllow before 0 f.processor (Some (space_of_call (call_in f.purpose)))
+      (Answer f.number (call_in f.purpose) a))
       → after ≡ after_frames before (ending f a named)
       → Makes (in_phase f from) (in_phase f (Ended a.reply)) was now st before after (ending f a named)
   Makes-ending named ready ends before after frames_allow frames_after = record {
@@ -57,14 +63,15 @@ module _ (f : Flight) (from : Phase) (a : Answered) (was now : Kept) (st : Space
       frames_allow = frames_allow;
       frames_after = frames_after;
       in_order =
-          ap (λ b. leads b ((row_of (in_phase f from)).progress.made + 1) Idle) (and_from _ _ (eq-eqb f.number (row_of (in_phase f from)).progress.made (sym ends.made)) ends.may)
+          ap (λ b. leads b ((row_of (in_phase f from)).progress.made + 1) Idle)
+          (and_from _ _ (eq-eqb f.number (row_of (in_phase f from)).progress.made (sym ends.made)) ends.may)
           ∙ ap (λ n. Some (let p : Progress = record { made = n + 1; doing = Idle } in p)) ends.made;
       reply = refl;
       answer = refl;
       between = refl;
       fewer = ends.some;
     };
-    space = Leaves-on (in_phase f (Ended a.reply)) was now st f.processor (space_of_call (call_in f.purpose)) named (Answer f.number (call_in f.purpose) a) ends.on ends.same_space ready.next ends.goes_on ends.allowed (record {
+    space = Leaves-on (ending f a named) (ap Some ends.on) ends.same_space ready.next ends.goes_on ends.allowed (record {
       fits = record { kind = refl; can = ready.fits.can; phase = tt };
       stands = ends.stands;
       next = refl;
@@ -75,7 +82,8 @@ module _ (f : Flight) (from : Phase) (a : Answered) (was now : Kept) (st : Space
 
   -- one that leaves the frames alone
   pub Makes-answer : IsReady (in_phase f from) was st → MayEnd f from a false was now st → (frames : FrameState)
-      → Makes (in_phase f from) (in_phase f (Ended a.reply)) was now st frames frames (answer_entry f.processor f.number (call_in f.purpose) a)
+      → Makes (in_phase f from) (in_phase f (Ended a.reply)) was now st frames frames
+      (answer_entry f.processor f.number (call_in f.purpose) a)
   Makes-answer ready ends frames = Makes-ending false ready ends frames frames (λ named. absurd (false≢true named)) refl
 
 -- Start: the call is answered at once
@@ -97,7 +105,8 @@ pub start_answered : (f : Flight) (a : Answered) (was now : Kept) → f.phase �
     → BeginsAnswered was now f.processor (call_in f.purpose) a → (st : SpaceState) (frames : FrameState) → IsReady f was st
     → Makes f (with_phase f (Ended a.reply)) was now st frames frames (answer_entry f.processor f.number (call_in f.purpose) a)
 start_answered f a was now phase begins st frames =
-    by_ready f Start was st refl phase (λ g to. Makes g (to (Ended a.reply)) was now st frames frames (answer_entry f.processor f.number (call_in f.purpose) a))
+    by_ready f Start was st refl phase (λ g to. Makes g (to (Ended a.reply)) was now st frames frames
+    (answer_entry f.processor f.number (call_in f.purpose) a))
     (λ ready. Makes-answer f Start a was now st ready (MayEnd-begin f a was now st ready begins) frames)
 
 -- the first element that does does
@@ -109,46 +118,70 @@ find_does p (y ∷ xs) x is = elim (cases_Bool (p y)) [
 ]
 
 -- the region that has a page has it
-pub region_at-has : (regions : List Region) (page : ℕ) (r : Region) → region_at regions page ≡ Some r → in_range r.first r.length page ≡ true
+pub region_at-has : (regions : List Region) (page : ℕ) (r : Region) → region_at regions page ≡ Some r
+    → in_range r.first r.length page ≡ true
 region_at-has regions page r is = find_does (has_page page) regions r is
 
+-- the call unmaps the region of a page, which is taken away so
+pub record Unmaps (was now : Kept) (call : Call) (a : Answered) : Type 0 where
+  pub space : ℕ
+  pub page : ℕ
+  pub is : call ≡ Unmap space page
+  pub unmapped : Unmapped was now page a
+
 -- Gone: the region is taken away
-MayEnd-unmap : (f : Flight) (s page first len : ℕ) (a : Answered) (was now : Kept) (st : SpaceState) → call_in f.purpose ≡ Unmap s page
-    → IsReady (in_phase f (Gone first len)) was st → Unmapped was now page a → MayEnd f (Gone first len) a false was now st
-MayEnd-unmap f s page first len a was now st call ready unmapped =
+MayEnd-unmap : (f : Flight) (first len : ℕ) (a : Answered) (was now : Kept) (st : SpaceState) → IsReady (in_phase f (Gone first len)) was st
+    → Unmaps was now (call_in f.purpose) a → MayEnd f (Gone first len) a false was now st
+MayEnd-unmap f first len a was now st ready unmaps =
     let is = ready.found.unmapping in
     let r = is.region in
-    let same : page ≡ is.page = (let both : Unmap s page ≡ Unmap is.space is.page = sym call ∙ is.is_unmap in cc) in
+    let page = unmaps.page in
+    let unmapped = unmaps.unmapped in
+    let same : page ≡ is.page = (let both : Unmap unmaps.space page ≡ Unmap is.space is.page = sym unmaps.is ∙ is.is_unmap in cc) in
     let at : region_at was.regions page ≡ Some r = ap (region_at was.regions) same ∙ is.at in
-    let own : call_in f.purpose ≡ Unmap was.number page = call ∙ ap (λ n. Unmap n page) (sym (ap space_of_call call) ∙ same_Some _ _ ready.under) in
-    let within : in_range first len page ≡ true = sym (ap (λ n. in_range n r.length page) is.first_is ∙ ap (λ n. in_range first n page) is.length_is) ∙ region_at-has was.regions page r at in
-    let next : st.next ≡ AfterClear f.processor r.first r.length = ready.next ∙ sym (ap (λ n. AfterClear f.processor n r.length) is.first_is ∙ ap (AfterClear f.processor first) is.length_is) in
+    let own : call_in f.purpose ≡ Unmap was.number page =
+    unmaps.is ∙ ap (λ n. Unmap n page) (sym (ap space_of_call unmaps.is) ∙ same_Some _ _ ready.under) in
+    let within : in_range first len page ≡ true = sym (ap (λ n. in_range n r.length page) is.first_is
+    ∙ ap (λ n. in_range first n page) is.length_is) ∙ region_at-has was.regions page r at in
+    let next : st.next ≡ AfterClear f.processor r.first r.length = ready.next
+    ∙ sym (ap (λ n. AfterClear f.processor n r.length) is.first_is ∙ ap (AfterClear f.processor first) is.length_is) in
     record {
       on = same_Some _ _ ready.under;
       same_space = record { number = unmapped.same_number; frames = unmapped.same_frames; processors = unmapped.same_processors };
       resting = unmapped.resting;
-      goes_on = (refl, subst (λ k. IsUnmapOf first len k a.reply) (sym own) (subst (IsUnmapOf first len (Unmap was.number page)) (sym unmapped.done) within));
-      allowed = subst (λ k. WhatAllowed st false f.processor (Answer f.number k a)) (sym own) (unmapped.allowed st ready.stands f.processor f.number r at next);
-      stands = subst (λ k. StandsFor now (space_after st (answer_entry f.processor f.number k a))) (sym own) (unmapped.stands st ready.stands f.processor f.number);
+      goes_on = (
+        refl,
+        subst (λ k. IsUnmapOf first len k a.reply) (sym own)
+            (subst (IsUnmapOf first len (Unmap was.number page)) (sym unmapped.done) within),
+      );
+      allowed = subst (λ k. WhatAllowed st false f.processor (Answer f.number k a)) (sym own)
+          (unmapped.allowed st ready.stands f.processor f.number r at next);
+      stands = subst (λ k. StandsFor now (space_after st (answer_entry f.processor f.number k a))) (sym own)
+          (unmapped.stands st ready.stands f.processor f.number);
       made = refl;
       may = subst (λ k. may_answer (Cleared (space_of_call k) first len) k a.reply ≡ true) (sym own)
           (and_from _ _ (and_from _ _ (eq-eqb was.number was.number refl) within) (ap is_done unmapped.done));
       some = omega arith;
     }
 
-pub unmap_answered : (f : Flight) (s page first len : ℕ) (a : Answered) (was now : Kept) → f.phase ≡ Gone first len
-    → call_in f.purpose ≡ Unmap s page → Unmapped was now page a → (st : SpaceState) (frames : FrameState) → IsReady f was st
+pub unmap_answered : (f : Flight) (first len : ℕ) (a : Answered) (was now : Kept) → f.phase ≡ Gone first len
+    → Unmaps was now (call_in f.purpose) a → (st : SpaceState) (frames : FrameState) → IsReady f was st
     → Makes f (with_phase f (Ended a.reply)) was now st frames frames (answer_entry f.processor f.number (call_in f.purpose) a)
-unmap_answered f s page first len a was now phase call unmapped st frames =
-    by_ready f (Gone first len) was st refl phase (λ g to. Makes g (to (Ended a.reply)) was now st frames frames (answer_entry f.processor f.number (call_in f.purpose) a))
-    (λ ready. Makes-answer f (Gone first len) a was now st ready (MayEnd-unmap f s page first len a was now st call ready unmapped) frames)
+unmap_answered f first len a was now phase unmaps st frames =
+    by_ready f (Gone first len) was st refl phase (λ g to. Makes g (to (Ended a.reply)) was now st frames frames
+    (answer_entry f.processor f.number (call_in f.purpose) a))
+    (λ ready. Makes-answer f (Gone first len) a was now st ready (MayEnd-unmap f first len a was now st ready unmaps) frames)
 
 -- a load or a store is the access that it makes
 pub is_access_of : (call : Call) (claimed : Bool) → is_access call ≡ true → is_access_at (access_of call claimed) call ≡ true
-is_access_of (Load space address) true is = and_from _ _ (and_from _ _ (eq-eqb space space refl) (eq-eqb (page_of address) (page_of address) refl)) refl
-is_access_of (Load space address) false is = and_from _ _ (and_from _ _ (eq-eqb space space refl) (eq-eqb (page_of address) (page_of address) refl)) refl
-is_access_of (Store space address word) true is = and_from _ _ (and_from _ _ (eq-eqb space space refl) (eq-eqb (page_of address) (page_of address) refl)) refl
-is_access_of (Store space address word) false is = and_from _ _ (and_from _ _ (eq-eqb space space refl) (eq-eqb (page_of address) (page_of address) refl)) refl
+is_access_of (Load space address) true is = and_from _ _ (and_from _ _ (eq-eqb space space refl)
+    (eq-eqb (page_of address) (page_of address) refl)) refl
+is_access_of (Load space address) false is = and_from _ _ (and_from _ _ (eq-eqb space space refl)
+    (eq-eqb (page_of address) (page_of address) refl)) refl
+is_access_of (Store space address word) true is = and_from _ _ (and_from _ _ (eq-eqb space space refl)
+    (eq-eqb (page_of address) (page_of address) refl)) refl
+is_access_of (Store space address word) false is = and_from _ _ (and_from _ _ (eq-eqb space space refl)
+    (eq-eqb (page_of address) (page_of address) refl)) refl
 is_access_of call claimed is = absurd (false≢true is)
 
 -- a call that has an access's page is one
@@ -184,7 +217,8 @@ MayEnd-late f a was now st ready begins = record {
   allowed = begins.answers.allowed st ready.stands f.number;
   stands = begins.answers.stands st ready.stands f.number;
   made = refl;
-  may = and_from _ _ (is_access_of (call_in f.purpose) (claimed_in f.purpose) ready.fits.phase) (alone_plain (call_in f.purpose) a.reply ready.fits.phase begins.alone);
+  may = and_from _ _ (is_access_of (call_in f.purpose) (claimed_in f.purpose) ready.fits.phase)
+      (alone_plain (call_in f.purpose) a.reply ready.fits.phase begins.alone);
   some = omega arith;
 }
 
@@ -192,14 +226,20 @@ pub late_answered : (f : Flight) (a : Answered) (was now : Kept) → f.phase ≡
     → (st : SpaceState) (frames : FrameState) → IsReady f was st
     → Makes f (with_phase f (Ended a.reply)) was now st frames frames (answer_entry f.processor f.number (call_in f.purpose) a)
 late_answered f a was now phase begins st frames =
-    by_ready f Late was st refl phase (λ g to. Makes g (to (Ended a.reply)) was now st frames frames (answer_entry f.processor f.number (call_in f.purpose) a))
+    by_ready f Late was st refl phase (λ g to. Makes g (to (Ended a.reply)) was now st frames frames
+    (answer_entry f.processor f.number (call_in f.purpose) a))
     (λ ready. Makes-answer f Late a was now st ready (MayEnd-late f a was now st ready begins) frames)
 
+-- the page is read in, and then the access is served
+pub record Fills (was now : Kept) (f : Flight) (a : Answered) : Type 0 where
+  pub filled : Kept
+  pub reads : ReadsIn was filled
+  pub finishes : Finishes filled now f.processor (call_in f.purpose) a
+
 -- Fill: the access is served
-MayEnd-fill : (f : Flight) (page frame : ℕ) (a : Answered) (was mid now : Kept) (st : SpaceState)
-    → IsReady (in_phase f (Fill page frame)) was st → ReadsIn was mid → Finishes mid now f.processor (call_in f.purpose) a
-    → MayEnd f (Fill page frame) a false was now st
-MayEnd-fill f page frame a was mid now st ready reads finishes = record {
+MayEnd-fill : (f : Flight) (page frame : ℕ) (a : Answered) (was now : Kept) (st : SpaceState)
+    → IsReady (in_phase f (Fill page frame)) was st → Fills was now f a → MayEnd f (Fill page frame) a false was now st
+MayEnd-fill f page frame a was now st ready fills = (let reads = fills.reads in let finishes = fills.finishes in record {
   on = same_Some _ _ ready.under;
   same_space = same_space-on (same_space reads.same.same) (same_space finishes.same.same);
   resting = finishes.resting;
@@ -207,13 +247,15 @@ MayEnd-fill f page frame a was mid now st ready reads finishes = record {
   allowed = finishes.answers.allowed st (reads.stands st ready.stands) f.number;
   stands = finishes.answers.stands st (reads.stands st ready.stands) f.number;
   made = refl;
-  may = and_from _ _ (is_access_of (call_in f.purpose) (claimed_in f.purpose) (is_access_by_page (call_in f.purpose) page ready.found.lawful.page_is)) finishes.served;
+  may = and_from _ _ (is_access_of (call_in f.purpose) (claimed_in f.purpose)
+      (is_access_by_page (call_in f.purpose) page ready.found.lawful.page_is)) finishes.served;
   some = omega arith;
-}
+})
 
-pub fill_answered : (f : Flight) (page frame : ℕ) (a : Answered) (was mid now : Kept) → f.phase ≡ Fill page frame → ReadsIn was mid
-    → Finishes mid now f.processor (call_in f.purpose) a → (st : SpaceState) (frames : FrameState) → IsReady f was st
+pub fill_answered : (f : Flight) (page frame : ℕ) (a : Answered) (was now : Kept) → f.phase ≡ Fill page frame → Fills was now f a
+    → (st : SpaceState) (frames : FrameState) → IsReady f was st
     → Makes f (with_phase f (Ended a.reply)) was now st frames frames (answer_entry f.processor f.number (call_in f.purpose) a)
-fill_answered f page frame a was mid now phase reads finishes st frames =
-    by_ready f (Fill page frame) was st refl phase (λ g to. Makes g (to (Ended a.reply)) was now st frames frames (answer_entry f.processor f.number (call_in f.purpose) a))
-    (λ ready. Makes-answer f (Fill page frame) a was now st ready (MayEnd-fill f page frame a was mid now st ready reads finishes) frames)
+fill_answered f page frame a was now phase fills st frames =
+    by_ready f (Fill page frame) was st refl phase (λ g to. Makes g (to (Ended a.reply)) was now st frames frames
+    (answer_entry f.processor f.number (call_in f.purpose) a))
+    (λ ready. Makes-answer f (Fill page frame) a was now st ready (MayEnd-fill f page frame a was now st ready fills) frames)

@@ -1,18 +1,23 @@
 -- How a step that makes an entry leaves its space.
-use Rattle.std.proofs.Common.{◌≡◌, ℕ, eqb, Bool, true, false, Option, Some, None, refl, ap, sym, subst, ◌∙◌, ◌⊎◌, inl, inr}
+use Rattle.std.proofs.Common.{◌≡◌, ℕ, eqb, cond, Option, Some, None, IfSome, refl, ap, sym, subst, ◌∙◌, ◌⊎◌, inl, inr}
 use Rattle.std.proofs.lemmas.Bool.{cond-true, eq-eqb}
 use Rattle.pager_model.specs.declared.entry.Entry.{Entry}
-use Rattle.pager_model.specs.declared.entry.What.{What}
+use Rattle.pager_model.specs.Options.{is_that}
 use Rattle.pager_model.specs.FrameStates.{FrameState}
 use Rattle.pager_model.specs.Locks.{own_if}
-use Rattle.pager_model.specs.SpaceStates.{SpaceState, Next, Anyone, MayGoOn, WhatAllowed, space_after}
+use Rattle.pager_model.specs.SpaceStates.{SpaceState, Next, Anyone, MayGoOn, WhatAllowed, SpaceAllows, space_after}
 use Rattle.space_core.specs.Beginning.{SameRegions}
 use Rattle.space_core.specs.Standing.{Kept, StandsFor, IsResting}
 use Rattle.pager_core.specs.declared.flight.Flight.{Flight}
-use Rattle.pager_core.specs.Flights.{Fits, LeftBy, PhaseStands, is_of_turns}
-use Rattle.pager_core.specs.Rows.{call_in, is_of_call, row_of}
-use Rattle.pager_core.specs.Steps.{LeavesSpace, Makes, SameSpace, after_named}
-use Rattle.pager_core.proofs.NextFlights.{keeps_under, of_calls, own_if-cases}
+use Rattle.pager_core.specs.Flights.{Fits, LeftBy, PhaseStands}
+use Rattle.pager_core.specs.Rows.{call_in, row_of}
+use Rattle.pager_core.specs.Steps.{LeavesSpace, SameSpace}
+use Rattle.pager_core.proofs.NextFlights.{keeps_under, own_if-cases}
+
+-- what a step under both locks is made under
+pub record SpaceAndFrames : Type 0 where
+  pub space : Kept
+  pub frames : FrameState
 
 -- a space with the same regions and rights is the same
 pub same_space : {was now : Kept} → SameRegions was now → SameSpace was now
@@ -20,7 +25,12 @@ same_space same = record { number = same.number; frames = same.frames; processor
 
 pub same_space-on : {was mid now : Kept} → SameSpace was mid → SameSpace mid now → SameSpace was now
 same_space-on first second =
-    record { number = second.number ∙ first.number; frames = second.frames ∙ first.frames; processors = second.processors ∙ first.processors }
+    record {
+      number = second.number ∙ first.number;
+      frames = second.frames ∙ first.frames;
+      processors = second.processors
+          ∙ first.processors;
+    }
 
 pub unchanged : (kept : Kept) → SameSpace kept kept
 unchanged kept = record { number = refl; frames = refl; processors = refl }
@@ -57,35 +67,33 @@ LeftBy-left new now st left = elim left.keeps [
       found = left.found;
     },
   )
-  | inr none ↦ subst (λ o. LeftBy o new now st) (sym none.0) (left.fits, record { resting = none.2; stands = left.stands; next = left.next ∙ none.1 })
+  | inr none ↦ subst (λ o. LeftBy o new now st) (sym none.0) (
+    left.fits,
+    record { resting = none.2; stands = left.stands; next = left.next ∙ none.1 },
+  )
 ]
 
--- So it leaves the space by an entry that the space allows.
-pub Leaves-by : {next : Next} (new : Flight) (was now : Kept) (st : SpaceState) (c own : ℕ) (named : Bool) (what : What) → own ≡ was.number
-    → SameSpace was now → st.next ≡ next → MayGoOn next c what → WhatAllowed st named c what
-    → LeftBy (row_of new).keeps new now (space_after st (record { processor = c; space = Some own; frames = named; what = what })) → LeavesSpace new was now st (record { processor = c; space = Some own; frames = named; what = what })
-Leaves-by new was now st c own named what on same next goes_on allowed left =
-    let e : Entry = record { processor = c; space = Some own; frames = named; what = what } in
-    record {
-      same_space = same;
-      own_space = on;
-      space_allows = (subst (λ n. MayGoOn n c what) (sym next) goes_on, allowed);
-      left = subst (LeftBy (row_of new).keeps new now) (sym (cond-true (eqb own was.number) (space_after st e) st (eq-eqb _ _ on))) left;
-    }
+-- So it leaves the space by an entry that names it, and that it allows.
+pub Leaves-by : {new : Flight} {was now : Kept} {st : SpaceState} {next : Next} (e : Entry) → e.space ≡ Some was.number → SameSpace was now
+    → st.next ≡ next → MayGoOn next e.processor e.what → WhatAllowed st e.frames e.processor e.what
+    → LeftBy (row_of new).keeps new now (space_after st e) → LeavesSpace new was now st e
+Leaves-by {new} {was} {now} {st} {next} e on same next_is goes_on allowed left = record {
+  same_space = same;
+  own_space = subst (λ o. IfSome o (λ s. s ≡ was.number)) (sym on) refl;
+  space_allows = subst (λ o. IfSome o (λ s. SpaceAllows st e)) (sym on)
+      (subst (λ n. MayGoOn n e.processor e.what) (sym next_is) goes_on, allowed);
+  left = subst (LeftBy (row_of new).keeps new now)
+      (sym (ap (λ o. cond (is_that was.number o) (space_after st e) st) on
+      ∙ cond-true (eqb was.number was.number) (space_after st e) st (eq-eqb _ _ refl))) left;
+}
 
-pub Leaves-on : {next : Next} (new : Flight) (was now : Kept) (st : SpaceState) (c own : ℕ) (named : Bool) (what : What) → own ≡ was.number
-    → SameSpace was now → st.next ≡ next → MayGoOn next c what → WhatAllowed st named c what
-    → IsLeft new now (space_after st (record { processor = c; space = Some own; frames = named; what = what })) → LeavesSpace new was now st (record { processor = c; space = Some own; frames = named; what = what })
-Leaves-on new was now st c own named what on same next goes_on allowed left =
-    Leaves-by new was now st c own named what on same next goes_on allowed (LeftBy-left new now (space_after st (record { processor = c; space = Some own; frames = named; what = what })) left)
+pub Leaves-on : {new : Flight} {was now : Kept} {st : SpaceState} {next : Next} (e : Entry) → e.space ≡ Some was.number → SameSpace was now
+    → st.next ≡ next → MayGoOn next e.processor e.what → WhatAllowed st e.frames e.processor e.what
+    → IsLeft new now (space_after st e) → LeavesSpace new was now st e
+Leaves-on {new} {was} {now} {st} {next} e on same next_is goes_on allowed left =
+    Leaves-by e on same next_is goes_on allowed (LeftBy-left new now (space_after st e) left)
 
 -- However it leaves the space, the flight fits.
 pub Fits-left : (new : Flight) (now : Kept) (st : SpaceState) (o : Option ℕ) → LeftBy o new now st → Fits new
 Fits-left new now st None left = left.0
 Fits-left new now st (Some s) left = left.1.fits
-
--- a call is in no phase of a turn then
-pub calls_left : (f f' : Flight) (was now : Kept) (st : SpaceState) (before after : FrameState) (e : Entry)
-    → Makes f f' was now st before after e → is_of_call f.purpose ≡ true → is_of_turns f'.phase ≡ false
-calls_left f f' was now st before after e makes is_call =
-    of_calls f' (makes.entry.same_work.same_kind ∙ is_call) (Fits-left f' now (after_named was.number st e) (row_of f').keeps makes.space.left)

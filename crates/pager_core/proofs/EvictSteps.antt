@@ -6,7 +6,7 @@ use Rattle.pager_model.specs.declared.entry.Entry.{Entry}
 use Rattle.pager_model.specs.declared.entry.What.TheVariants.{Answer}
 use Rattle.pager_model.specs.declared.reply.Answered.{Answered}
 use Rattle.pager_model.specs.Flat.{space_of_call}
-use Rattle.pager_model.specs.FrameStates.{FrameState, AllowsAnswer, counted, frame_of, give_page, moved_by_answer}
+use Rattle.pager_model.specs.FrameStates.{AllowsAnswer, counted, frame_of, give_page, moved_by_answer}
 use Rattle.pager_model.specs.Order.{Idle, may_answer}
 use Rattle.pager_model.specs.SpaceStates.{SpaceState, WhatAllowed, space_after}
 use Rattle.space_core.specs.Beginning.{BeginsEvicting, Evicts, copied_reply}
@@ -17,7 +17,7 @@ use Rattle.pager_core.specs.Flights.{IsReady}
 use Rattle.pager_core.specs.Rows.{call_in}
 use Rattle.pager_core.specs.Steps.{AreAgreed, Makes, Passes}
 use Rattle.pager_core.proofs.AnswerSteps.{MayEnd, ending, Makes-ending}
-use Rattle.pager_core.proofs.EntrySteps.{same_space}
+use Rattle.pager_core.proofs.EntrySteps.{SpaceAndFrames, same_space}
 use Rattle.pager_core.proofs.Purposes.{in_phase, with_phase, same_work, by_ready}
 
 -- Start: the page is equal to its copy, and gives its frame up next
@@ -51,7 +51,8 @@ pub begin_evicting : (f : Flight) (page : ℕ) (written : Bool) (was now : Kept)
     → BeginsEvicting was now (call_in f.purpose) page written → (st : SpaceState) → IsReady f was st
     → Passes f (with_phase f (Evict page)) was now st
 begin_evicting f page written was now phase begins st =
-    by_ready f Start was st refl phase (λ g to. Passes g (to (Evict page)) was now st) (λ ready. Passes-evicting f page written was now st ready begins)
+    by_ready f Start was st refl phase (λ g to. Passes g (to (Evict page)) was now st)
+    (λ ready. Passes-evicting f page written was now st ready begins)
 
 -- a page that was written, or was clean, is the answer alone
 copied_alone : (space page : ℕ) (written : Bool) → may_answer Idle (EvictCall space page) (copied_reply written) ≡ true
@@ -59,32 +60,46 @@ copied_alone space page true = refl
 copied_alone space page false = refl
 
 -- Evict: the page gives its frame up, and the call is answered
-module _ (f : Flight) (page frame : ℕ) (a : Answered) (was now : Kept) (st : SpaceState) (before : FrameState) where
+module _ (f : Flight) (page : ℕ) (a : Answered) (was : SpaceAndFrames) (now : Kept) (st : SpaceState) where
   Makes-evict :
-      IsReady (in_phase f (Evict page)) was st → AreAgreed was before → Evicts was now page frame a
-      → Makes (in_phase f (Evict page)) (in_phase f (Ended a.reply)) was now st before (counted (give_page before (space_of_call (call_in f.purpose)) page)) (ending f a true)
-  Makes-evict ready agree evicts =
-      let own : call_in f.purpose ≡ EvictCall was.number page = ready.found.is_evict in
-      let on : space_of_call (call_in f.purpose) ≡ was.number = same_Some _ _ ready.under in
-      let ends : MayEnd f (Evict page) a true was now st = record {
+      IsReady (in_phase f (Evict page)) was.space st → AreAgreed was.space was.frames → (frame : ℕ) → Evicts was.space now page frame a
+      → Makes (in_phase f (Evict page)) (in_phase f (Ended a.reply)) was.space now st was.frames
+      (counted (give_page was.frames (space_of_call (call_in f.purpose)) page)) (ending f a true)
+  Makes-evict ready agree frame evicts =
+      let own : call_in f.purpose ≡ EvictCall was.space.number page = ready.found.is_evict in
+      let on : space_of_call (call_in f.purpose) ≡ was.space.number = same_Some _ _ ready.under in
+      let ends : MayEnd f (Evict page) a true was.space now st = record {
         on = on;
         same_space = same_space evicts.gave.same;
         resting = evicts.resting;
         goes_on = tt;
-        allowed = subst (λ k. WhatAllowed st true f.processor (Answer f.number k a)) (sym own) (evicts.allowed st ready.stands f.processor f.number);
-        stands = subst (λ k. StandsFor now (space_after st (let e : Entry = record { processor = f.processor; space = Some was.number; frames = true; what = Answer f.number k a } in e))) (sym own)
+        allowed = subst (λ k. WhatAllowed st true f.processor (Answer f.number k a)) (sym own)
+            (evicts.allowed st ready.stands f.processor f.number);
+        stands = subst (λ k. StandsFor now (space_after st (let e : Entry = record {
+          processor = f.processor;
+          space = Some was.space.number;
+          frames = true;
+          what = Answer f.number k a;
+        } in e))) (sym own)
             (evicts.stands st ready.stands f.processor f.number);
         made = refl;
-        may = subst (λ k. may_answer Idle k a.reply ≡ true) (sym own) (subst (λ r. may_answer Idle (EvictCall was.number page) r ≡ true) (sym evicts.replied) (copied_alone was.number page (dirty_at was page)));
+        may = subst (λ k. may_answer Idle k a.reply ≡ true) (sym own)
+            (subst (λ r. may_answer Idle (EvictCall was.space.number page) r ≡ true) (sym evicts.replied)
+            (copied_alone was.space.number page (dirty_at was.space page)));
         some = omega arith;
       } in
-      Makes-ending f (Evict page) a was now st true ready ends before (counted (give_page before (space_of_call (call_in f.purpose)) page))
-      (λ named. subst (AllowsAnswer before (space_of_call (call_in f.purpose))) (sym own) (frame, ap (λ s. frame_of before s page) on ∙ sym (agree.pages page) ∙ evicts.gave.had))
-      (ap (λ k. counted (moved_by_answer before (space_of_call (call_in f.purpose)) k)) (sym own))
+      Makes-ending f (Evict page) a was.space now st true ready ends was.frames
+      (counted (give_page was.frames (space_of_call (call_in f.purpose)) page))
+      (λ named. subst (AllowsAnswer was.frames (space_of_call (call_in f.purpose))) (sym own)
+      (frame, ap (λ s. frame_of was.frames s page) on ∙ sym (agree.pages page) ∙ evicts.gave.had))
+      (ap (λ k. counted (moved_by_answer was.frames (space_of_call (call_in f.purpose)) k)) (sym own))
 
-pub page_evicted : (f : Flight) (page frame : ℕ) (a : Answered) (was now : Kept) (before : FrameState) → f.phase ≡ Evict page
-    → AreAgreed was before → Evicts was now page frame a → (st : SpaceState) → IsReady f was st
-    → Makes f (with_phase f (Ended a.reply)) was now st before (counted (give_page before (space_of_call (call_in f.purpose)) page)) (ending f a true)
-page_evicted f page frame a was now before phase agree evicts st =
-    by_ready f (Evict page) was st refl phase (λ g to. Makes g (to (Ended a.reply)) was now st before (counted (give_page before (space_of_call (call_in f.purpose)) page)) (ending f a true))
-    (λ ready. Makes-evict f page frame a was now st before ready agree evicts)
+pub page_evicted : (f : Flight) (page frame : ℕ) (a : Answered) (was : SpaceAndFrames) (now : Kept) → f.phase ≡ Evict page
+    → AreAgreed was.space was.frames → Evicts was.space now page frame a → (st : SpaceState) → IsReady f was.space st
+    → Makes f (with_phase f (Ended a.reply)) was.space now st was.frames
+    (counted (give_page was.frames (space_of_call (call_in f.purpose)) page)) (ending f a true)
+page_evicted f page frame a was now phase agree evicts st =
+    by_ready f (Evict page) was.space st refl phase
+    (λ g to. Makes g (to (Ended a.reply)) was.space now st was.frames
+    (counted (give_page was.frames (space_of_call (call_in f.purpose)) page)) (ending f a true))
+    (λ ready. Makes-evict f page a was now st ready agree frame evicts)

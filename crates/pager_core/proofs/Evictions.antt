@@ -13,8 +13,9 @@ use Rattle.pager_core.specs.declared.flight.Phase.TheVariants.{Out, Write, Hand,
 use Rattle.pager_core.specs.declared.flight.Purpose.{Purpose}
 use Rattle.pager_core.specs.declared.flight.Purpose.TheVariants.{Call as OfCall, Turn as OfTurn}
 use Rattle.pager_core.specs.Flights.{Fits, IsFor, LeftBy, PhaseFits, TurnFits, is_of_turns}
-use Rattle.pager_core.specs.Rows.{Going, access_of, at, call_in, claims_for, faulted, given_up, is_between, left_by, reply_in, row_of, won}
+use Rattle.pager_core.specs.Rows.{access_of, at, call_in, claims_for, faulted, given_up, left_by, row_of, won}
 use Rattle.pager_core.proofs.EntrySteps.{LeftBy-left, keeps_own_if}
+use Rattle.pager_core.proofs.MadeEntries.{is_on_way}
 use Rattle.pager_core.proofs.NextFlights.{copies_none, keeps_faulted}
 use Rattle.pager_core.proofs.Purposes.{in_its_phase, with_phase}
 
@@ -64,8 +65,7 @@ Fits-on f from to one other fits phase = record { kind = kind_on f.purpose from 
 -- the row of a flight that holds the victim's frame
 pub record IsWon (f : Flight) (v : Victim) : Type 0 where
   pub progress : (row_of (with_phase f (won f.purpose v))).progress ≡ at f.number (Holding (claims_for f.purpose) v)
-  pub going : (row_of (with_phase f (won f.purpose v))).outcome ≡ Going
-  pub between : is_between f.purpose (won f.purpose v) ≡ true
+  pub on_way : is_on_way (with_phase f (won f.purpose v)) ≡ true
   pub fewer : (row_of (with_phase f (won f.purpose v))).entries < left_by f.purpose 6 2 4
 
 -- of its parts
@@ -73,15 +73,17 @@ abbrev flight_in : ℕ → ℕ → Purpose → Phase → Flight
 flight_in c n purpose phase = record { processor = c; number = n; purpose = purpose; phase = phase }
 
 won-row_in : (c n : ℕ) (purpose : Purpose) (v : Victim) (phase : Phase) → IsWon (flight_in c n purpose phase) v
-won-row_in c n (OfCall call claimed) v phase = record { progress = refl; going = refl; between = refl; fewer = omega arith }
-won-row_in c n (OfTurn mark evictions) v phase = record { progress = refl; going = refl; between = refl; fewer = omega arith }
+won-row_in c n (OfCall call claimed) v phase = record { progress = refl; on_way = refl; fewer = omega arith }
+won-row_in c n (OfTurn mark evictions) v phase = record { progress = refl; on_way = refl; fewer = omega arith }
 
 pub won-row : (f : Flight) (v : Victim) → IsWon f v
 won-row f v = won-row_in f.processor f.number f.purpose v f.phase
 
 -- how it leaves the victim's space
 LeftBy-won_in :
-    (c n : ℕ) (purpose : Purpose) (v : Victim) (now : Kept) (st : SpaceState) (from : Phase) → in_eviction from ≡ true → Fits (flight_in c n purpose from) → is_access (call_in purpose) ≡ true → v.space ≡ now.number → IsResting now → StandsFor now st → st.next ≡ Anyone
+    (c n : ℕ) (purpose : Purpose) (v : Victim) (now : Kept) (st : SpaceState) (from : Phase) → in_eviction from ≡ true
+    → Fits (flight_in c n purpose from) → is_access (call_in purpose) ≡ true → v.space ≡ now.number → IsResting now → StandsFor now st
+    → st.next ≡ Anyone
     → LeftBy (row_of (flight_in c n purpose (won purpose v))).keeps (flight_in c n purpose (won purpose v)) now st
 LeftBy-won_in c n (OfCall call claimed) v now st from one fits access on resting stands next =
     LeftBy-left (flight_in c n (OfCall call claimed) (Back v)) now st (record {
@@ -89,13 +91,17 @@ LeftBy-won_in c n (OfCall call claimed) v now st from one fits access on resting
       stands = stands;
       next = next;
       found = resting;
-      keeps = keeps_own_if (flight_in c n (OfCall call claimed) (Back v)) now (Some (space_of_call call)) v.space refl (λ here. on) refl resting;
+      keeps = keeps_own_if (flight_in c n (OfCall call claimed) (Back v)) now (Some (space_of_call call)) v.space refl
+          (λ here. on) refl resting;
     })
-LeftBy-won_in c n (OfTurn mark evictions) v now st from one fits access on resting stands next =
-    (record { kind = fewer_in mark evictions from one fits.kind; can = fits.can; phase = access }, record { resting = resting; stands = stands; next = next })
+LeftBy-won_in c n (OfTurn mark evictions) v now st from one fits access on resting stands next = (
+  record { kind = fewer_in mark evictions from one fits.kind; can = fits.can; phase = access },
+  record { resting = resting; stands = stands; next = next },
+)
 
 pub LeftBy-won :
-    (f : Flight) (v : Victim) (now : Kept) (st : SpaceState) (from : Phase) → in_eviction from ≡ true → Fits (with_phase f from) → is_access (call_in f.purpose) ≡ true → v.space ≡ now.number → IsResting now → StandsFor now st → st.next ≡ Anyone
+    (f : Flight) (v : Victim) (now : Kept) (st : SpaceState) (from : Phase) → in_eviction from ≡ true → Fits (with_phase f from)
+    → is_access (call_in f.purpose) ≡ true → v.space ≡ now.number → IsResting now → StandsFor now st → st.next ≡ Anyone
     → LeftBy (row_of (with_phase f (won f.purpose v))).keeps (with_phase f (won f.purpose v)) now st
 LeftBy-won f v = LeftBy-won_in f.processor f.number f.purpose v
 
@@ -106,22 +112,21 @@ ended_claim n claims space (Some count) = faulted_for n claims space count
 
 -- the row of a flight that gave its claim up
 pub record IsGivenUp (f : Flight) (v : Victim) (fault : Option ℕ) : Type 0 where
-  pub progress : ended_claim f.number (claims_for f.purpose) v.space fault ≡ Some (row_of (with_phase f (given_up f.purpose v fault))).progress
-  pub no_reply : reply_in (row_of (with_phase f (given_up f.purpose v fault))).outcome ≡ None
-  pub between : is_between f.purpose (given_up f.purpose v fault) ≡ true
+  pub progress : ended_claim f.number (claims_for f.purpose) v.space fault
+      ≡ Some (row_of (with_phase f (given_up f.purpose v fault))).progress
+  pub on_way : is_on_way (with_phase f (given_up f.purpose v fault)) ≡ true
   pub fewer : (row_of (with_phase f (given_up f.purpose v fault))).entries < left_by f.purpose 6 2 4
 
 given_up-row_in : (c n : ℕ) (purpose : Purpose) (v : Victim) (phase : Phase) (fault : Option ℕ) → is_access (call_in purpose) ≡ true
     → IsGivenUp (flight_in c n purpose phase) v fault
-given_up-row_in c n (OfCall call claimed) v phase None access = record { progress = refl; no_reply = refl; between = refl; fewer = omega arith }
+given_up-row_in c n (OfCall call claimed) v phase None access = record { progress = refl; on_way = refl; fewer = omega arith }
 given_up-row_in c n (OfCall call claimed) v phase (Some count) access = record {
   progress = ap (λ o. Some (at n (faulted (access_of call claimed) v.space count o))) (sym (copies_none call access));
-  no_reply = refl;
-  between = refl;
+  on_way = refl;
   fewer = omega arith;
 }
-given_up-row_in c n (OfTurn mark evictions) v phase None access = record { progress = refl; no_reply = refl; between = refl; fewer = omega arith }
-given_up-row_in c n (OfTurn mark evictions) v phase (Some count) access = record { progress = refl; no_reply = refl; between = refl; fewer = omega arith }
+given_up-row_in c n (OfTurn mark evictions) v phase None access = record { progress = refl; on_way = refl; fewer = omega arith }
+given_up-row_in c n (OfTurn mark evictions) v phase (Some count) access = record { progress = refl; on_way = refl; fewer = omega arith }
 
 pub given_up-row : (f : Flight) (v : Victim) (fault : Option ℕ) → is_access (call_in f.purpose) ≡ true → IsGivenUp f v fault
 given_up-row f v = given_up-row_in f.processor f.number f.purpose v f.phase
@@ -137,11 +142,13 @@ given_up-nearer_in c n (OfTurn mark evictions) v (Some count) = omega arith
 pub given_up-nearer : (f : Flight) (v : Victim) (fault : Option ℕ) → f.phase ≡ Unclaim v fault
     → (row_of (with_phase f (given_up f.purpose v fault))).steps < (row_of f).steps
 given_up-nearer f v fault phase =
-    in_its_phase f (Unclaim v fault) phase (λ g. (row_of (with_phase f (given_up f.purpose v fault))).steps < (row_of g).steps) (given_up-nearer_in f.processor f.number f.purpose v fault)
+    in_its_phase f (Unclaim v fault) phase (λ g. (row_of (with_phase f (given_up f.purpose v fault))).steps < (row_of g).steps)
+    (given_up-nearer_in f.processor f.number f.purpose v fault)
 
 -- how it leaves the victim's space
 LeftBy-given_up_in :
-    (c n : ℕ) (purpose : Purpose) (v : Victim) (fault : Option ℕ) (now : Kept) (st : SpaceState) → Fits (flight_in c n purpose (Unclaim v fault)) → v.space ≡ now.number → IsResting now → StandsFor now st → st.next ≡ Anyone
+    (c n : ℕ) (purpose : Purpose) (v : Victim) (fault : Option ℕ) (now : Kept) (st : SpaceState)
+    → Fits (flight_in c n purpose (Unclaim v fault)) → v.space ≡ now.number → IsResting now → StandsFor now st → st.next ≡ Anyone
     → LeftBy (row_of (flight_in c n purpose (given_up purpose v fault))).keeps (flight_in c n purpose (given_up purpose v fault)) now st
 LeftBy-given_up_in c n (OfCall call claimed) v None now st fits on resting stands next =
     LeftBy-left (flight_in c n (OfCall call claimed) (Lack v.space)) now st (record {
@@ -149,7 +156,8 @@ LeftBy-given_up_in c n (OfCall call claimed) v None now st fits on resting stand
       stands = stands;
       next = next;
       found = resting;
-      keeps = keeps_own_if (flight_in c n (OfCall call claimed) (Lack v.space)) now (Some (space_of_call call)) v.space refl (λ here. on) refl resting;
+      keeps = keeps_own_if (flight_in c n (OfCall call claimed) (Lack v.space)) now (Some (space_of_call call)) v.space refl
+          (λ here. on) refl resting;
     })
 LeftBy-given_up_in c n (OfCall call claimed) v (Some count) now st fits on resting stands next =
     LeftBy-left (flight_in c n (OfCall call claimed) (Fault v.space count)) now st (record {
@@ -160,10 +168,13 @@ LeftBy-given_up_in c n (OfCall call claimed) v (Some count) now st fits on resti
       keeps = keeps_own_if (flight_in c n (OfCall call claimed) (Fault v.space count)) now (Some (space_of_call call)) v.space
           (keeps_faulted (Some (space_of_call call)) (access_of call claimed) v.space count (copied_page call)) (λ here. on) refl resting;
     })
-LeftBy-given_up_in c n (OfTurn mark evictions) v fault now st fits on resting stands next =
-    (record { kind = (let fewer = fits.kind in omega (arith, fewer)); can = fits.can; phase = tt }, record { resting = resting; stands = stands; next = next })
+LeftBy-given_up_in c n (OfTurn mark evictions) v fault now st fits on resting stands next = (
+  record { kind = (let fewer = fits.kind in omega (arith, fewer)); can = fits.can; phase = tt },
+  record { resting = resting; stands = stands; next = next },
+)
 
 pub LeftBy-given_up :
-    (f : Flight) (v : Victim) (fault : Option ℕ) (now : Kept) (st : SpaceState) → Fits (with_phase f (Unclaim v fault)) → v.space ≡ now.number → IsResting now → StandsFor now st → st.next ≡ Anyone
+    (f : Flight) (v : Victim) (fault : Option ℕ) (now : Kept) (st : SpaceState) → Fits (with_phase f (Unclaim v fault))
+    → v.space ≡ now.number → IsResting now → StandsFor now st → st.next ≡ Anyone
     → LeftBy (row_of (with_phase f (given_up f.purpose v fault))).keeps (with_phase f (given_up f.purpose v fault)) now st
 LeftBy-given_up f v fault = LeftBy-given_up_in f.processor f.number f.purpose v fault

@@ -23,81 +23,103 @@ use Rattle.pager_core.specs.declared.flight.Phase.TheVariants.{Use, Fill}
 use Rattle.pager_core.specs.Flights.{IsReady, WantsFrame}
 use Rattle.pager_core.specs.Rows.{access_in, call_in, page_or_zero, row_of}
 use Rattle.pager_core.specs.Steps.{AreAgreed, Makes}
-use Rattle.pager_core.proofs.EntrySteps.{Leaves-on, same_space}
+use Rattle.pager_core.proofs.EntrySteps.{Leaves-on, SpaceAndFrames, same_space}
+use Rattle.pager_core.proofs.MadeEntries.{made_on_frames}
 use Rattle.pager_core.proofs.Purposes.{in_phase, with_phase, same_work, by_ready}
-use Rattle.pager_core.proofs.TakenFrames.{IsLeft-placed}
+use Rattle.pager_core.proofs.TakenFrames.{IsLeft-placed, IsTaken}
 
 -- what stands where a held frame is used: the page of the call's own space lacks a frame
 pub wants_still : (f : Flight) (page : ℕ) (want : Want) (v : Victim) (kept : Kept) (st : SpaceState) → f.phase ≡ Use page want v
     → IsReady f kept st → (space_of_call (call_in f.purpose) ≡ kept.number) × WantsFrame (call_in f.purpose) kept page want
 wants_still f page want v kept st phase =
-    by_ready f (Use page want v) kept st refl phase (λ g to. (space_of_call (call_in g.purpose) ≡ kept.number) × WantsFrame (call_in g.purpose) kept page want) (λ ready. (same_Some _ _ ready.under, ready.found))
+    by_ready f (Use page want v) kept st refl phase
+    (λ g to. (space_of_call (call_in g.purpose) ≡ kept.number) × WantsFrame (call_in g.purpose) kept page want)
+    (λ ready. (same_Some _ _ ready.under, ready.found))
 
--- A frame that is taken for a page without one, once a held frame is free, is a known one that no page has.
-module _ (kept : Kept) (st : FrameState) (c space page : ℕ) (want : Want) (t : Taking) (agree : AreAgreed kept st)
-    (on : space ≡ kept.number) (absent : frame_at kept page ≡ None) (takes : take_frame (dropped st c) space page want ≡ Some t) where
+-- A frame is taken for a page of the space without one, once the frame that the processor holds is free.
+pub record TakesFreed (kept : Kept) (st : FrameState) (c page : ℕ) (t : Taking) : Type 0 where
+  pub space : ℕ
+  pub want : Want
+  pub agree : AreAgreed kept st
+  pub on : space ≡ kept.number
+  pub absent : frame_at kept page ≡ None
+  pub takes : take_frame (dropped st c) space page want ≡ Some t
+
+-- Then it is a known one that no page has.
+module _ (kept : Kept) (st : FrameState) (c page : ℕ) (t : Taking) (freed : TakesFreed kept st c page t) where
   free_sound : IsSound kept.frames (length st.held) (dropped st c)
-  free_sound = IsSound-dropped kept.frames (length st.held) st c agree.sound
+  free_sound = IsSound-dropped kept.frames (length st.held) st c freed.agree.sound
 
-  takes_free : Takes (dropped st c) space page t
+  takes_free : Takes (dropped st c) freed.space page t
   takes_free =
-      Takes-take_frame kept.frames (length st.held) (dropped st c) space page want t free_sound
-      (frame_of-dropped kept.frames (length st.held) st c space page agree.sound ∙ ap (λ s. frame_of st s page) on ∙ sym (agree.pages page) ∙ absent) takes
+      Takes-take_frame kept.frames (length st.held) (dropped st c) freed.space page freed.want t free_sound
+      (frame_of-dropped kept.frames (length st.held) st c freed.space page freed.agree.sound ∙ ap (λ s. frame_of st s page) freed.on
+      ∙ sym (freed.agree.pages page) ∙ freed.absent) freed.takes
 
   pub taken_known : t.frame < kept.frames
   taken_known = subst (λ n. t.frame < n) free_sound.known takes_free.places.known
 
   pub taken_elsewhere : (p : ℕ) → frame_at kept p ≡ Some t.frame → ⊥
   taken_elsewhere p is =
-      let place = frame_in-found (layout_of (dropped st c)) kept.number p t.frame (frame_of-dropped kept.frames (length st.held) st c kept.number p agree.sound ∙ sym (agree.pages p) ∙ is) in
+      let at = frame_of-dropped kept.frames (length st.held) st c kept.number p freed.agree.sound ∙ sym (freed.agree.pages p) ∙ is in
+      let place = frame_in-found (layout_of (dropped st c)) kept.number p t.frame at in
       false≢true (sym takes_free.places.was_unused ∙ place.used)
 
 abbrev pub use_entry : ℕ → ℕ → ℕ → ℕ → Want → Entry
 use_entry c space page frame want = record { processor = c; space = Some space; frames = true; what = UseHeld page frame want }
 
 -- Use: the page gets the frame that is taken once the held one is free
-module _ (f : Flight) (page : ℕ) (want : Want) (v : Victim) (was now : Kept) (before : FrameState) (t : Taking) where
+module _ (f : Flight) (page : ℕ) (want : Want) (v : Victim) (was : SpaceAndFrames) (now : Kept) (t : Taking) where
   Makes-use :
-      (st : SpaceState) → IsReady (in_phase f (Use page want v)) was st → AreAgreed was before → held_by before f.processor ≡ Some v.frame
-      → take_frame (dropped before f.processor) (space_of_call (call_in f.purpose)) page want ≡ Some t → Places was now page t.frame
-      → Makes (in_phase f (Use page want v)) (in_phase f (Fill page t.frame)) was now st before (counted t.state) (use_entry f.processor (space_of_call (call_in f.purpose)) page t.frame want)
+      (st : SpaceState) → IsReady (in_phase f (Use page want v)) was.space st → AreAgreed was.space was.frames
+      → held_by was.frames f.processor ≡ Some v.frame
+      → take_frame (dropped was.frames f.processor) (space_of_call (call_in f.purpose)) page want ≡ Some t
+      → Places was.space now page t.frame
+      → Makes (in_phase f (Use page want v)) (in_phase f (Fill page t.frame)) was.space now st was.frames (counted t.state)
+      (use_entry f.processor (space_of_call (call_in f.purpose)) page t.frame want)
   Makes-use st ready agree holds takes places =
       let own = space_of_call (call_in f.purpose) in
-      let on : own ≡ was.number = same_Some _ _ ready.under in
-      let absent : frame_at was page ≡ None = ready.found.lacks.absent in
+      let on : own ≡ was.space.number = same_Some _ _ ready.under in
+      let absent : frame_at was.space page ≡ None = ready.found.lacks.absent in
       record {
-        entry = record {
+        entry = made_on_frames (record {
           same_work = same_work f (Use page want v) (Fill page t.frame);
-          processor = refl;
-          parts = ((own, refl), refl);
-          frames_allow = λ named. (
-            ap (λ s. frame_of before s page) on ∙ sym (agree.pages page) ∙ absent,
-            (v.frame, holds),
-            subst (λ o. IsSomeAnd o (λ (u : Taking). u.frame ≡ t.frame)) (sym takes) refl,
-          );
-          frames_after = ap (λ o. counted (state_taken (dropped before f.processor) o)) (sym takes);
           in_order = ap (λ b. leads b f.number (Filling (access_in f.purpose) t.frame))
               (and_from _ _ (eq-eqb own own refl) (eq-eqb page _ (ap page_or_zero (sym ready.found.lacks.lawful.page_is))));
-          reply = refl;
-          answer = refl;
-          between = refl;
           fewer = omega arith;
-        };
+          on_way = refl;
+          no_answer = refl;
+        }) ((own, refl), refl) (
+          ap (λ s. frame_of was.frames s page) on ∙ sym (agree.pages page) ∙ absent,
+          (v.frame, holds),
+          subst (λ o. IsSomeAnd o (λ (u : Taking). u.frame ≡ t.frame)) (sym takes) refl,
+        ) (ap (λ o. counted (state_taken (dropped was.frames f.processor) o)) (sym takes));
         -- the space is left as a taking leaves it
-        space = Leaves-on (in_phase f (Fill page t.frame)) was now st f.processor own true (UseHeld page t.frame want) on (same_space places.same) ready.next tt
+        space = Leaves-on (use_entry f.processor own page t.frame want) (ap Some on) (same_space places.same) ready.next tt
             (ap (λ rs. wanted rs page) ready.stands.beside.regions ∙ ready.found.wanted, ready.stands.base page ∙ absent)
-            (IsLeft-placed f page t.frame want was now (space_after st (use_entry f.processor own page t.frame want)) ready.fits.can on ready.found places
+            (IsLeft-placed f page t.frame want was.space now
+            (space_after st (use_entry f.processor own page t.frame want)) ready.fits.can on ready.found places
             (places.stands st f.processor want ready.stands) refl);
       }
 
-pub held_used : (f : Flight) (page own frame : ℕ) (want : Want) (v : Victim) (was now : Kept) (before after : FrameState) (t : Taking)
-    → f.phase ≡ Use page want v → own ≡ space_of_call (call_in f.purpose) → frame ≡ t.frame → AreAgreed was before
-    → OwnsBy before f.processor (row_of f).progress.doing → take_frame (dropped before f.processor) own page want ≡ Some t
-    → after ≡ counted t.state → Places was now page t.frame → (st : SpaceState) → IsReady f was st
-    → Makes f (with_phase f (Fill page frame)) was now st before after (use_entry f.processor own page frame want)
-held_used f page own frame want v was now before after t phase same numbered agree owns takes counts places st =
-    subst (λ n. IsReady f was st → Makes f (with_phase f (Fill page n)) was now st before after (use_entry f.processor own page n want)) (sym numbered)
-    (subst (λ u. IsReady f was st → Makes f (with_phase f (Fill page t.frame)) was now st before u (use_entry f.processor own page t.frame want)) (sym counts)
-    (subst (λ s. IsReady f was st → Makes f (with_phase f (Fill page t.frame)) was now st before (counted t.state) (use_entry f.processor s page t.frame want)) (sym same)
-    (λ ready. by_ready f (Use page want v) was st refl phase (λ g to. OwnsBy before f.processor (row_of g).progress.doing → Makes g (to (Fill page t.frame)) was now st before (counted t.state) (use_entry f.processor (space_of_call (call_in f.purpose)) page t.frame want))
-    (λ is holds. Makes-use f page want v was now before t st is agree holds (ap (λ s. take_frame (dropped before f.processor) s page want) (sym same) ∙ takes) places) ready owns)))
+pub held_used : (f : Flight) (page own frame : ℕ) (want : Want) (was now : SpaceAndFrames) → ((v : Victim) × (f.phase ≡ Use page want v))
+    → own ≡ space_of_call (call_in f.purpose) → AreAgreed was.space was.frames → OwnsBy was.frames f.processor (row_of f).progress.doing
+    → IsTaken (dropped was.frames f.processor) was now own page frame want → (st : SpaceState) → IsReady f was.space st
+    → Makes f (with_phase f (Fill page frame)) was.space now.space st was.frames now.frames (use_entry f.processor own page frame want)
+held_used f page own frame want was now phase same agree owns taken st =
+    let t = taken.taking in
+    subst (λ n. IsReady f was.space st
+    → Makes f (with_phase f (Fill page n)) was.space now.space st was.frames now.frames (use_entry f.processor own page n want))
+    (sym taken.frame_is)
+    (subst (λ u. IsReady f was.space st
+    → Makes f (with_phase f (Fill page t.frame)) was.space now.space st was.frames u (use_entry f.processor own page t.frame want))
+    (sym taken.after_is)
+    (subst (λ s. IsReady f was.space st
+    → Makes f (with_phase f (Fill page t.frame)) was.space now.space st was.frames (counted t.state)
+    (use_entry f.processor s page t.frame want)) (sym same)
+    (λ ready. by_ready f (Use page want phase.0) was.space st refl phase.1
+    (λ g to. OwnsBy was.frames f.processor (row_of g).progress.doing
+    → Makes g (to (Fill page t.frame)) was.space now.space st was.frames (counted t.state)
+    (use_entry f.processor (space_of_call (call_in f.purpose)) page t.frame want))
+    (λ is holds. Makes-use f page want phase.0 was now.space t st is agree holds
+    (ap (λ s. take_frame (dropped was.frames f.processor) s page want) (sym same) ∙ taken.takes) taken.places) ready owns)))

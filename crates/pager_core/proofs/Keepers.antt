@@ -25,7 +25,9 @@ none_keeps jobs c = elim (cases_lt c (length jobs)) [
   | inl below ↦
       ap kept_by (get_or-map-range_with_len (λ k. flight_of k 0 (jobs_at jobs k)) 0 (length jobs) c c None below (omega arith))
       ∙ none_yet c 0 (slice_get (jobs_at jobs c) 0)
-  | inr past ↦ ap kept_by (get_or_past (first_flights jobs) c None (let all = length-map-range_with_len (λ k. flight_of k 0 (jobs_at jobs k)) 0 (length jobs) in omega (arith, all, past)))
+  | inr past ↦ ap kept_by
+      (get_or_past (first_flights jobs) c None (let all = length-map-range_with_len (λ k. flight_of k 0 (jobs_at jobs k)) 0
+      (length jobs) in omega (arith, all, past)))
 ]
 
 pub AreKeepers-start : (jobs : List (List Job)) (flights : List (Option Flight)) (spaces : ℕ) (keepers : List (Option ℕ))
@@ -50,7 +52,8 @@ module _ (flights : List (Option Flight)) (spaces : ℕ) (keepers : List (Option
       record { other = other.other; differs = other.differs; flight = g.0; flies = g.1; keeps = g.2 }
 
   other_keeps : (actor s : ℕ) → IsKeptByOther flights actor s → IsOther (get_or keepers s None) actor
-  other_keeps actor s kept = record { other = kept.other; is = are.has_keeper s kept.other (ap kept_by kept.flies ∙ kept.keeps); differs = kept.differs }
+  other_keeps actor s kept =
+      record { other = kept.other; is = are.has_keeper s kept.other (ap kept_by kept.flies ∙ kept.keeps); differs = kept.differs }
 
   -- what an index gives
   read : (s : ℕ) (x : Option ℕ) → s < spaces → x ≡ get_or keepers s x → x ≡ get_or keepers s None
@@ -59,8 +62,10 @@ module _ (flights : List (Option Flight)) (spaces : ℕ) (keepers : List (Option
   pub kept_if : (actor s : ℕ) (x : Option ℕ) → s < spaces → x ≡ get_or keepers s x → IsOther x actor → IsKeptByOther flights actor s
   kept_if actor s x within at other = kept_too actor s (subst (λ k. IsOther k actor) (read s x within at) other)
 
-  pub unkept_if : (actor s : ℕ) (x : Option ℕ) → s < spaces → x ≡ get_or keepers s x → (IsOther x actor → IsTrue false) → IsKeptByOther flights actor s → ⊥
-  unkept_if actor s x within at none kept = (let no = none (subst (λ k. IsOther k actor) (sym (read s x within at)) (other_keeps actor s kept)) in cc)
+  pub unkept_if : (actor s : ℕ) (x : Option ℕ) → s < spaces → x ≡ get_or keepers s x → (IsOther x actor → IsTrue false)
+      → IsKeptByOther flights actor s → ⊥
+  unkept_if actor s x within at none kept =
+      (let no = none (subst (λ k. IsOther k actor) (sym (read s x within at)) (other_keeps actor s kept)) in cc)
 
   -- a flight that keeps none goes on as one that keeps none
   module _ (c : ℕ) (f : Flight) (o : Option Flight) (flies : flight_at flights c ≡ Some f) where
@@ -76,17 +81,21 @@ module _ (flights : List (Option Flight)) (spaces : ℕ) (keepers : List (Option
       is_keeper = λ s d is.
           let kept = are.is_keeper s d is in
           elim (cases_eq d c) [
-            | inl here ↦ absurd (none-some s (sym before ∙ sym (ap kept_by flies) ∙ ap (λ k. kept_by (flight_at flights k)) (sym here) ∙ kept))
+            | inl here ↦ absurd (none-some s (sym before ∙ sym (ap kept_by flies) ∙ ap (λ k. kept_by (flight_at flights k)) (sym here)
+                ∙ kept))
             | inr differs ↦ ap kept_by (other d differs) ∙ kept
           ];
       has_keeper = λ s d keeps. elim (cases_eq d c) [
-        | inl here ↦ absurd (none-some s (sym after ∙ sym (ap kept_by own) ∙ ap (λ k. kept_by (flight_at (set flights c o) k)) (sym here) ∙ keeps))
+        | inl here ↦ absurd (none-some s (sym after ∙ sym (ap kept_by own) ∙ ap (λ k. kept_by (flight_at (set flights c o) k)) (sym here)
+            ∙ keeps))
         | inr differs ↦ are.has_keeper s d (sym (ap kept_by (other d differs)) ∙ keeps)
       ];
     }
 
     -- one that steps under a space that no other keeps, goes on as one that keeps that one or none
-    module _ (s : ℕ) (x : Option ℕ) (within : s < spaces) (before : (t : ℕ) → (row_of f).keeps ≡ Some t → t ≡ s) (after : (t : ℕ) → kept_by o ≡ Some t → t ≡ s) (unkept : IsKeptByOther flights c s → ⊥) (is_now : x ≡ option_map (λ (t : ℕ). c) (kept_by o)) where
+    module _ (s : ℕ) (x : Option ℕ) (within : s < spaces) (before : (t : ℕ) → (row_of f).keeps ≡ Some t → t ≡ s)
+        (after : (t : ℕ) → kept_by o ≡ Some t → t ≡ s) (unkept : IsKeptByOther flights c s → ⊥)
+        (is_now : x ≡ option_map (λ (t : ℕ). c) (kept_by o)) where
       now_kept : (d : ℕ) (k : Option ℕ) → kept_by o ≡ k → option_map (λ (t : ℕ). c) k ≡ Some d → (d ≡ c) × (kept_by o ≡ Some s)
       now_kept d None is at = absurd (none-some d at)
       now_kept d (Some t) is at = (sym (same_Some c d at), is ∙ ap Some (after t is))
@@ -98,21 +107,24 @@ module _ (flights : List (Option Flight)) (spaces : ℕ) (keepers : List (Option
             ap (λ k. kept_by (flight_at (set flights c o) k)) own_kept.0 ∙ ap kept_by own ∙ own_kept.1 ∙ ap Some (sym here.0)
         | inr elsewhere ↦
             let kept = are.is_keeper t d elsewhere.1 in
-            let differs : d ≢ c = λ is. elsewhere.0 (before t (sym (ap kept_by flies) ∙ ap (λ k. kept_by (flight_at flights k)) (sym is) ∙ kept)) in
+            let differs : d ≢ c = λ is. elsewhere.0
+            (before t (sym (ap kept_by flies) ∙ ap (λ k. kept_by (flight_at flights k)) (sym is) ∙ kept)) in
             ap kept_by (other d differs) ∙ kept
       ]
 
       has_keeper : (t d : ℕ) → kept_by (flight_at (set flights c o) d) ≡ Some t → get_or (set keepers s x) t None ≡ Some d
       has_keeper t d keeps = elim (cases_eq d c) [
         | inl here ↦
-            let own_keeps : kept_by o ≡ Some t = sym (ap kept_by own) ∙ ap (λ k. kept_by (flight_at (set flights c o) k)) (sym here) ∙ keeps in
+            let own_keeps : kept_by o ≡ Some t = sym (ap kept_by own) ∙ ap (λ k. kept_by (flight_at (set flights c o) k)) (sym here)
+            ∙ keeps in
             ap (λ k. get_or (set keepers s x) k None) (after t own_keeps)
             ∙ get_or-set_same keepers s x None (let all = are.count in omega (arith, within, all))
             ∙ is_now ∙ ap (option_map (λ (t : ℕ). c)) own_keeps ∙ ap Some (sym here)
         | inr differs ↦
             let kept = sym (ap kept_by (other d differs)) ∙ keeps in
             let g = flight_kept d t (flight_at flights d) refl kept in
-            let elsewhere : t ≢ s = λ is. unkept (record { other = d; differs = differs; flight = g.0; flies = g.1; keeps = g.2 ∙ ap Some is }) in
+            let elsewhere : t ≢ s = λ is. unkept
+            (record { other = d; differs = differs; flight = g.0; flies = g.1; keeps = g.2 ∙ ap Some is }) in
             get_or-set_other keepers s t x None elsewhere ∙ are.has_keeper t d kept
       ]
 

@@ -93,14 +93,12 @@ pub own-for : (spaces c n : ℕ) (job : Job) → CanDo spaces job → IfSome (ow
 own-for spaces c n (MakesCall call) can = can.on
 own-for spaces c n (Turn low) can = tt
 
-pub under-for : (spaces c n : ℕ) (job : Job) (t : ℕ) → CanDo spaces job → space_under (row_of (flight_for c n job)).needs ≡ Some t → t < spaces
+pub under-for : (spaces c n : ℕ) (job : Job) (t : ℕ) → CanDo spaces job → space_under (row_of (flight_for c n job)).needs ≡ Some t
+    → t < spaces
 under-for spaces c n (MakesCall call) t can is = subst (λ k. k < spaces) (same_Some _ t is) can.on
 under-for spaces c n (Turn low) t can is = absurd (none-some t is)
 
 -- The row of a flight whose job is done.
-
-going_not : Going ≡ TurnEnded → ⊥
-going_not is = cc
 
 ended_progress_in : (c n mark : ℕ) (own : Option ℕ) (purpose : Purpose) (p : Phase) → has_ended (row_in c n own purpose p).outcome ≡ true
     → FitsMark mark (job_in purpose) → IsFor purpose p → (row_in c n own purpose p).progress ≡ at_rest mark (n + 1)
@@ -123,7 +121,8 @@ ended_keeps_in c n own purpose p ended = absurd (false≢true ended)
 
 pub ended_progress : (f : Flight) (mark : ℕ) → has_ended (row_of f).outcome ≡ true → FitsMark mark (job_in f.purpose) → Fits f
     → (row_of f).progress ≡ at_rest mark (f.number + 1)
-ended_progress f mark ended fits for = ended_progress_in f.processor f.number mark (own_space f.purpose) f.purpose f.phase ended fits for.kind
+ended_progress f mark ended fits for = ended_progress_in f.processor f.number mark
+    (own_space f.purpose) f.purpose f.phase ended fits for.kind
 
 ended_keeps : (f : Flight) → has_ended (row_of f).outcome ≡ true → (row_of f).keeps ≡ None
 ended_keeps f = ended_keeps_in f.processor f.number (own_space f.purpose) f.purpose f.phase
@@ -162,10 +161,16 @@ module _ (mark : ℕ) (jobs : List Job) (f : Flight) (are : AreOfMark mark jobs)
   done : (row_of f).progress ≡ at_rest mark (f.number + 1)
   done = ended_progress f mark ended (are f.number (job_in f.purpose) job) fits
 
-  lands_next : (next : Option Job) → slice_get jobs (f.number + 1) ≡ next → Lands mark jobs f (option_map (flight_for f.processor (f.number + 1)) next)
+  lands_next : (next : Option Job) → slice_get jobs (f.number + 1) ≡ next
+      → Lands mark jobs f (option_map (flight_for f.processor (f.number + 1)) next)
   lands_next None at =
       let below = slice_get_within jobs f.number (job_in f.purpose) job in
-      let past : length jobs ≤ f.number + 1 = (elim (slice_get_cases jobs (f.number + 1)).1 [ inl some ↦ (let e : Some some.0 ≡ None = sym some.2 ∙ at in cc) | inr none ↦ none.0 ]) in
+      let past : length jobs ≤ f.number + 1 =
+      (elim (slice_get_cases jobs (f.number + 1)).1 [
+        | inl some ↦ (let e : Some some.0 ≡ None = sym some.2 ∙ at in cc)
+        | inr none ↦
+            none.0
+      ]) in
       let all : length jobs ≡ f.number + 1 = omega (arith, below, past) in
       record {
         progress = ap (at_rest mark) all ∙ sym done;
@@ -191,9 +196,11 @@ module _ (mark : ℕ) (jobs : List Job) (f : Flight) (are : AreOfMark mark jobs)
         progress = starts.progress ∙ sym done;
         left = omega (arith, more, this, behind, entries);
         keeps = starts.keeps_none ∙ sym (ended_keeps f ended);
-        keeper = λ g s is keeps. absurd (none-some s (sym starts.keeps_none ∙ ap (λ (x : Flight). (row_of x).keeps) (same_Some first g is) ∙ keeps));
+        keeper = λ g s is keeps. absurd
+            (none-some s (sym starts.keeps_none ∙ ap (λ (x : Flight). (row_of x).keeps) (same_Some first g is) ∙ keeps));
         processor = λ g is. ap (λ (x : Flight). x.processor) (sym (same_Some first g is)) ∙ starts.processor;
-        job = λ g is. subst (λ (x : Flight). slice_get jobs x.number ≡ Some (job_in x.purpose)) (same_Some first g is) (ap (slice_get jobs) starts.number ∙ at ∙ ap Some (sym starts.job_is));
+        job = λ g is. subst (λ (x : Flight). slice_get jobs x.number ≡ Some (job_in x.purpose)) (same_Some first g is)
+            (ap (slice_get jobs) starts.number ∙ at ∙ ap Some (sym starts.job_is));
         going = λ g is. subst (λ (x : Flight). (row_of x).outcome ≡ Going) (same_Some first g is) starts.going;
         same = λ g is. inr (n, k, at, sym (same_Some first g is));
         goes = inr (ap (option_map (flight_for f.processor n)) (sym at));

@@ -14,13 +14,13 @@ use Rattle.pager_model.specs.Legal.{space_at, frames_at, progress_at, progress_i
 use Rattle.pager_model.specs.Order.{Progress, Doing, Purpose, ForAccess, ForTurn, Idle, Looking, Uncopied, Filling, Unfilling, Claiming, Emptied, Unwritten, Holding, Faulted, leads, victim_in, progress_after, progress_by}
 use Rattle.pager_model.specs.Order.{after_take, after_use, after_clear, after_out, after_failure, after_give, after_claim, after_got, lacking_for, faulted_for, after_unclaim, dropped_for, after_drop, after_refusal, after_rest}
 use Rattle.pager_model.specs.Settings.{Given, mark_of}
-use Rattle.pager_model.specs.SpaceStates.{SpaceState, space_after, SpaceAllows}
+use Rattle.pager_model.specs.SpaceStates.{space_after, SpaceAllows}
 use Rattle.pager_model.proofs.Histories.{space_at-named, space_at-other, frames_at-named, frames_at-other}
 use Rattle.space_core.specs.Standing.{Kept}
 use Rattle.pager_core.specs.declared.flight.Flight.{Flight}
 use Rattle.pager_core.specs.declared.flight.Phase.TheVariants.{Out as OutPhase}
 use Rattle.pager_core.specs.Rows.{at, claims_for, mark_in, own_space, row_of, row_in}
-use Rattle.pager_core.specs.Steps.{Makes, MakesEntry, after_named, after_frames}
+use Rattle.pager_core.specs.Steps.{LeavesSpace, MakesEntry, after_named, after_frames}
 
 -- two facts of the value of an option
 both_some : {P Q R : ℕ → Type 0} (o : Option ℕ) → ((s : ℕ) → P s → Q s → R s) → IfSome o P → IfSome o Q → IfSome o R
@@ -39,7 +39,8 @@ unnamed (Some t) n s own other = ne_eqb t s (λ is. other (sym is ∙ own))
 -- what an entry leads to, where it may name the space or the frames
 pub space_at-after : (g : Given) (h : List Entry) (e : Entry) (s : ℕ) → space_at g (h ++ e ∷ []) s ≡ after_named s (space_at g h s) e
 space_at-after g h e s =
-    elim (names_space s e) as (λ b. names_space s e ≡ b → space_at g (h ++ e ∷ []) s ≡ cond b (space_after (space_at g h s) e) (space_at g h s))
+    elim (names_space s e) as (λ b. names_space s e ≡ b → space_at g (h ++ e ∷ []) s
+    ≡ cond b (space_after (space_at g h s) e) (space_at g h s))
     [ true ↦ λ is. space_at-named g h e s is | false ↦ λ is. space_at-other g h e s is ] refl
 
 pub frames_at-after : (g : Given) (h : List Entry) (e : Entry) → frames_at g (h ++ e ∷ []) ≡ after_frames (frames_at g h) e
@@ -152,21 +153,29 @@ module _ (m : ℕ) (purpose : Purpose) (v : Victim) where
 
   from_any : (p : Progress) (space : Option ℕ) (what : What) → progress_after p space what ≡ there
       → (need : Option Need) × (what ≡ Claim v.space v.page v.frame need)
-  from_any p space (Claim victim page frame need) goes =
-      (need, ap (λ (x : Victim). Claim x.space x.page x.frame need) (by_claim p.made p.doing space (record { space = victim; page = page; frame = frame }) need goes))
-  from_any p space (Answer number call answered) goes = not_by (progress_after p space (Answer number call answered)) (claims-leads _ (p.made + 1) Idle refl) goes
-  from_any p (Some s) (Failed page writing count) goes = not_by (after_failure p.made p.doing s page writing count) (failure-none p.made p.doing s page writing count) goes
+  from_any p space (Claim victim page frame need) goes = (
+    need,
+    ap (λ (x : Victim). Claim x.space x.page x.frame need) (by_claim p.made p.doing space
+        (record { space = victim; page = page; frame = frame }) need goes),
+  )
+  from_any p space (Answer number call answered) goes = not_by (progress_after p space (Answer number call answered))
+      (claims-leads _ (p.made + 1) Idle refl) goes
+  from_any p (Some s) (Failed page writing count) goes = not_by (after_failure p.made p.doing s page writing count)
+      (failure-none p.made p.doing s page writing count) goes
   from_any p None (Failed page writing count) goes = absurd (none-some _ goes)
-  from_any p (Some s) (Take page frame want) goes = not_by (after_take p.made p.doing s page frame) (take-none p.made p.doing s page frame) goes
+  from_any p (Some s) (Take page frame want) goes = not_by (after_take p.made p.doing s page frame)
+      (take-none p.made p.doing s page frame) goes
   from_any p None (Take page frame want) goes = absurd (none-some _ goes)
   from_any p (Some s) (Clear first len) goes = not_by (after_clear p.made p.doing s first len) (clear-none p.made p.doing s first len) goes
   from_any p None (Clear first len) goes = absurd (none-some _ goes)
-  from_any p space (Refused wired claimed held) goes = not_by (after_refusal p.made p.doing wired claimed held) (refusal-none p.made p.doing wired claimed held) goes
+  from_any p space (Refused wired claimed held) goes = not_by (after_refusal p.made p.doing wired claimed held)
+      (refusal-none p.made p.doing wired claimed held) goes
   from_any p (Some s) (Out page written) goes = not_by (after_out p.made p.doing s page) (out-none p.made p.doing s page) goes
   from_any p None (Out page written) goes = absurd (none-some _ goes)
   from_any p (Some s) (Give page frame) goes = not_by (after_give p.made p.doing s page frame) (give-none p.made p.doing s page frame) goes
   from_any p None (Give page frame) goes = absurd (none-some _ goes)
-  from_any p (Some s) (UseHeld page frame want) goes = not_by (after_use p.made p.doing s page frame) (use-none p.made p.doing s page frame) goes
+  from_any p (Some s) (UseHeld page frame want) goes = not_by (after_use p.made p.doing s page frame)
+      (use-none p.made p.doing s page frame) goes
   from_any p None (UseHeld page frame want) goes = absurd (none-some _ goes)
   from_any p (Some s) (Unclaim frame) goes = not_by (after_unclaim p.made p.doing s frame) (unclaim-none p.made p.doing s frame) goes
   from_any p None (Unclaim frame) goes = absurd (none-some _ goes)
@@ -183,22 +192,21 @@ claim_names (Some need) space frames on = on.1
 pub victim_placed : (f f' : Flight) (before after : FrameState) (e : Entry) (v : Victim) → MakesEntry f f' before after e
     → f'.phase ≡ OutPhase v → frame_of before v.space v.page ≡ Some v.frame
 victim_placed f f' before after e v entry is =
-    let to : (row_of f').progress ≡ at f'.number (Claiming (claims_for f'.purpose) v) = ap (λ p. (row_in f'.processor f'.number (own_space f'.purpose) f'.purpose p).progress) is in
+    let to : (row_of f').progress ≡ at f'.number (Claiming (claims_for f'.purpose) v) =
+    ap (λ p. (row_in f'.processor f'.number (own_space f'.purpose) f'.purpose p).progress) is in
     let claim = from_any f'.number (claims_for f'.purpose) v (row_of f).progress e.space e.what (entry.in_order ∙ ap Some to) in
     let named = subst (IsOn e.space e.frames) claim.1 entry.parts in
-    let allowed = subst (FramesAllow before (mark_in f.purpose) e.processor e.space) claim.1 (entry.frames_allow (claim_names claim.0 e.space e.frames named)) in
+    let allowed = subst (FramesAllow before (mark_in f.purpose) e.processor e.space) claim.1
+    (entry.frames_allow (claim_names claim.0 e.space e.frames named)) in
     allowed.1.place
 
-pub victim_resident : (f f' : Flight) (was now : Kept) (st : SpaceState) (before after : FrameState) (e : Entry) (v : Victim)
-    → Makes f f' was now st before after e → f'.phase ≡ OutPhase v → frame_of before v.space v.page ≡ Some v.frame
-victim_resident f f' was now st before after e v makes is = victim_placed f f' before after e v makes.entry is
-
-module _ (g : Given) (h : List Entry) (f f' : Flight) (before after : FrameState) (e : Entry) (makes : MakesEntry f f' before after e) where
+module _ (g : Given) (h : List Entry) (f f' : Flight) (before after : FrameState) (e : Entry) where
   -- the entry of a step may follow
-  pub MayFollow-step : IfSome e.space (λ s. s < length g.told) → IfSome e.space (λ s. SpaceAllows (space_at g h s) e)
+  pub MayFollow-step : MakesEntry f f' before after e → IfSome e.space (λ s. s < length g.told)
+      → IfSome e.space (λ s. SpaceAllows (space_at g h s) e)
       → mark_of g f.processor ≡ mark_in f.purpose → f.processor < length g.marks → before ≡ frames_at g h
       → progress_at g h f.processor ≡ Some (row_of f).progress → MayFollow g h e
-  MayFollow-step space allows mark processor frames progress =
+  MayFollow-step makes space allows mark processor frames progress =
       record {
         parts = makes.parts;
         processor = subst (λ c. c < length g.marks) (sym makes.processor) processor;
@@ -208,28 +216,43 @@ module _ (g : Given) (h : List Entry) (f f' : Flight) (before after : FrameState
             subst (λ st. FramesAllow st (mark_of g e.processor) e.processor e.space e.what) frames
             (subst (λ m. FramesAllow before m e.processor e.space e.what) (sym (ap (mark_of g) makes.processor ∙ mark))
             (makes.frames_allow is));
-        ordered = ((row_of f').progress, subst (λ c. progress_by (progress_in g c (entries_of c h)) e ≡ Some (row_of f').progress) (sym makes.processor) (ap (λ p. progress_by p e) progress ∙ makes.in_order));
+        ordered = (
+          (row_of f').progress,
+          subst (λ c. progress_by (progress_in g c (entries_of c h)) e ≡ Some (row_of f').progress)
+              (sym makes.processor) (ap (λ p. progress_by p e) progress ∙ makes.in_order),
+        );
       }
 
-  pub frames_at-step : before ≡ frames_at g h → after ≡ frames_at g (h ++ e ∷ [])
-  frames_at-step frames = makes.frames_after ∙ ap (λ st. after_frames st e) frames ∙ sym (frames_at-after g h e)
+  pub frames_at-step : MakesEntry f f' before after e → before ≡ frames_at g h → after ≡ frames_at g (h ++ e ∷ [])
+  frames_at-step makes frames = makes.frames_after ∙ ap (λ st. after_frames st e) frames ∙ sym (frames_at-after g h e)
 
 -- A step under a space's lock.
-module _ (g : Given) (h : List Entry) (f f' : Flight) (was now : Kept) (before after : FrameState) (e : Entry) (s : ℕ)
-    (makes : Makes f f' was now (space_at g h s) before after e) (at : was.number ≡ s) where
-  pub space_known : s < length g.told → IfSome e.space (λ t. t < length g.told)
-  space_known space = both_some e.space (λ t named again. subst (λ n. n < length g.told) (sym (named ∙ at)) space) makes.space.own_space makes.space.own_space
 
-  pub space_allows : IfSome e.space (λ t. SpaceAllows (space_at g h t) e)
-  space_allows = at_named (λ t. SpaceAllows (space_at g h t) e) e.space was.number s at makes.space.own_space makes.space.space_allows
+-- the entry names no other space than this, which allows it
+pub record IsIn (g : Given) (h : List Entry) (e : Entry) (s : ℕ) : Type 0 where
+  pub own : IfSome e.space (λ t. t ≡ s)
+  pub allowed : IfSome e.space (λ t. SpaceAllows (space_at g h t) e)
+
+pub IsIn-left : (g : Given) (h : List Entry) (e : Entry) (s : ℕ) {new : Flight} {was now : Kept}
+    → LeavesSpace new was now (space_at g h s) e
+    → was.number ≡ s → IsIn g h e s
+IsIn-left g h e s {new} {was} {now} leaves at = record {
+  own = subst (λ n. IfSome e.space (λ t. t ≡ n)) at leaves.own_space;
+  allowed = at_named (λ t. SpaceAllows (space_at g h t) e) e.space was.number s at leaves.own_space leaves.space_allows;
+}
+
+module _ (g : Given) (h : List Entry) (e : Entry) (s : ℕ) (is : IsIn g h e s) where
+  pub space_known : s < length g.told → IfSome e.space (λ t. t < length g.told)
+  space_known space = both_some e.space (λ t named again. subst (λ n. n < length g.told) (sym named) space) is.own is.own
 
   -- a space that the step isn't made under stays as it is
   pub space_at-elsewhere : (t : ℕ) → t ≢ s → space_at g (h ++ e ∷ []) t ≡ space_at g h t
-  space_at-elsewhere t other = space_at-other g h e t (unnamed e.space was.number t makes.space.own_space (λ is. other (is ∙ at)))
+  space_at-elsewhere t other = space_at-other g h e t (unnamed e.space s t is.own other)
 
-  -- and that which it is made under goes on by its entry
-  pub space_at-here : after_named was.number (space_at g h s) e ≡ space_at g (h ++ e ∷ []) s
-  space_at-here = ap (λ n. after_named n (space_at g h s) e) at ∙ sym (space_at-after g h e s)
+-- and that which it is made under goes on by its entry
+pub space_at-here : (g : Given) (h : List Entry) (e : Entry) (s : ℕ) (was : Kept) → was.number ≡ s
+    → after_named was.number (space_at g h s) e ≡ space_at g (h ++ e ∷ []) s
+space_at-here g h e s was at = ap (λ n. after_named n (space_at g h s) e) at ∙ sym (space_at-after g h e s)
 
 -- an entry that names no space leaves all as they are
 pub space_at-unnamed : (g : Given) (h : List Entry) (e : Entry) (t : ℕ) → e.space ≡ None → space_at g (h ++ e ∷ []) t ≡ space_at g h t

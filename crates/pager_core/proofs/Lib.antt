@@ -2,6 +2,7 @@ pub mod Purposes
 pub mod UnchangedSpaces
 pub mod AnswerSteps
 pub mod EntrySteps
+pub mod MadeEntries
 pub mod FaultSteps
 pub mod EvictSteps
 pub mod RefusedCalls

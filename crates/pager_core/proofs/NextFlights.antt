@@ -19,8 +19,8 @@ use Rattle.pager_core.specs.declared.flight.Needs.TheVariants.{Space, Both, Fram
 use Rattle.pager_core.specs.declared.flight.Purpose.{Purpose}
 use Rattle.pager_core.specs.declared.flight.Purpose.TheVariants.{Call as OfCall, Turn as OfTurn}
 use Rattle.pager_core.specs.Flights.{Fits, IsFor, PhaseFits, PhaseStands, TurnFits, is_of_turns}
-use Rattle.pager_core.specs.Rows.{Going, TurnEnded, Answered, access_in, alone, call_in, faulted, is_between, is_of_call, Row, own_space, reply_in, row_of, row_in, space_under}
-use Rattle.pager_core.proofs.Purposes.{of_call-is, own_space-is}
+use Rattle.pager_core.specs.Rows.{Going, TurnEnded, Answered, access_in, alone, call_in, faulted, is_between, is_of_call, own_space, reply_in, row_of, row_in, space_under}
+use Rattle.pager_core.proofs.Purposes.{of_call-is}
 
 -- Of a row.
 
@@ -31,7 +31,8 @@ not_going r is = none-some r (sym (ap reply_in is))
 not_ended : TurnEnded ≡ Going → ⊥
 not_ended is = (let no : TurnEnded ≡ Going = is in cc)
 
-turn_goes_on_in : (c n : ℕ) (own : Option ℕ) (purpose : Purpose) (p : Phase) → is_of_turns p ≡ false → (row_in c n own purpose p).outcome ≡ TurnEnded → ⊥
+turn_goes_on_in : (c n : ℕ) (own : Option ℕ) (purpose : Purpose) (p : Phase) → is_of_turns p ≡ false
+    → (row_in c n own purpose p).outcome ≡ TurnEnded → ⊥
 turn_goes_on_in c n own purpose Rested calls is = absurd (false≢true (sym calls))
 turn_goes_on_in c n own purpose (Ended reply) calls is = none-some reply (sym (ap reply_in is))
 turn_goes_on_in c n own purpose (Unclaim v None) calls is = not_ended (sym is)
@@ -39,7 +40,8 @@ turn_goes_on_in c n own purpose (Unclaim v (Some count)) calls is = not_ended (s
 turn_goes_on_in c n own purpose p calls is = not_ended (sym is)
 
 -- the phase of a call that was answered
-ended_by_in : (c n : ℕ) (own : Option ℕ) (purpose : Purpose) (p : Phase) (r : Reply) → (row_in c n own purpose p).outcome ≡ Answered r → p ≡ Ended r
+ended_by_in : (c n : ℕ) (own : Option ℕ) (purpose : Purpose) (p : Phase) (r : Reply) → (row_in c n own purpose p).outcome ≡ Answered r
+    → p ≡ Ended r
 ended_by_in c n own purpose (Ended reply) r is = ap Ended (same_Some reply r (ap reply_in is))
 ended_by_in c n own purpose Rested r is = (let no : TurnEnded ≡ Answered r = is in cc)
 ended_by_in c n own purpose (Unclaim v None) r is = absurd (not_going r (sym is))
@@ -66,27 +68,16 @@ under_faulted : (own : Option ℕ) (a : Access) (space count : ℕ) (o : Option 
 under_faulted own a space count None = refl
 under_faulted own a space count (Some page) = refl
 
-pub keeps_faulted : (own : Option ℕ) (a : Access) (space count : ℕ) (o : Option ℕ) → keeps_in own (faulted a space count o) ≡ own_if own space
+pub keeps_faulted : (own : Option ℕ) (a : Access) (space count : ℕ) (o : Option ℕ)
+    → keeps_in own (faulted a space count o) ≡ own_if own space
 keeps_faulted own a space count None = refl
 keeps_faulted own a space count (Some page) = refl
 
-pub under_fault : (own : Option ℕ) (a : Access) (space count : ℕ) (o : Option ℕ) → space_under (alone (under_in own (faulted a space count o))) ≡ own
+pub under_fault : (own : Option ℕ) (a : Access) (space count : ℕ) (o : Option ℕ)
+    → space_under (alone (under_in own (faulted a space count o))) ≡ own
 under_fault own a space count o = ap (λ u. space_under (alone u)) (under_faulted own a space count o) ∙ under_alone own
 
--- its next step is made under some space
-under_some_in : (c n s : ℕ) (purpose : Purpose) (p : Phase) → (row_in c n (Some s) purpose p).outcome ≡ Going
-    → (t : ℕ) × (space_under (row_in c n (Some s) purpose p).needs ≡ Some t)
-under_some_in c n s purpose (Ended reply) is = absurd (not_going reply is)
-under_some_in c n s purpose Rested is = absurd (not_ended is)
-under_some_in c n s purpose (Out v) is = (v.space, refl)
-under_some_in c n s purpose (Write v) is = (v.space, refl)
-under_some_in c n s purpose (Hand v) is = (v.space, refl)
-under_some_in c n s purpose (Unclaim v None) is = (v.space, refl)
-under_some_in c n s purpose (Unclaim v (Some count)) is = (v.space, refl)
-under_some_in c n s purpose (Fault space count) is = (s, under_fault (Some s) (access_in purpose) space count (copied_page (call_in purpose)))
-under_some_in c n s purpose p is = (s, refl)
-
--- which is its call's, or one that it keeps, or that of its victim
+-- The space of a step is its call's, or one that the flight keeps, or that of its victim.
 under_cases_in : (c n : ℕ) (own : Option ℕ) (t : ℕ) (purpose : Purpose) (p : Phase) → space_under (row_in c n own purpose p).needs ≡ Some t
     → (own ≡ Some t) ⊎ (((row_in c n own purpose p).keeps ≡ Some t) ⊎ ((v : Victim) × (p ≡ Out v) × (t ≡ v.space)))
 under_cases_in c n own t purpose (Ended reply) is = absurd (none-some t is)
@@ -96,7 +87,8 @@ under_cases_in c n own t purpose (Write v) is = inr (inl is)
 under_cases_in c n own t purpose (Hand v) is = inr (inl is)
 under_cases_in c n own t purpose (Unclaim v None) is = inr (inl is)
 under_cases_in c n own t purpose (Unclaim v (Some count)) is = inr (inl is)
-under_cases_in c n own t purpose (Fault space count) is = inl (sym (under_fault own (access_in purpose) space count (copied_page (call_in purpose))) ∙ is)
+under_cases_in c n own t purpose (Fault space count) is = inl
+    (sym (under_fault own (access_in purpose) space count (copied_page (call_in purpose))) ∙ is)
 under_cases_in c n None t purpose p is = inl is
 under_cases_in c n (Some s) t purpose p is = inl is
 
@@ -173,7 +165,8 @@ under_by_place_in c n own (OfCall call claimed) Look between is = under_alone ow
 under_by_place_in c n own (OfTurn mark evictions) Look between is = under_alone own
 under_by_place_in c n own purpose (Unclaim v None) between is = refl
 under_by_place_in c n own purpose (Unclaim v (Some count)) between is = refl
-under_by_place_in c n own purpose (Fault space count) between is = under_alone (under_in own (faulted (access_in purpose) space count (copied_page (call_in purpose))))
+under_by_place_in c n own purpose (Fault space count) between is = under_alone
+    (under_in own (faulted (access_in purpose) space count (copied_page (call_in purpose))))
 under_by_place_in c n None purpose p between is = refl
 under_by_place_in c n (Some s) purpose p between is = refl
 
@@ -201,7 +194,8 @@ anywhere_in c n s purpose (Fault space count) kept calls own is none fits rest =
   record {
     resting = rest;
     must = λ page copied. elim fits [
-      | inl here ↦ absurd (own_if-none s space (sym (keeps_faulted (Some s) (access_in purpose) space count (copied_page (call_in purpose))) ∙ none) (here.0 ∙ sym own))
+      | inl here ↦ absurd (own_if-none s space
+          (sym (keeps_faulted (Some s) (access_in purpose) space count (copied_page (call_in purpose))) ∙ none) (here.0 ∙ sym own))
       | inr access ↦ absurd (none-some page (sym (copies_none (call_in purpose) access) ∙ copied))
     ];
   },
@@ -235,21 +229,13 @@ keeps_none f under = by (row_of f).keeps refl
     by None is = is
     by (Some t) is = absurd (none-some t (sym under ∙ keeps_under f t is))
 
-pub keeps_by_place : (f : Flight) → is_between f.purpose f.phase ≡ true → (row_of f).keeps ≡ keeps_in (own_space f.purpose) (row_of f).progress.doing
+pub keeps_by_place : (f : Flight) → is_between f.purpose f.phase ≡ true
+    → (row_of f).keeps ≡ keeps_in (own_space f.purpose) (row_of f).progress.doing
 keeps_by_place f = keeps_by_place_in f.processor f.number (own_space f.purpose) f.purpose f.phase
 
 pub under_by_place : (f : Flight) → is_between f.purpose f.phase ≡ true → (row_of f).outcome ≡ Going
     → space_under (row_of f).needs ≡ under_in (own_space f.purpose) (row_of f).progress.doing
 under_by_place f = under_by_place_in f.processor f.number (own_space f.purpose) f.purpose f.phase
-
--- the row of a flight of a call, which has a space of its own
-abbrev row_on : Flight → Option ℕ → Row
-row_on f own = row_in f.processor f.number own f.purpose f.phase
-
-pub under_some : (f : Flight) → is_of_call f.purpose ≡ true → (row_of f).outcome ≡ Going → (t : ℕ) × (space_under (row_of f).needs ≡ Some t)
-under_some f is_call =
-    subst (λ own. (row_on f own).outcome ≡ Going → (t : ℕ) × (space_under (row_on f own).needs ≡ Some t)) (sym (own_space-is f.purpose is_call))
-    (under_some_in f.processor f.number (space_of_call (call_in f.purpose)) f.purpose f.phase)
 
 pub under_cases : (f : Flight) (t : ℕ) → space_under (row_of f).needs ≡ Some t
     → (own_space f.purpose ≡ Some t) ⊎ (((row_of f).keeps ≡ Some t) ⊎ ((v : Victim) × (f.phase ≡ Out v) × (t ≡ v.space)))
@@ -274,8 +260,10 @@ anywhere_by : (c n s : ℕ) (purpose : Purpose) (p : Phase) (kept : Kept)
     → space_under (row_in c n (own_space purpose) purpose p).needs ≡ Some s → IsFor purpose p → PhaseFits purpose p
     → (row_in c n (own_space purpose) purpose p).outcome ≡ Going → (row_in c n (own_space purpose) purpose p).keeps ≡ None → IsResting kept
     → ((row_in c n (own_space purpose) purpose p).next ≡ Anyone) × PhaseStands (call_in purpose) kept p
-anywhere_by c n s (OfCall call claimed) p kept under kind fits going none rest = anywhere_in c n (space_of_call call) (OfCall call claimed) p kept refl refl going none fits rest
-anywhere_by c n s (OfTurn mark evictions) p kept under kind fits going none rest = anywhere_turn_in c n s mark evictions p kept kind under none rest
+anywhere_by c n s (OfCall call claimed) p kept under kind fits going none rest =
+    anywhere_in c n (space_of_call call) (OfCall call claimed) p kept refl refl going none fits rest
+anywhere_by c n s (OfTurn mark evictions) p kept under kind fits going none rest =
+    anywhere_turn_in c n s mark evictions p kept kind under none rest
 
 pub anywhere : (f : Flight) (kept : Kept) (s : ℕ) → space_under (row_of f).needs ≡ Some s → Fits f → (row_of f).outcome ≡ Going
     → (row_of f).keeps ≡ None → IsResting kept → ((row_of f).next ≡ Anyone) × PhaseStands (call_in f.purpose) kept f.phase
@@ -311,4 +299,5 @@ frames_needed f going none = by (row_of f).needs refl
     by (Space s) is = absurd (none-some s (sym none ∙ ap space_under is))
     by (Both s) is = absurd (none-some s (sym none ∙ ap space_under is))
     by Frames is = is
-    by NoneNeeded is = absurd (false≢true (sym (goes_in f.processor f.number (own_space f.purpose) f.purpose f.phase going) ∙ ap is_over is))
+    by NoneNeeded is = absurd
+        (false≢true (sym (goes_in f.processor f.number (own_space f.purpose) f.purpose f.phase going) ∙ ap is_over is))

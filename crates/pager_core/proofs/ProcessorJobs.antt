@@ -23,7 +23,8 @@ pub map_range-alike : {X : Type 0} (x : X) (a n : ℕ) → map (λ k. x) (range_
 map_range-alike x a zero = refl
 map_range-alike x a (suc n) = ap (λ l. x ∷ l) (map_range-alike x (a + 1) n)
 
-map_range-same : {X : Type 0} (f g : ℕ → X) (a n : ℕ) → ((k : ℕ) → k < a + n → f k ≡ g k) → map f (range_with_len a n) ≡ map g (range_with_len a n)
+map_range-same : {X : Type 0} (f g : ℕ → X) (a n : ℕ) → ((k : ℕ) → k < a + n → f k ≡ g k)
+    → map f (range_with_len a n) ≡ map g (range_with_len a n)
 map_range-same f g a zero same = refl
 map_range-same f g a (suc n) same = λ i. same a (omega arith) i ∷ map_range-same f g (a + 1) n (λ k below. same k (omega (arith, below))) i
 
@@ -55,19 +56,24 @@ module _ (lines : List Line) (n : ℕ) (d : Line) (below : n < length lines) whe
       → map MakesCall (calls_of c (take (n + 1) lines)) ≡ map MakesCall (calls_of c (take n lines)) ++ MakesCall line.call ∷ []
   own_more c own =
       ap (λ l. map MakesCall (calls_of c l)) (take_more lines n d below)
-      ∙ ap (λ l. map MakesCall (map (λ (x : Line). x.call) l)) (filter-push_in (λ (x : Line). x.processor == c) (take n lines) line (eq-eqb line.processor c own))
+      ∙ ap (λ l. map MakesCall (map (λ (x : Line). x.call) l)) (filter-push_in (λ (x : Line). x.processor == c) (take n lines) line
+      (eq-eqb line.processor c own))
       ∙ ap (map MakesCall) (map_push (λ (x : Line). x.call) _ line)
       ∙ map_push MakesCall (calls_of c (take n lines)) line.call
 
   other_more : (c : ℕ) → line.processor ≢ c → map MakesCall (calls_of c (take (n + 1) lines)) ≡ map MakesCall (calls_of c (take n lines))
   other_more c other =
       ap (λ l. map MakesCall (calls_of c l)) (take_more lines n d below)
-      ∙ ap (λ l. map MakesCall (map (λ (x : Line). x.call) l)) (filter-push_out (λ (x : Line). x.processor == c) (take n lines) line (ne_eqb line.processor c other))
+      ∙ ap (λ l. map MakesCall (map (λ (x : Line). x.call) l)) (filter-push_out (λ (x : Line). x.processor == c) (take n lines) line
+      (ne_eqb line.processor c other))
 
   -- so with it the lists are those of one line more
-  module _ {V : Type 0} (items : V → List Job) (vs : List V) (processors : ℕ) (so_far : map items vs ≡ map (λ c. map MakesCall (calls_of c (take n lines))) (range_with_len 0 processors)) (within : All (λ (l : Line). l.processor < processors) lines) where
+  module _ {V : Type 0} (items : V → List Job) (vs : List V) (processors : ℕ)
+      (so_far : map items vs ≡ map (λ c. map MakesCall (calls_of c (take n lines))) (range_with_len 0 processors))
+      (within : All (λ (l : Line). l.processor < processors) lines) where
     count : length vs ≡ processors
-    count = sym (length-map vs items) ∙ ap length so_far ∙ length-map-range_with_len (λ c. map MakesCall (calls_of c (take n lines))) 0 processors
+    count = sym (length-map vs items) ∙ ap length so_far ∙ length-map-range_with_len
+        (λ c. map MakesCall (calls_of c (take n lines))) 0 processors
 
     pub processor_known : (m : ℕ) → m ≡ length vs → line.processor < m
     processor_known m is = (let known = within n d below in let all = count in omega (arith, known, all, is))
@@ -78,11 +84,14 @@ module _ (lines : List Line) (n : ℕ) (d : Line) (below : n < length lines) whe
         let own : items v ≡ map MakesCall (calls_of line.processor (take n lines)) =
         jobs_read items vs line.processor v (processor_known (length vs) refl) read
         ∙ ap (λ l. jobs_at l line.processor) so_far
-        ∙ get_or-map-range_with_len (λ c. map MakesCall (calls_of c (take n lines))) 0 processors line.processor line.processor [] (within n d below) (omega arith) in
+        ∙ get_or-map-range_with_len (λ c. map MakesCall (calls_of c (take n lines))) 0 processors line.processor line.processor []
+        (within n d below) (omega arith) in
         map-set items vs line.processor v'
         ∙ ap (λ l. set l line.processor (items v')) so_far
-        ∙ map_range-set (λ c. map MakesCall (calls_of c (take n lines))) (λ c. map MakesCall (calls_of c (take (n + 1) lines))) processors line.processor (items v')
-        (within n d below) (pushed ∙ ap (λ l. l ++ MakesCall line.call ∷ []) own ∙ sym (own_more line.processor refl)) (λ c other. sym (other_more c (λ is. other (sym is))))
+        ∙ map_range-set (λ c. map MakesCall (calls_of c (take n lines)))
+        (λ c. map MakesCall (calls_of c (take (n + 1) lines))) processors line.processor (items v')
+        (within n d below) (pushed ∙ ap (λ l. l ++ MakesCall line.call ∷ []) own ∙ sym (own_more line.processor refl))
+        (λ c other. sym (other_more c (λ is. other (sym is))))
 
 -- The jobs of a trace.
 
@@ -91,7 +100,8 @@ none_behind most c lines known past = by (calls_of c lines) refl
   where
     by : (calls : List _) → calls_of c lines ≡ calls → calls_of c lines ≡ []
     by [] is = is
-    by (call ∷ calls) is = (let below = calls_within most c lines known 0 call (ap (λ l. slice_get l 0) is) in absurd (omega (arith, below, past)))
+    by (call ∷ calls) is =
+        (let below = calls_within most c lines known 0 call (ap (λ l. slice_get l 0) is) in absurd (omega (arith, below, past)))
 
 count_actors : (plan : Plan) (o : Option Daemon) → plan.daemon ≡ o → actors plan ≡ plan.processors + length (daemon_marks o)
 count_actors plan o is =
@@ -101,25 +111,33 @@ count_actors plan o is =
 
 -- of those that make calls each has its calls
 callers : (plan : Plan)
-    → map (λ c. map MakesCall (calls_of c plan.calls)) (range_with_len 0 plan.processors) ≡ map (λ c. jobs_of c plan) (range_with_len 0 plan.processors)
+    → map (λ c. map MakesCall (calls_of c plan.calls)) (range_with_len 0 plan.processors)
+    ≡ map (λ c. jobs_of c plan) (range_with_len 0 plan.processors)
 callers plan =
     map_range-same (λ c. map MakesCall (calls_of c plan.calls)) (λ c. jobs_of c plan) 0 plan.processors
-    (λ c below. sym (append-nil (map MakesCall (calls_of c plan.calls))) ∙ ap (λ b. map MakesCall (calls_of c plan.calls) ++ cond b (turns_of plan.daemon) []) (sym (ne_eqb c plan.processors (λ is. omega (arith, is, below)))))
+    (λ c below. sym (append-nil (map MakesCall (calls_of c plan.calls)))
+    ∙ ap (λ b. map MakesCall (calls_of c plan.calls) ++ cond b (turns_of plan.daemon) [])
+    (sym (ne_eqb c plan.processors (λ is. omega (arith, is, below)))))
 
 -- without a daemon there are no others
 pub jobs-calls : (plan : Plan) (jobs : List (List Job)) → plan.daemon ≡ None
     → jobs ≡ map (λ c. map MakesCall (calls_of c plan.calls)) (range_with_len 0 plan.processors)
     → jobs ≡ map (λ c. jobs_of c plan) (range_with_len 0 (actors plan))
-jobs-calls plan jobs none are = are ∙ callers plan ∙ ap (λ n. map (λ c. jobs_of c plan) (range_with_len 0 n)) (let count = count_actors plan None none in let e : plan.processors ≡ actors plan = omega (arith, count) in e)
+jobs-calls plan jobs none are =
+    are ∙ callers plan ∙ ap (λ n. map (λ c. jobs_of c plan) (range_with_len 0 n))
+    (let count = count_actors plan None none in let e : plan.processors ≡ actors plan = omega (arith, count) in e)
 
 -- and with one it is the last, and has its turns
 pub jobs-turns : {V : Type 0} (items : V → List Job) (plan : Plan) (vs vs' : List V) (v : V) (d : Daemon) → plan.daemon ≡ Some d
     → All (λ (l : Line). l.processor < plan.processors) plan.calls
-    → vs' ≡ vs ++ v ∷ [] → map items vs ≡ map (λ c. map MakesCall (calls_of c plan.calls)) (range_with_len 0 plan.processors) → items v ≡ turns_of (Some d)
+    → vs' ≡ vs ++ v ∷ [] → map items vs ≡ map (λ c. map MakesCall (calls_of c plan.calls)) (range_with_len 0 plan.processors)
+    → items v ≡ turns_of (Some d)
     → map items vs' ≡ map (λ c. jobs_of c plan) (range_with_len 0 (actors plan))
 jobs-turns items plan vs vs' v d some known more are turns =
-    map_range-push (λ c. jobs_of c plan) (map items vs) (map items vs') (items v) plan.processors (ap (map items) more ∙ map_push items vs v) (are ∙ callers plan)
+    map_range-push (λ c. jobs_of c plan) (map items vs) (map items vs') (items v) plan.processors
+    (ap (map items) more ∙ map_push items vs v) (are ∙ callers plan)
     (turns ∙ ap turns_of (sym some)
     ∙ ap (λ b. cond b (turns_of plan.daemon) []) (sym (eq-eqb plan.processors plan.processors refl))
-    ∙ ap (λ calls. map MakesCall calls ++ cond (plan.processors == plan.processors) (turns_of plan.daemon) []) (sym (none_behind plan.processors plan.processors plan.calls known (omega arith))))
+    ∙ ap (λ calls. map MakesCall calls ++ cond (plan.processors == plan.processors) (turns_of plan.daemon) [])
+    (sym (none_behind plan.processors plan.processors plan.calls known (omega arith))))
     ∙ ap (λ n. map (λ c. jobs_of c plan) (range_with_len 0 n)) (sym (count_actors plan (Some d) some))

@@ -42,11 +42,13 @@ module _ (f : Flight) (phase : Phase) (reply : Reply) (kept : Kept) (st : SpaceS
   Makes-refusal :
       IsReady (in_phase f phase) kept st → space_of_call (call_in f.purpose) ≡ kept.number → IsResting kept
       → MayGoOn (row_of (in_phase f phase)).next f.processor (Answer f.number (call_in f.purpose) (refusal reply))
-      → is_lawful reply ≡ false → answered_flat st.flat (call_in f.purpose) reply ≡ st.flat → ReplyAllowed st f.processor (call_in f.purpose) reply
+      → is_lawful reply ≡ false → answered_flat st.flat (call_in f.purpose) reply ≡ st.flat
+      → ReplyAllowed st f.processor (call_in f.purpose) reply
       → (row_of (in_phase f phase)).progress.made ≡ f.number
       → may_answer (row_of (in_phase f phase)).progress.doing (call_in f.purpose) reply ≡ true
       → 0 < (row_of (in_phase f phase)).entries
-      → (frames : FrameState) → Makes (in_phase f phase) (in_phase f (Ended reply)) kept kept st frames frames (answer_entry f.processor f.number (call_in f.purpose) (refusal reply))
+      → (frames : FrameState) → Makes (in_phase f phase) (in_phase f (Ended reply)) kept kept st frames frames
+      (answer_entry f.processor f.number (call_in f.purpose) (refusal reply))
   Makes-refusal ready on resting goes_on unlawful same allowed made may some =
       Makes-answer f phase (refusal reply) kept kept st ready (record {
         on = on;
@@ -56,11 +58,17 @@ module _ (f : Flight) (phase : Phase) (reply : Reply) (kept : Kept) (st : SpaceS
         allowed = record {
           reply = allowed;
           parts = frees-unlawful st (call_in f.purpose) reply unlawful;
-          hit = ap (λ (o : Option ℕ). is_in_image (st.images f.processor) (tile_at st.sizes (pages_of st) o)) (sym (served-unlawful (call_in f.purpose) reply unlawful));
-          size = ap (λ (o : Option ℕ). option_map (λ (t : Tile). t.extent.size) (tile_at st.sizes (pages_after st false (Answer f.number (call_in f.purpose) (refusal reply))) o)) (sym (served-unlawful (call_in f.purpose) reply unlawful));
+          hit = ap (λ (o : Option ℕ). is_in_image (st.images f.processor) (tile_at st.sizes (pages_of st) o))
+              (sym (served-unlawful (call_in f.purpose) reply unlawful));
+          size = ap (λ (o : Option ℕ). option_map (λ (t : Tile). t.extent.size)
+              (tile_at st.sizes (pages_after st false (Answer f.number (call_in f.purpose) (refusal reply))) o))
+              (sym (served-unlawful (call_in f.purpose) reply unlawful));
         };
-        stands = unchanged_stands kept st (answer_entry f.processor f.number (call_in f.purpose) (refusal reply)) ready.stands same (base-unnamed st.base (call_in f.purpose)) (λ p i. said-unlawful p i (call_in f.purpose) reply (st.tied p i) unlawful) refl
-            (ap (tile_at st.sizes (pages_after st false (Answer f.number (call_in f.purpose) (refusal reply)))) (served-unlawful (call_in f.purpose) reply unlawful));
+        stands =
+            unchanged_stands kept st (answer_entry f.processor f.number (call_in f.purpose) (refusal reply)) ready.stands same
+            (base-unnamed st.base (call_in f.purpose)) (λ p i. said-unlawful p i (call_in f.purpose) reply (st.tied p i) unlawful) refl
+            (ap (tile_at st.sizes (pages_after st false (Answer f.number (call_in f.purpose) (refusal reply))))
+            (served-unlawful (call_in f.purpose) reply unlawful));
         made = made;
         may = may;
         some = some;
@@ -76,10 +84,12 @@ lawful-access (Some r) false reply has may is = absurd (false≢true may)
 lawful-access (Some r) true reply has may is = is
 
 -- so one that the space allows is, for every state that it stands for
-pub lawful-allowed : (kept : Kept) (st : SpaceState) (call : Call) → StandsFor kept st → is_allowed kept call ≡ true → is_lawful (reply_of st.flat call) ≡ true
+pub lawful-allowed : (kept : Kept) (st : SpaceState) (call : Call) → StandsFor kept st → is_allowed kept call ≡ true
+    → is_lawful (reply_of st.flat call) ≡ true
 lawful-allowed kept st (Load space address) stands is =
     let parts = and_parts (is_some (region_at kept.regions (page_of address))) (can_read (rights_at kept (page_of address))) is in
-    lawful-access (region_at st.flat.regions (page_of address)) (can_read (st.flat.rights (page_of address))) (Value (st.flat.words (page_of address) (word_of address)))
+    lawful-access (region_at st.flat.regions (page_of address)) (can_read (st.flat.rights (page_of address)))
+    (Value (st.flat.words (page_of address) (word_of address)))
     (ap (λ rs. is_some (region_at rs (page_of address))) stands.beside.regions ∙ parts.0)
     (ap can_read (stands.beside.rights (page_of address) parts.0) ∙ parts.1) refl
 lawful-allowed kept st (Store space address word) stands is =
@@ -91,14 +101,19 @@ lawful-allowed kept st call stands is = absurd (false≢true is)
 
 Makes-no_frames : (f : Flight) (wired claimed held : ℕ) (kept : Kept) (st : SpaceState)
     → IsReady (in_phase f (Short wired claimed held)) kept st → (frames : FrameState)
-    → Makes (in_phase f (Short wired claimed held)) (in_phase f (Ended (NoFrames wired claimed held))) kept kept st frames frames (answer_entry f.processor f.number (call_in f.purpose) (refusal (NoFrames wired claimed held)))
+    → Makes (in_phase f (Short wired claimed held)) (in_phase f (Ended (NoFrames wired claimed held))) kept kept st frames frames
+    (answer_entry f.processor f.number (call_in f.purpose) (refusal (NoFrames wired claimed held)))
 Makes-no_frames f wired claimed held kept st ready =
     let page = ready.found.0 in
     let lacks = ready.found.1 in
-    Makes-refusal f (Short wired claimed held) (NoFrames wired claimed held) kept st ready (same_Some _ _ ready.under) lacks.resting tt refl refl
-    (lawful-allowed kept st (call_in f.purpose) ready.stands lacks.lawful.allowed, subst (LacksItsPage st.base) (sym lacks.lawful.page_is) (ready.stands.base page ∙ lacks.absent))
+    Makes-refusal f (Short wired claimed held) (NoFrames wired claimed held) kept st ready
+    (same_Some _ _ ready.under) lacks.resting tt refl refl (
+      lawful-allowed kept st (call_in f.purpose) ready.stands lacks.lawful.allowed,
+      subst (LacksItsPage st.base) (sym lacks.lawful.page_is) (ready.stands.base page ∙ lacks.absent),
+    )
     refl
-    (and_from _ _ (is_access_by_page (call_in f.purpose) page lacks.lawful.page_is) (and_from _ _ (eq-eqb wired wired refl) (and_from _ _ (eq-eqb claimed claimed refl) (eq-eqb held held refl))))
+    (and_from _ _ (is_access_by_page (call_in f.purpose) page lacks.lawful.page_is)
+    (and_from _ _ (eq-eqb wired wired refl) (and_from _ _ (eq-eqb claimed claimed refl) (eq-eqb held held refl))))
     (omega arith)
 
 -- A store failed.
@@ -137,46 +152,72 @@ MayFail-copying kept st call stands resting is must = absurd (false≢true is)
 -- and it is their answer: to an access, wherever it failed
 may_fault-access : (call : Call) (claimed : Bool) (space count : ℕ) → is_access call ≡ true
     → may_answer (faulted (access_of call claimed) space count (copied_page call)) call (StoreFault space count) ≡ true
-may_fault-access (Load s address) claimed space count is = and_from _ _ (is_access_of (Load s address) claimed is) (and_from _ _ (eq-eqb space space refl) (eq-eqb count count refl))
-may_fault-access (Store s address word) claimed space count is = and_from _ _ (is_access_of (Store s address word) claimed is) (and_from _ _ (eq-eqb space space refl) (eq-eqb count count refl))
+may_fault-access (Load s address) claimed space count is = and_from _ _ (is_access_of (Load s address) claimed is)
+    (and_from _ _ (eq-eqb space space refl) (eq-eqb count count refl))
+may_fault-access (Store s address word) claimed space count is = and_from _ _ (is_access_of (Store s address word) claimed is)
+    (and_from _ _ (eq-eqb space space refl) (eq-eqb count count refl))
 may_fault-access call claimed space count is = absurd (false≢true is)
 
 -- and to the others in their own space
 may_fault-copying : (call : Call) (claimed : Bool) (space count : ℕ) → space ≡ space_of_call call → IsSome (copied_page call)
     → may_answer (faulted (access_of call claimed) space count (copied_page call)) call (StoreFault space count) ≡ true
-may_fault-copying (Sync s page) claimed space count same is = and_from _ _ (and_from _ _ (eq-eqb s space (sym same)) (eq-eqb page page refl)) (and_from _ _ (eq-eqb space space refl) (eq-eqb count count refl))
-may_fault-copying (Evict s page) claimed space count same is = and_from _ _ (and_from _ _ (eq-eqb s space (sym same)) (eq-eqb page page refl)) (and_from _ _ (eq-eqb space space refl) (eq-eqb count count refl))
+may_fault-copying (Sync s page) claimed space count same is =
+    and_from _ _ (and_from _ _ (eq-eqb s space (sym same)) (eq-eqb page page refl))
+    (and_from _ _ (eq-eqb space space refl) (eq-eqb count count refl))
+may_fault-copying (Evict s page) claimed space count same is =
+    and_from _ _ (and_from _ _ (eq-eqb s space (sym same)) (eq-eqb page page refl))
+    (and_from _ _ (eq-eqb space space refl) (eq-eqb count count refl))
 may_fault-copying call claimed space count same is = absurd (false≢true is)
 
 Makes-fault : (f : Flight) (space count : ℕ) (kept : Kept) (st : SpaceState) → IsReady (in_phase f (Fault space count)) kept st
     → (frames : FrameState)
-    → Makes (in_phase f (Fault space count)) (in_phase f (Ended (StoreFault space count))) kept kept st frames frames (answer_entry f.processor f.number (call_in f.purpose) (refusal (StoreFault space count)))
+    → Makes (in_phase f (Fault space count)) (in_phase f (Ended (StoreFault space count))) kept kept st frames frames
+    (answer_entry f.processor f.number (call_in f.purpose) (refusal (StoreFault space count)))
 Makes-fault f space count kept st ready =
     let found = ready.found in
-    let meets : MayFail st (call_in f.purpose) × (may_answer (faulted (access_in f.purpose) space count (copied_page (call_in f.purpose))) (call_in f.purpose) (StoreFault space count) ≡ true) = elim ready.fits.phase [
-      | inl own ↦ (MayFail-copying kept st (call_in f.purpose) ready.stands found.resting own.1 found.must, may_fault-copying (call_in f.purpose) (claimed_in f.purpose) space count own.0 own.1)
-      | inr access ↦ (MayFail-access st (call_in f.purpose) access, may_fault-access (call_in f.purpose) (claimed_in f.purpose) space count access)
+    let meets : MayFail st (call_in f.purpose) ×
+    (may_answer (faulted (access_in f.purpose) space count (copied_page (call_in f.purpose))) (call_in f.purpose)
+    (StoreFault space count) ≡ true) = elim ready.fits.phase [
+      | inl own ↦ (
+        MayFail-copying kept st (call_in f.purpose) ready.stands found.resting own.1 found.must,
+        may_fault-copying (call_in f.purpose) (claimed_in f.purpose) space count own.0 own.1,
+      )
+      | inr access ↦ (
+        MayFail-access st (call_in f.purpose) access,
+        may_fault-access (call_in f.purpose)
+            (claimed_in f.purpose) space count access,
+      )
     ] in
-    Makes-refusal f (Fault space count) (StoreFault space count) kept st ready (same_Some _ _ (sym (under_fault (Some (space_of_call (call_in f.purpose))) (access_in f.purpose) space count (copied_page (call_in f.purpose))) ∙ ready.under)) found.resting tt refl refl meets.0 refl meets.1 (omega arith)
+    Makes-refusal f (Fault space count) (StoreFault space count) kept st ready
+    (same_Some _ _ (sym (under_fault (Some (space_of_call (call_in f.purpose))) (access_in f.purpose) space count
+    (copied_page (call_in f.purpose))) ∙ ready.under)) found.resting tt refl refl meets.0 refl meets.1 (omega arith)
 
 -- There was no memory.
 Makes-no_memory : (f : Flight) (space : ℕ) (kept : Kept) (st : SpaceState) → IsReady (in_phase f (Lack space)) kept st
     → (frames : FrameState)
-    → Makes (in_phase f (Lack space)) (in_phase f (Ended NoMemory)) kept kept st frames frames (answer_entry f.processor f.number (call_in f.purpose) (refusal NoMemory))
+    → Makes (in_phase f (Lack space)) (in_phase f (Ended NoMemory)) kept kept st frames frames
+    (answer_entry f.processor f.number (call_in f.purpose) (refusal NoMemory))
 Makes-no_memory f space kept st ready =
     Makes-refusal f (Lack space) NoMemory kept st ready (same_Some _ _ ready.under) ready.found tt refl refl
-    (MayFail-access st (call_in f.purpose) ready.fits.phase) refl (and_from _ _ (is_access_of (call_in f.purpose) (claimed_in f.purpose) ready.fits.phase) refl) (omega arith)
+    (MayFail-access st (call_in f.purpose) ready.fits.phase) refl (and_from _ _
+    (is_access_of (call_in f.purpose) (claimed_in f.purpose) ready.fits.phase) refl) (omega arith)
 
 -- A flight that can't be served answers so.
 pub refused : (f : Flight) (reply : Reply) → Refuses f reply → (kept : Kept) (st : SpaceState) (frames : FrameState) → IsReady f kept st
-    → Makes f (with_phase f (Ended reply)) kept kept st frames frames (answer_entry f.processor f.number (call_in f.purpose) (refusal reply))
+    → Makes f (with_phase f (Ended reply)) kept kept st frames frames
+    (answer_entry f.processor f.number (call_in f.purpose) (refusal reply))
 refused f (NoFrames wired claimed held) phase = λ kept st frames.
-    by_ready f (Short wired claimed held) kept st refl phase (λ g to. Makes g (to (Ended (NoFrames wired claimed held))) kept kept st frames frames (answer_entry f.processor f.number (call_in f.purpose) (refusal (NoFrames wired claimed held))))
+    by_ready f (Short wired claimed held) kept st refl phase
+    (λ g to. Makes g (to (Ended (NoFrames wired claimed held))) kept kept st frames frames
+    (answer_entry f.processor f.number (call_in f.purpose) (refusal (NoFrames wired claimed held))))
     (λ ready. Makes-no_frames f wired claimed held kept st ready frames)
 refused f (StoreFault space count) phase = λ kept st frames.
-    by_ready f (Fault space count) kept st refl phase (λ g to. Makes g (to (Ended (StoreFault space count))) kept kept st frames frames (answer_entry f.processor f.number (call_in f.purpose) (refusal (StoreFault space count))))
+    by_ready f (Fault space count) kept st refl phase
+    (λ g to. Makes g (to (Ended (StoreFault space count))) kept kept st frames frames
+    (answer_entry f.processor f.number (call_in f.purpose) (refusal (StoreFault space count))))
     (λ ready. Makes-fault f space count kept st ready frames)
 refused f NoMemory phase = λ kept st frames.
-    by_ready f (Lack phase.0) kept st refl phase.1 (λ g to. Makes g (to (Ended NoMemory)) kept kept st frames frames (answer_entry f.processor f.number (call_in f.purpose) (refusal NoMemory)))
+    by_ready f (Lack phase.0) kept st refl phase.1 (λ g to. Makes g (to (Ended NoMemory)) kept kept st frames frames
+    (answer_entry f.processor f.number (call_in f.purpose) (refusal NoMemory)))
     (λ ready. Makes-no_memory f phase.0 kept st ready frames)
 refused f reply phase = absurd phase

@@ -31,7 +31,8 @@ sum_by-places f g a [] are = refl
 sum_by-places f g a (x ∷ xs) are =
     let first : f x ≡ g a = are 0 x refl ∙ ap g (let e : a + 0 ≡ a = omega arith in e) in
     let rest = sum_by-places f g (a + 1) xs (λ s y at. are (suc s) y at ∙ ap g (let e : a + suc s ≡ a + 1 + s = omega arith in e)) in
-    sum_by-cons f x xs ∙ ap (λ n. n + sum_by f xs) first ∙ ap (λ n. g a + n) rest ∙ sym (sum_by-cons g a (range_with_len (a + 1) (length xs)))
+    sum_by-cons f x xs ∙ ap (λ n. n + sum_by f xs) first ∙ ap (λ n. g a + n) rest
+    ∙ sym (sum_by-cons g a (range_with_len (a + 1) (length xs)))
 
 -- so many terms, each at most so much
 sum_by-most : {X : Type 0} (f : X → ℕ) (most : ℕ) (xs : List X) → ((x : X) → f x ≤ most) → sum_by f xs ≤ length xs * most
@@ -62,29 +63,35 @@ own_fewer z pages = four_fewer 1073741824 _ _ _ _ (below 0) (below 1) (below 2) 
     below size = (let few = tiles_few z pages size in omega (arith, few))
 
 pub some_fewer : (spaces : List Kept) (n : ℕ) → length spaces ≤ 16
-    → AreFewer (tiles_in (take n spaces) 0 ∷ tiles_in (take n spaces) 1 ∷ tiles_in (take n spaces) 2 ∷ tiles_in (take n spaces) 3 ∷ []) 1073741824
+    → AreFewer (tiles_in (take n spaces) 0 ∷ tiles_in (take n spaces) 1 ∷ tiles_in (take n spaces) 2 ∷ tiles_in
+    (take n spaces) 3 ∷ []) 1073741824
 some_fewer spaces n few = four_fewer 1073741824 _ _ _ _ (below 0) (below 1) (below 2) (below 3)
   where
     below : (size : ℕ) → tiles_in (take n spaces) size < 1073741824
     below size =
         let part = sum_by-take-le (λ (k : Kept). tile_count_in k.table.sizes (mapping_in k.table) size) spaces n in
-        let all = sum_by-most (λ (k : Kept). tile_count_in k.table.sizes (mapping_in k.table) size) 1048576 spaces (λ k. tiles_few k.table.sizes (mapping_in k.table) size) in
+        let all = sum_by-most (λ (k : Kept). tile_count_in k.table.sizes (mapping_in k.table) size) 1048576 spaces
+        (λ k. tiles_few k.table.sizes (mapping_in k.table) size) in
         omega (arith, part, all, few)
 
 promotions_few : (es : List Entry) (st : SpaceState) → (fold space_after st es).promotions ≤ st.promotions + 1048576 * length es
 promotions_few [] st = omega arith
 promotions_few (e ∷ es) st =
     let rest = promotions_few es (space_after st e) in
-    let one : count_pages (is_promoted_in st.sizes (pages_of st) (pages_after st e.frames e.what)) ≤ 1048576 = count_pages_most (is_promoted_in st.sizes (pages_of st) (pages_after st e.frames e.what)) in
-    let total : (space_after st e).promotions ≡ st.promotions + count_pages (is_promoted_in st.sizes (pages_of st) (pages_after st e.frames e.what)) = refl in
+    let one : count_pages (is_promoted_in st.sizes (pages_of st) (pages_after st e.frames e.what)) ≤ 1048576 =
+    count_pages_most (is_promoted_in st.sizes (pages_of st) (pages_after st e.frames e.what)) in
+    let total : (space_after st e).promotions ≡ st.promotions + count_pages
+    (is_promoted_in st.sizes (pages_of st) (pages_after st e.frames e.what)) = refl in
     omega (arith, rest, one, total)
 
 demotions_few : (es : List Entry) (st : SpaceState) → (fold space_after st es).demotions ≤ st.demotions + 1048576 * length es
 demotions_few [] st = omega arith
 demotions_few (e ∷ es) st =
     let rest = demotions_few es (space_after st e) in
-    let one : count_pages (is_promoted_in st.sizes (pages_after st e.frames e.what) (pages_of st)) ≤ 1048576 = count_pages_most (is_promoted_in st.sizes (pages_after st e.frames e.what) (pages_of st)) in
-    let total : (space_after st e).demotions ≡ st.demotions + count_pages (is_promoted_in st.sizes (pages_after st e.frames e.what) (pages_of st)) = refl in
+    let one : count_pages (is_promoted_in st.sizes (pages_after st e.frames e.what) (pages_of st)) ≤ 1048576 =
+    count_pages_most (is_promoted_in st.sizes (pages_after st e.frames e.what) (pages_of st)) in
+    let total : (space_after st e).demotions ≡ st.demotions + count_pages
+    (is_promoted_in st.sizes (pages_after st e.frames e.what) (pages_of st)) = refl in
     omega (arith, rest, one, total)
 
 -- a space's entries are some of the history's
@@ -111,14 +118,18 @@ module _ (given : Given) (h : List Entry) (spaces : List Kept) (pool : FrameStat
       → ((s : ℕ) (kept : Kept) → slice_get spaces s ≡ Some kept → f kept ≡ count (space_at given h s))
       → sum_by f spaces ≡ over_spaces given h count
   summed f count are =
-      sum_by-places f (λ s. count (space_at given h s)) 0 spaces (λ s kept at. are s kept at ∙ ap (λ k. count (space_at given h k)) (let e : s ≡ 0 + s = omega arith in e))
+      sum_by-places f (λ s. count (space_at given h s)) 0 spaces (λ s kept at. are s kept at
+      ∙ ap (λ k. count (space_at given h k)) (let e : s ≡ 0 + s = omega arith in e))
       ∙ ap (λ n. sum_by (λ s. count (space_at given h s)) (range_with_len 0 n)) rest.count
 
   tiles_summed : (size : ℕ) → tiles_in spaces size ≡ tiles_after given h size
   tiles_summed size =
       summed (λ (k : Kept). tile_count_in k.table.sizes (mapping_in k.table) size) (λ st. tile_count_in st.sizes (pages_of st) size)
-      (λ s kept at. ap (λ (ps : ℕ → Option Mapping). tile_count_in kept.table.sizes ps size) (let same : mapping_in kept.table ≡ pages_of (space_at given h s) = λ i p. sym ((rest.spaces_rest s kept at).stands.pages p) i in same)
-      ∙ ap (λ (z : SizeSet). tile_count_in z (pages_of (space_at given h s)) size) (sym (rest.spaces_rest s kept at).stands.translates.sizes))
+      (λ s kept at. ap (λ (ps : ℕ → Option Mapping). tile_count_in kept.table.sizes ps size)
+      (let same : mapping_in kept.table ≡ pages_of (space_at given h s) = λ i p. sym ((rest.spaces_rest s kept at).stands.pages p) i in
+      same)
+      ∙ ap (λ (z : SizeSet). tile_count_in z (pages_of (space_at given h s)) size)
+      (sym (rest.spaces_rest s kept at).stands.translates.sizes))
 
   promotions_summed : promotions_in spaces ≡ over_spaces given h (λ st. st.promotions)
   promotions_summed =
@@ -144,19 +155,19 @@ module _ (given : Given) (h : List Entry) (spaces : List Kept) (pool : FrameStat
   demotions_small = (let same = demotions_summed in let all = all_small (λ st. st.demotions) demotions_at in omega (arith, same, all))
 
   -- and the counts that were read of the spaces, the frames and the history are the run's
-  pub counts_are : (tiles : List ℕ) (promotions demotions preemptions hits misses free reserved used : ℕ)
-      → tiles ≡ tiles_in spaces 0 ∷ tiles_in spaces 1 ∷ tiles_in spaces 2 ∷ tiles_in spaces 3 ∷ [] → promotions ≡ promotions_in spaces → demotions ≡ demotions_in spaces
-      → preemptions ≡ pool.preemptions → hits ≡ hits_in h → misses ≡ misses_in h → free ≡ free_count pool → reserved ≡ reserved_count pool → used ≡ used_count pool
-      → (let s : Summary = record { tiles = tiles; promotions = promotions; demotions = demotions; preemptions = preemptions; hits = hits; misses = misses; free = free; reserved = reserved; used = used } in s) ≡ counts given h
-  counts_are tiles promotions demotions preemptions hits misses free reserved used in_tiles in_promotions in_demotions in_preemptions in_hits in_misses in_free in_reserved in_used =
-      let all_tiles : tiles ≡ tiles_after given h 0 ∷ tiles_after given h 1 ∷ tiles_after given h 2 ∷ tiles_after given h 3 ∷ [] =
+  pub counts_are : (s : Summary) → s.tiles ≡ tiles_in spaces 0 ∷ tiles_in spaces 1 ∷ tiles_in spaces 2 ∷ tiles_in spaces 3 ∷ []
+      → s.promotions ≡ promotions_in spaces → s.demotions ≡ demotions_in spaces → s.preemptions ≡ pool.preemptions → s.hits ≡ hits_in h
+      → s.misses ≡ misses_in h → s.free ≡ free_count pool → s.reserved ≡ reserved_count pool → s.used ≡ used_count pool → s ≡ counts given h
+  counts_are s in_tiles in_promotions in_demotions in_preemptions in_hits in_misses in_free in_reserved in_used =
+      let all_tiles : s.tiles ≡ tiles_after given h 0 ∷ tiles_after given h 1 ∷ tiles_after given h 2 ∷ tiles_after given h 3 ∷ [] =
       in_tiles ∙ (λ i. tiles_summed 0 i ∷ tiles_summed 1 i ∷ tiles_summed 2 i ∷ tiles_summed 3 i ∷ []) in
       let all_promotions = in_promotions ∙ promotions_summed in
       let all_demotions = in_demotions ∙ demotions_summed in
-      let all_preemptions : preemptions ≡ (frames_at given h).preemptions = in_preemptions ∙ ap (λ (st : FrameState). st.preemptions) rest.pool_is in
-      let all_free : free ≡ free_count (frames_at given h) = in_free ∙ ap free_count rest.pool_is in
-      let all_reserved : reserved ≡ reserved_count (frames_at given h) = in_reserved ∙ ap reserved_count rest.pool_is in
-      let all_used : used ≡ used_count (frames_at given h) = in_used ∙ ap used_count rest.pool_is in
+      let all_preemptions : s.preemptions ≡ (frames_at given h).preemptions =
+      in_preemptions ∙ ap (λ (st : FrameState). st.preemptions) rest.pool_is in
+      let all_free : s.free ≡ free_count (frames_at given h) = in_free ∙ ap free_count rest.pool_is in
+      let all_reserved : s.reserved ≡ reserved_count (frames_at given h) = in_reserved ∙ ap reserved_count rest.pool_is in
+      let all_used : s.used ≡ used_count (frames_at given h) = in_used ∙ ap used_count rest.pool_is in
       λ i. record {
         tiles = all_tiles i;
         promotions = all_promotions i;

@@ -73,7 +73,8 @@ module _ (old mid new : Flight) (was here now : Kept) (passed : HasPassed old mi
           same_work = SameWork-on passed.same_work entry.same_work;
           processor = entry.processor ∙ passed.same_work.processor;
           parts = entry.parts;
-          frames_allow = λ named. subst (λ m. FramesAllow before m e.processor e.space e.what) passed.same_work.mark (entry.frames_allow named);
+          frames_allow = λ named. subst (λ m. FramesAllow before m e.processor e.space e.what) passed.same_work.mark
+              (entry.frames_allow named);
           frames_after = entry.frames_after;
           in_order = subst (λ p. progress_after p e.space e.what ≡ Some (row_of new).progress) passed.same_progress entry.in_order;
           reply = entry.reply;
@@ -90,7 +91,8 @@ module _ (old mid new : Flight) (was here now : Kept) (passed : HasPassed old mi
       }
 
 -- the space that was passed through agrees with the frames still
-pub AreAgreed-passed : (old mid : Flight) (was here : Kept) (frames : FrameState) → HasPassed old mid was here → AreAgreed was frames → AreAgreed here frames
+pub AreAgreed-passed : (old mid : Flight) (was here : Kept) (frames : FrameState) → HasPassed old mid was here → AreAgreed was frames
+    → AreAgreed here frames
 AreAgreed-passed old mid was here frames passed agreed =
     record {
       count = agreed.count ∙ sym passed.same_space.frames;
@@ -111,12 +113,16 @@ pub known-passed : (old mid : Flight) (was here : Kept) (frames : FrameState) �
 known-passed old mid was here frames passed known = subst (λ c. c < length frames.held) (sym passed.same_work.processor) known
 
 -- and it has an image in the space
-pub image-passed : (old mid : Flight) (was here : Kept) → HasPassed old mid was here → old.processor < length was.images → mid.processor < length here.images
-image-passed old mid was here passed image = (let same = passed.same_work.processor in let count = passed.same_space.processors in omega (arith, same, count, image))
+pub image-passed : (old mid : Flight) (was here : Kept) → HasPassed old mid was here → old.processor < length was.images
+    → mid.processor < length here.images
+image-passed old mid was here passed image =
+    (let same = passed.same_work.processor in let count = passed.same_space.processors in omega (arith, same, count, image))
 
 -- what a step is made under is the space that the flight is ready in
 pub needs_space : (n : Needs) (k number : ℕ) → n ≡ Space k → space_under n ≡ Some number → n ≡ Space number
-needs_space n k number is under = (let at : k ≡ number = (let x : Some k ≡ Some number = sym (ap space_under is) ∙ under in cc) in is ∙ ap Space at)
+needs_space n k number is under =
+    (let at : k ≡ number = (let x : Some k ≡ Some number = sym (ap space_under is) ∙ under in cc) in is ∙ ap Space at)
 
 pub needs_both : (n : Needs) (k number : ℕ) → n ≡ Both k → space_under n ≡ Some number → n ≡ Both number
-needs_both n k number is under = (let at : k ≡ number = (let x : Some k ≡ Some number = sym (ap space_under is) ∙ under in cc) in is ∙ ap Both at)
+needs_both n k number is under =
+    (let at : k ≡ number = (let x : Some k ≡ Some number = sym (ap space_under is) ∙ under in cc) in is ∙ ap Both at)

@@ -1,156 +1,153 @@
 -- A turn whose step is made under a space's lock.
-use Rattle.std.proofs.Common.{◌≡◌, ◌≢◌, ℕ, ◌<◌, List, [], ◌∷◌, ◌++◌, length, slice_get, Option, Some, None, IfSome, refl, ap, sym, subst, ◌∙◌, inl, inr, arith}
-use Rattle.std.proofs.lemmas.Bool.{cases_eq, cases_lt}
-use Rattle.std.proofs.lemmas.Option.{none-some, same_Some, slice_get_within}
+use Rattle.std.proofs.Common.{◌≡◌, ◌≢◌, ℕ, ◌<◌, length, slice_get, Option, Some, None, IfSome, refl, ap, sym, subst, ◌∙◌, inl, inr, arith}
+use Rattle.std.proofs.lemmas.Bool.{cases_eq}
+use Rattle.std.proofs.lemmas.Option.{same_Some, slice_get_within}
 use Rattle.std.proofs.Math.ListN.{set, length-set}
-use Rattle.pager_model.specs.declared.entry.Entry.{Entry}
-use Rattle.pager_model.specs.declared.entry.Victim.{Victim}
-use Rattle.pager_model.specs.FrameStates.{FrameState, frame_of}
-use Rattle.pager_model.specs.Legal.{space_at, entries_in}
+use Rattle.pager_model.specs.Legal.{entries_in}
 use Rattle.pager_model.specs.Settings.{mark_of}
-use Rattle.pager_laws.proofs.LegalHistories.{IsKept-legal}
-use Rattle.pager_laws.proofs.UnknownSpaces.{base-unknown}
 use Rattle.space_core.specs.Standing.{Kept}
 use Rattle.pager_core.specs.declared.flight.Flight.{Flight}
-use Rattle.pager_core.specs.declared.flight.Phase.TheVariants.{Out}
 use Rattle.pager_core.specs.Flights.{Fits, IsReady, IsAtRest, LeftBy}
-use Rattle.pager_core.specs.Machines.{IsSpaceOf, IsMachine}
+use Rattle.pager_core.specs.Machines.{IsSpaceOf}
 use Rattle.pager_core.specs.Rows.{row_of, space_under}
-use Rattle.pager_core.specs.Running.{Running, flight_at, jobs_at, IsKeptByOther}
+use Rattle.pager_core.specs.Running.{flight_at, jobs_at, IsKeptByOther}
 use Rattle.pager_core.specs.Steps.{Makes, after_named}
 use Rattle.pager_core.proofs.EntrySteps.{Fits-left}
 use Rattle.pager_core.proofs.Lands.{Lands, own_kept}
-use Rattle.pager_core.proofs.LegalSteps.{space_allows, space_at-elsewhere, space_at-here, space_known, victim_resident}
+use Rattle.pager_core.proofs.LegalSteps.{IsIn, IsIn-left, space_at-elsewhere, space_at-here, space_known}
 use Rattle.pager_core.proofs.Lists.{slice_get-set_same, slice_get-set_other}
-use Rattle.pager_core.proofs.MachineTurns.{Goes}
+use Rattle.pager_core.proofs.MachineTurns.{Goes, IsWhole, Keeps, MachineParts, Step, state_then, state_was, victim_within}
 use Rattle.pager_core.proofs.NextFlights.{keeps_under, under_cases}
 
--- The actor's flight makes an entry in a space that no other flight keeps.
-pub record Turns (run : Running) (spaces : List Kept) (pool after : FrameState) (c s : ℕ) (f f' : Flight) (was now : Kept) (e : Entry) : Type 0 where
-  pub flies : flight_at run.flights c ≡ Some f
-  pub under : space_under (row_of f).needs ≡ Some s
-  pub at : slice_get spaces s ≡ Some was
-  pub unkept : IsKeptByOther run.flights c s → ⊥
-  pub makes : Makes f f' was now (space_at run.given (entries_in run.history) s) pool after e
+-- The actor's flight makes an entry in a space that no other flight keeps, in a machine that is whole.
+pub record Turns (m : MachineParts) (step : Step) (s : ℕ) (was now : Kept) : Type 0 where
+  pub whole : IsWhole m
+  pub flies : flight_at m.run.flights step.actor ≡ Some step.old
+  pub under : space_under (row_of step.old).needs ≡ Some s
+  pub at : slice_get m.spaces s ≡ Some was
+  pub unkept : IsKeptByOther m.run.flights step.actor s → ⊥
+  pub makes : Makes step.old step.new was now (state_was m s) m.pool step.after step.entry
 
-module _ (run : Running) (spaces : List Kept) (pool after : FrameState) (capacity c s : ℕ) (f f' : Flight) (was now : Kept) (e : Entry)
-    (machine : IsMachine run spaces pool capacity) (turns : Turns run spaces pool after c s f f' was now e) where
-  h : List Entry
-  h = entries_in run.history
-
+module _ (m : MachineParts) (step : Step) (s : ℕ) (was now : Kept) (turns : Turns m step s was now) where
   was_number : was.number ≡ s
-  was_number = (machine.space_is s was turns.at).number
+  was_number = (turns.whole.space_is s was turns.at).number
 
   now_number : now.number ≡ s
   now_number = turns.makes.space.same_space.number ∙ was_number
 
-  within : s < length spaces
-  within = slice_get_within spaces s was turns.at
+  within : s < length m.spaces
+  within = slice_get_within m.spaces s was turns.at
 
-  space_here : (kept : Kept) → slice_get (set spaces s now) s ≡ Some kept → now ≡ kept
-  space_here kept at = same_Some now kept (sym (slice_get-set_same spaces s now within) ∙ at)
+  space_here : (kept : Kept) → slice_get (set m.spaces s now) s ≡ Some kept → now ≡ kept
+  space_here kept at = same_Some now kept (sym (slice_get-set_same m.spaces s now within) ∙ at)
 
-  left : LeftBy (row_of f').keeps f' now (after_named was.number (space_at run.given (entries_in run.history) s) e)
+  left : LeftBy (row_of step.new).keeps step.new now (after_named was.number (state_was m s) step.entry)
   left = turns.makes.space.left
 
   -- what the flight keeps is the space that it stepped under
-  pub keeps_here : (t : ℕ) → (row_of f').keeps ≡ Some t → t ≡ s
-  keeps_here t keeps = (subst (λ x. LeftBy x f' now (after_named was.number (space_at run.given (entries_in run.history) s) e)) keeps left).0 ∙ now_number
+  pub keeps_here : (t : ℕ) → Keeps step.new t → t ≡ s
+  keeps_here t keeps = (subst (λ x. LeftBy x step.new now (after_named was.number (state_was m s) step.entry)) keeps left).0 ∙ now_number
 
-  pub fits : Fits f'
-  fits = Fits-left f' now (after_named was.number (space_at run.given (entries_in run.history) s) e) (row_of f').keeps left
+  pub fits : Fits step.new
+  fits = Fits-left step.new now (after_named was.number (state_was m s) step.entry) (row_of step.new).keeps left
 
-  state_here : after_named was.number (space_at run.given (entries_in run.history) s) e ≡ space_at run.given (entries_in run.history ++ e ∷ []) s
-  state_here = space_at-here run.given (entries_in run.history) f f' was now pool after e s turns.makes was_number
+  in_space : IsIn m.run.given (entries_in m.run.history) step.entry s
+  in_space = IsIn-left m.run.given (entries_in m.run.history) step.entry s turns.makes.space was_number
 
-  state_elsewhere : (t : ℕ) → t ≢ s → space_at run.given (entries_in run.history ++ e ∷ []) t ≡ space_at run.given (entries_in run.history) t
-  state_elsewhere = space_at-elsewhere run.given (entries_in run.history) f f' was now pool after e s turns.makes was_number
+  state_here : after_named was.number (state_was m s) step.entry ≡ state_then m step s
+  state_here = space_at-here m.run.given (entries_in m.run.history) step.entry s was was_number
+
+  state_elsewhere : (t : ℕ) → t ≢ s → state_then m step t ≡ state_was m t
+  state_elsewhere = space_at-elsewhere m.run.given (entries_in m.run.history) step.entry s in_space
 
   -- another flight keeps another space
-  keeps_other : (t d : ℕ) (g : Flight) → d ≢ c → flight_at run.flights d ≡ Some g → (row_of g).keeps ≡ Some t → t ≢ s
-  keeps_other t d g other flies keeps = λ is. turns.unkept (record { other = d; differs = other; flight = g; flies = flies; keeps = keeps ∙ ap Some is })
+  keeps_other : (t d : ℕ) (g : Flight) → d ≢ step.actor → flight_at m.run.flights d ≡ Some g → (row_of g).keeps ≡ Some t → t ≢ s
+  keeps_other t d g other flies keeps = λ is. turns.unkept
+      (record { other = d; differs = other; flight = g; flies = flies; keeps = keeps ∙ ap Some is })
 
-  -- the victim of a claim is of a space that is there
-  victim_within : (v : Victim) → f'.phase ≡ Out v → v.space < length spaces
-  victim_within v is =
-      let resident = (IsKept-legal run.given (entries_in run.history) machine.lawful.legal).agrees v.space v.page ∙ ap (λ p. frame_of p v.space v.page) (sym machine.frames) ∙ victim_resident f f' was now (space_at run.given (entries_in run.history) s) pool after e v turns.makes is in
-      let all = machine.told in
-      elim (cases_lt v.space (length run.given.told)) [
-        | inl below ↦ omega (arith, all, below)
-        | inr past ↦ absurd (none-some v.frame (sym (base-unknown run.given (entries_in run.history) machine.lawful.legal v.space v.page past) ∙ resident))
-      ]
-
-  under_within : (t : ℕ) → space_under (row_of f').needs ≡ Some t → t < length spaces
+  under_within : (t : ℕ) → space_under (row_of step.new).needs ≡ Some t → t < length m.spaces
   under_within t under =
-      elim (under_cases f' t under) [
-        | inl own ↦ subst (λ o. IfSome o (λ k. k < length spaces)) (sym (own_kept turns.makes.entry.same_work) ∙ own) (machine.flights c f turns.flies).on
+      elim (under_cases step.new t under) [
+        | inl own ↦
+            subst (λ o. IfSome o (λ k. k < length m.spaces)) (sym (own_kept turns.makes.entry.same_work) ∙ own)
+            (turns.whole.flights step.actor step.old turns.flies).on
         | inr other ↦ elim other [
-          | inl keeps ↦ subst (λ n. n < length spaces) (sym (keeps_here t keeps)) within
-          | inr out ↦ subst (λ n. n < length spaces) (sym out.2) (victim_within out.0 out.1)
+          | inl keeps ↦ subst (λ n. n < length m.spaces) (sym (keeps_here t keeps)) within
+          | inr out ↦ subst (λ n. n < length m.spaces) (sym out.2) (victim_within m step turns.whole turns.makes.entry out.0 out.1)
         ]
       ]
 
-  at_elsewhere : (t : ℕ) (kept : Kept) → t ≢ s → slice_get (set spaces s now) t ≡ Some kept → slice_get spaces t ≡ Some kept
-  at_elsewhere t kept other at = sym (slice_get-set_other spaces s t now other) ∙ at
+  at_elsewhere : (t : ℕ) (kept : Kept) → t ≢ s → slice_get (set m.spaces s now) t ≡ Some kept → slice_get m.spaces t ≡ Some kept
+  at_elsewhere t kept other at = sym (slice_get-set_other m.spaces s t now other) ∙ at
 
-  spaces_are : (t : ℕ) (kept : Kept) → slice_get (set spaces s now) t ≡ Some kept → IsSpaceOf run t kept
+  spaces_are : (t : ℕ) (kept : Kept) → slice_get (set m.spaces s now) t ≡ Some kept → IsSpaceOf m.run t kept
   spaces_are t kept at = elim (cases_eq t s) [
     | inl here ↦
-        let before = machine.space_is s was turns.at in
-        subst (IsSpaceOf run t) (space_here kept (subst (λ k. slice_get (set spaces s now) k ≡ Some kept) here at))
-        (record { number = now_number ∙ sym here; frames = turns.makes.space.same_space.frames ∙ before.frames; processors = turns.makes.space.same_space.processors ∙ before.processors })
-    | inr elsewhere ↦ machine.space_is t kept (at_elsewhere t kept elsewhere at)
+        let before = turns.whole.space_is s was turns.at in
+        subst (IsSpaceOf m.run t) (space_here kept (subst (λ k. slice_get (set m.spaces s now) k ≡ Some kept) here at))
+        (record {
+          number = now_number ∙ sym here;
+          frames = turns.makes.space.same_space.frames
+              ∙ before.frames;
+          processors = turns.makes.space.same_space.processors ∙ before.processors;
+        })
+    | inr elsewhere ↦ turns.whole.space_is t kept (at_elsewhere t kept elsewhere at)
   ]
 
-  own_ready : (t : ℕ) (kept : Kept) → (row_of f').keeps ≡ Some t → slice_get (set spaces s now) t ≡ Some kept
-      → IsReady f' kept (space_at run.given (entries_in run.history ++ e ∷ []) t)
+  own_ready : (t : ℕ) (kept : Kept) → Keeps step.new t → slice_get (set m.spaces s now) t ≡ Some kept
+      → IsReady step.new kept (state_then m step t)
   own_ready t kept keeps at =
       let here = keeps_here t keeps in
-      let ready = (subst (λ x. LeftBy x f' now (after_named was.number (space_at run.given (entries_in run.history) s) e)) keeps left).1 in
-      subst (λ k. IsReady f' kept (space_at run.given (entries_in run.history ++ e ∷ []) k)) (sym here)
-      (subst (λ k. IsReady f' k (space_at run.given (entries_in run.history ++ e ∷ []) s)) (space_here kept (subst (λ k. slice_get (set spaces s now) k ≡ Some kept) here at))
-      (subst (IsReady f' now) state_here ready))
+      let ready = (subst (λ x. LeftBy x step.new now (after_named was.number (state_was m s) step.entry)) keeps left).1 in
+      subst (λ k. IsReady step.new kept (state_then m step k)) (sym here)
+      (subst (λ k. IsReady step.new k (state_then m step s))
+      (space_here kept (subst (λ k. slice_get (set m.spaces s now) k ≡ Some kept) here at))
+      (subst (IsReady step.new now) state_here ready))
 
-  others_ready : (t d : ℕ) (g : Flight) (kept : Kept) → d ≢ c → flight_at run.flights d ≡ Some g → (row_of g).keeps ≡ Some t
-      → slice_get (set spaces s now) t ≡ Some kept → IsReady g kept (space_at run.given (entries_in run.history ++ e ∷ []) t)
+  others_ready : (t d : ℕ) (g : Flight) (kept : Kept) → d ≢ step.actor → flight_at m.run.flights d ≡ Some g → (row_of g).keeps ≡ Some t
+      → slice_get (set m.spaces s now) t ≡ Some kept → IsReady g kept (state_then m step t)
   others_ready t d g kept other flies keeps at =
       let elsewhere = keeps_other t d g other flies keeps in
-      subst (IsReady g kept) (sym (state_elsewhere t elsewhere)) ((machine.flights d g flies).keeps t kept keeps (at_elsewhere t kept elsewhere at))
+      subst (IsReady g kept) (sym (state_elsewhere t elsewhere))
+      ((turns.whole.flights d g flies).keeps t kept keeps (at_elsewhere t kept elsewhere at))
 
   -- where it keeps no space it leaves this one at rest
-  rest_here : (o : Option ℕ) → (row_of f').keeps ≡ o → o ≢ Some s → IsAtRest now (space_at run.given (entries_in run.history ++ e ∷ []) s)
-  rest_here None keeps other = subst (IsAtRest now) state_here (subst (λ x. LeftBy x f' now (after_named was.number (space_at run.given (entries_in run.history) s) e)) keeps left).1
+  rest_here : (o : Option ℕ) → (row_of step.new).keeps ≡ o → o ≢ Some s → IsAtRest now (state_then m step s)
+  rest_here None keeps other =
+      subst (IsAtRest now) state_here (subst (λ x. LeftBy x step.new now (after_named was.number (state_was m s) step.entry)) keeps left).1
   rest_here (Some t) keeps other = absurd (other (ap Some (keeps_here t keeps)))
 
-  rest : (t : ℕ) (kept : Kept) → slice_get (set spaces s now) t ≡ Some kept → (row_of f').keeps ≢ Some t
-      → ((d : ℕ) (g : Flight) → d ≢ c → flight_at run.flights d ≡ Some g → (row_of g).keeps ≢ Some t)
-      → IsAtRest kept (space_at run.given (entries_in run.history ++ e ∷ []) t)
+  rest : (t : ℕ) (kept : Kept) → slice_get (set m.spaces s now) t ≡ Some kept → (row_of step.new).keeps ≢ Some t
+      → ((d : ℕ) (g : Flight) → d ≢ step.actor → flight_at m.run.flights d ≡ Some g → (row_of g).keeps ≢ Some t)
+      → IsAtRest kept (state_then m step t)
   rest t kept at own none = elim (cases_eq t s) [
     | inl here ↦
-        subst (λ k. IsAtRest kept (space_at run.given (entries_in run.history ++ e ∷ []) k)) (sym here)
-        (subst (λ k. IsAtRest k (space_at run.given (entries_in run.history ++ e ∷ []) s)) (space_here kept (subst (λ k. slice_get (set spaces s now) k ≡ Some kept) here at))
-        (rest_here (row_of f').keeps refl (λ is. own (is ∙ ap Some (sym here)))))
+        subst (λ k. IsAtRest kept (state_then m step k)) (sym here)
+        (subst (λ k. IsAtRest k (state_then m step s)) (space_here kept (subst (λ k. slice_get (set m.spaces s now) k ≡ Some kept) here at))
+        (rest_here (row_of step.new).keeps refl (λ is. own (is ∙ ap Some (sym here)))))
     | inr elsewhere ↦
         subst (IsAtRest kept) (sym (state_elsewhere t elsewhere))
-        (machine.rest t kept (at_elsewhere t kept elsewhere at)
-        (λ d g flies keeps. elim (cases_eq d c) [
+        (turns.whole.rest t kept (at_elsewhere t kept elsewhere at)
+        (λ d g flies keeps. elim (cases_eq d step.actor) [
           | inl is ↦
-              let same : f ≡ g = same_Some f g (sym turns.flies ∙ subst (λ n. flight_at run.flights n ≡ Some g) is flies) in
-              let kept_was : (row_of f).keeps ≡ Some t = subst (λ (x : Flight). (row_of x).keeps ≡ Some t) (sym same) keeps in
-              elsewhere (same_Some t s (sym (keeps_under f t kept_was) ∙ turns.under))
+              let same : step.old ≡ g = same_Some step.old g (sym turns.flies ∙ subst (λ n. flight_at m.run.flights n ≡ Some g) is flies) in
+              let kept_was : (row_of step.old).keeps ≡ Some t = subst (λ (x : Flight). (row_of x).keeps ≡ Some t) (sym same) keeps in
+              elsewhere (same_Some t s (sym (keeps_under step.old t kept_was) ∙ turns.under))
           | inr other ↦ none d g other flies keeps
         ]))
   ]
 
-  pub Goes-in : (o : Option Flight) → Lands (mark_of run.given c) (jobs_at run.jobs c) f' o → Goes run spaces (set spaces s now) pool after c f f' e o
+  pub Goes-in : (o : Option Flight) → Lands (mark_of m.run.given step.actor) (jobs_at m.run.jobs step.actor) step.new o
+      → Goes m step (set m.spaces s now) o
   Goes-in o lands = record {
     flies = turns.flies;
     entry = turns.makes.entry;
     fits = fits;
     lands = lands;
-    space_in = space_known run.given (entries_in run.history) f f' was now pool after e s turns.makes was_number (let in_space = within in let all = machine.told in omega (arith, in_space, all));
-    space_allows = space_allows run.given (entries_in run.history) f f' was now pool after e s turns.makes was_number;
-    count = length-set spaces s now;
+    space_in = space_known m.run.given (entries_in m.run.history) step.entry s in_space
+        (let below = within in let all = turns.whole.told in omega (arith, below, all));
+    space_allows = in_space.allowed;
+    count = length-set m.spaces s now;
     spaces_are = spaces_are;
     under = under_within;
     apart = λ t d g keeps other flies own. keeps_other t d g other flies own (keeps_here t keeps);

@@ -50,7 +50,8 @@ call_on spaces (Evict s page) is = is.0
 
 first_call : (Q : Call → Type 0) (c : ℕ) (line : Line) (lines : List Line) (call : Call) → Q line.call
     → ((n : ℕ) → slice_get (calls_of c lines) n ≡ Some call → Q call) → (b : Bool) (n : ℕ)
-    → slice_get (map (λ (l : Line). l.call) (cond b (line ∷ filter (λ (l : Line). l.processor == c) lines) (filter (λ (l : Line). l.processor == c) lines))) n ≡ Some call
+    → slice_get (map (λ (l : Line). l.call) (cond b (line ∷ filter (λ (l : Line). l.processor == c) lines)
+    (filter (λ (l : Line). l.processor == c) lines))) n ≡ Some call
     → Q call
 first_call Q c line lines call own rest false n at = rest n at
 first_call Q c line lines call own rest true zero at = subst Q (let e : Some line.call ≡ Some call = at in cc) own
@@ -61,7 +62,8 @@ pub call_of_line : (Q : Call → Type 0) (c : ℕ) (lines : List Line) → ((i :
     → (n : ℕ) (call : Call) → slice_get (calls_of c lines) n ≡ Some call → Q call
 call_of_line Q c [] all n call at = cc
 call_of_line Q c (line ∷ lines) all n call at =
-    first_call Q c line lines call (all 0 line (omega arith)) (λ k there. call_of_line Q c lines (λ i d below. all (suc i) d (omega (arith, below))) k call there) (line.processor == c) n at
+    first_call Q c line lines call (all 0 line (omega arith)) (λ k there. call_of_line Q c lines
+    (λ i d below. all (suc i) d (omega (arith, below))) k call there) (line.processor == c) n at
 
 pub length-calls : (c : ℕ) (lines : List Line) → length (calls_of c lines) ≤ length lines
 length-calls c lines =
@@ -70,14 +72,18 @@ length-calls c lines =
     omega (arith, passing, same)
 
 -- a line's call is one more of its processor, and none more of another
-one_more : (line : Line) (lines : List Line) (c : ℕ) → line.processor ≡ c → length (calls_of c (line ∷ lines)) ≡ length (calls_of c lines) + 1
+one_more : (line : Line) (lines : List Line) (c : ℕ) → line.processor ≡ c
+    → length (calls_of c (line ∷ lines)) ≡ length (calls_of c lines) + 1
 one_more line lines c is =
-    ap (λ b. length (map (λ (l : Line). l.call) (cond b (line ∷ filter (λ (l : Line). l.processor == c) lines) (filter (λ (l : Line). l.processor == c) lines)))) (eq-eqb line.processor c is)
+    ap (λ b. length (map (λ (l : Line). l.call) (cond b (line ∷ filter (λ (l : Line). l.processor == c) lines)
+    (filter (λ (l : Line). l.processor == c) lines)))) (eq-eqb line.processor c is)
     ∙ (let e : suc (length (calls_of c lines)) ≡ length (calls_of c lines) + 1 = omega arith in e)
 
-none_more : (line : Line) (lines : List Line) (c : ℕ) → (line.processor ≡ c → ⊥) → length (calls_of c (line ∷ lines)) ≡ length (calls_of c lines)
+none_more : (line : Line) (lines : List Line) (c : ℕ) → (line.processor ≡ c → ⊥)
+    → length (calls_of c (line ∷ lines)) ≡ length (calls_of c lines)
 none_more line lines c other =
-    ap (λ b. length (map (λ (l : Line). l.call) (cond b (line ∷ filter (λ (l : Line). l.processor == c) lines) (filter (λ (l : Line). l.processor == c) lines)))) (ne_eqb line.processor c other)
+    ap (λ b. length (map (λ (l : Line). l.call) (cond b (line ∷ filter (λ (l : Line). l.processor == c) lines)
+    (filter (λ (l : Line). l.processor == c) lines)))) (ne_eqb line.processor c other)
 
 -- how many calls some processors have together
 abbrev together : List Line → ℕ → ℕ → ℕ
@@ -91,7 +97,8 @@ together-more line lines a (suc n) =
     elim (cases_eq line.processor a) [
       | inl here ↦
           let one = one_more line lines a here in
-          let rest = sum_by-same (λ c. length (calls_of c lines)) (λ c. length (calls_of c (line ∷ lines))) (a + 1) n (λ k above. none_more line lines k (λ is. (omega (arith, here, is, above)))) in
+          let rest = sum_by-same (λ c. length (calls_of c lines)) (λ c. length (calls_of c (line ∷ lines))) (a + 1) n
+          (λ k above. none_more line lines k (λ is. (omega (arith, here, is, above)))) in
           omega (arith, before, after, one, rest)
       | inr other ↦
           let none = none_more line lines a other in
@@ -101,7 +108,9 @@ together-more line lines a (suc n) =
 
 together-none : (a n : ℕ) → together [] a n ≤ 0
 together-none a zero = omega arith
-together-none a (suc n) = (let first = sum_by-cons (λ c. length (calls_of c [])) a (range_with_len (a + 1) n) in let rest = together-none (a + 1) n in omega (arith, first, rest))
+together-none a (suc n) =
+    (let first = sum_by-cons (λ c. length (calls_of c [])) a (range_with_len (a + 1) n) in let rest = together-none (a + 1) n in
+    omega (arith, first, rest))
 
 -- at most as many as there are lines
 together-few : (lines : List Line) (a n : ℕ) → together lines a n ≤ length lines
@@ -117,7 +126,9 @@ calls_within most c [] all n call at = cc
 calls_within most c (line ∷ lines) all n call at = elim (cases_eq line.processor c) [
   | inl is ↦ subst (λ k. k < most) is (all 0 line (omega arith))
   | inr other ↦ calls_within most c lines (λ i d below. all (suc i) d (omega (arith, below))) n call
-      (sym (ap (λ b. slice_get (map (λ (l : Line). l.call) (cond b (line ∷ filter (λ (l : Line). l.processor == c) lines) (filter (λ (l : Line). l.processor == c) lines))) n) (ne_eqb line.processor c other)) ∙ at)
+      (sym (ap (λ b. slice_get (map (λ (l : Line). l.call)
+      (cond b (line ∷ filter (λ (l : Line). l.processor == c) lines) (filter (λ (l : Line). l.processor == c) lines))) n)
+      (ne_eqb line.processor c other)) ∙ at)
 ]
 
 at_jobs : (calls : List Call) (turns : List Job) (n : ℕ) (job : Job) → slice_get (map MakesCall calls ++ turns) n ≡ Some job
@@ -145,8 +156,10 @@ job_cases : (plan : Plan) (c n : ℕ) (job : Job) → slice_get (jobs_of c plan)
 job_cases plan c n job at = elim (at_jobs (calls_of c plan.calls) (cond (c == plan.processors) (turns_of plan.daemon) []) n job at) [
   | inl call ↦ inl call
   | inr turn ↦ elim (cases_eq c plan.processors) [
-    | inl here ↦ inr (turn_of plan c job plan.daemon refl here turn.0 (sym (ap (λ b. slice_get (cond b (turns_of plan.daemon) []) turn.0) (eq-eqb c plan.processors here)) ∙ turn.1))
-    | inr other ↦ (let none : None ≡ Some job = sym (ap (λ b. slice_get (cond b (turns_of plan.daemon) []) turn.0) (ne_eqb c plan.processors other)) ∙ turn.1 in cc)
+    | inl here ↦ inr (turn_of plan c job plan.daemon refl here turn.0
+        (sym (ap (λ b. slice_get (cond b (turns_of plan.daemon) []) turn.0) (eq-eqb c plan.processors here)) ∙ turn.1))
+    | inr other ↦ (let none : None ≡ Some job = sym (ap (λ b. slice_get (cond b (turns_of plan.daemon) []) turn.0)
+        (ne_eqb c plan.processors other)) ∙ turn.1 in cc)
   ]
 ]
 
@@ -168,18 +181,24 @@ kinds_of plan has c n job at = elim (job_cases plan c n job at) [
       subst (FitsMark (get_or (marks_of plan) c 0)) (sym call.1) (mark_below plan.processors (daemon_marks plan.daemon) c below)
   | inr turn ↦
       let d = turn.0 in
-      let mark : get_or (marks_of plan) c 0 ≡ d.low = ap (λ k. get_or (marks_of plan) k 0) turn.2 ∙ mark_behind plan.processors (daemon_marks plan.daemon) ∙ ap (λ o. get_or (daemon_marks o) 0 0) turn.1 in
+      let mark : get_or (marks_of plan) c 0 ≡ d.low =
+      ap (λ k. get_or (marks_of plan) k 0) turn.2 ∙ mark_behind plan.processors (daemon_marks plan.daemon)
+      ∙ ap (λ o. get_or (daemon_marks o) 0 0) turn.1 in
       subst (FitsMark (get_or (marks_of plan) c 0)) (sym turn.3) (mark, (subst IsDaemon turn.1 has.daemon_in).0.0)
 ]
 
 -- every job can be done
-pub can_do : (plan : Plan) → HasText plan → (spaces c n : ℕ) (job : Job) → spaces ≡ plan.spaces → slice_get (jobs_of c plan) n ≡ Some job → CanDo spaces job
+pub can_do : (plan : Plan) → HasText plan → (spaces c n : ℕ) (job : Job) → spaces ≡ plan.spaces → slice_get (jobs_of c plan) n ≡ Some job
+    → CanDo spaces job
 can_do plan has spaces c n job count at = elim (job_cases plan c n job at) [
   | inl call ↦ subst (CanDo spaces) (sym call.1)
       (call_of_line (CanFly spaces) c plan.calls
       (λ i d within.
       let line = (has.lines i d within).1 in
-      record { on = (let on = call_on plan.spaces (get_or plan.calls i d).call line in omega (arith, on, count)); can = (plan.spaces, line) })
+      record {
+        on = (let on = call_on plan.spaces (get_or plan.calls i d).call line in omega (arith, on, count));
+        can = (plan.spaces, line);
+      })
       n call.0 call.2)
   | inr turn ↦ subst (CanDo spaces) (sym turn.3) (subst IsDaemon turn.1 has.daemon_in).0
 ]
@@ -191,7 +210,9 @@ entries_of_calls : (calls : List Call) (turns : List Job)
 entries_of_calls [] turns = (let e : sum_by entries_of_job turns ≡ 8 * 0 + sum_by entries_of_job turns = omega arith in e)
 entries_of_calls (call ∷ calls) turns =
     let rest = entries_of_calls calls turns in
-    sum_by-cons entries_of_job (MakesCall call) (map MakesCall calls ++ turns) ∙ (let e : 8 + sum_by entries_of_job (map MakesCall calls ++ turns) ≡ 8 * suc (length calls) + sum_by entries_of_job turns = omega (arith, rest) in e)
+    sum_by-cons entries_of_job (MakesCall call) (map MakesCall calls ++ turns)
+    ∙ (let e : 8 + sum_by entries_of_job (map MakesCall calls ++ turns) ≡ 8 * suc (length calls) + sum_by entries_of_job turns = omega
+    (arith, rest) in e)
 
 -- what the daemon's turns add, where it is the processor
 abbrev turns_at : Plan → ℕ → ℕ
@@ -213,9 +234,11 @@ entries_of_jobs plan c =
 none_behind : (plan : Plan) (a n : ℕ) → plan.processors < a → sum_by (turns_at plan) (range_with_len a n) ≡ 0
 none_behind plan a zero past = refl
 none_behind plan a (suc n) past =
-    let first : turns_at plan a ≡ 0 = ap (λ b. cond b (entries_of_turns plan.daemon) 0) (ne_eqb a plan.processors (λ is. omega (arith, past, is))) in
+    let first : turns_at plan a ≡ 0 = ap (λ b. cond b (entries_of_turns plan.daemon) 0)
+    (ne_eqb a plan.processors (λ is. omega (arith, past, is))) in
     let rest = none_behind plan (a + 1) n (omega (arith, past)) in
-    sum_by-cons (turns_at plan) a (range_with_len (a + 1) n) ∙ (let e : turns_at plan a + sum_by (turns_at plan) (range_with_len (a + 1) n) ≡ 0 = omega (arith, first, rest) in e)
+    sum_by-cons (turns_at plan) a (range_with_len (a + 1) n) ∙ (let e : turns_at plan a + sum_by (turns_at plan) (range_with_len (a + 1) n)
+    ≡ 0 = omega (arith, first, rest) in e)
 
 once : (plan : Plan) (a n : ℕ) → sum_by (turns_at plan) (range_with_len a n) ≤ entries_of_turns plan.daemon
 once plan a zero = omega arith
@@ -223,7 +246,8 @@ once plan a (suc n) =
     let all = sum_by-cons (turns_at plan) a (range_with_len (a + 1) n) in
     elim (cases_eq a plan.processors) [
       | inl here ↦
-          let first : turns_at plan a ≡ entries_of_turns plan.daemon = ap (λ b. cond b (entries_of_turns plan.daemon) 0) (eq-eqb a plan.processors here) in
+          let first : turns_at plan a ≡ entries_of_turns plan.daemon =
+          ap (λ b. cond b (entries_of_turns plan.daemon) 0) (eq-eqb a plan.processors here) in
           let rest = none_behind plan (a + 1) n (omega (arith, here)) in
           omega (arith, all, first, rest)
       | inr other ↦
@@ -285,7 +309,8 @@ actors_few plan has =
 
 -- A processor's first flight.
 
-first_in : (c : ℕ) (o : Option Job) (f : Flight) → option_map (flight_for c 0) o ≡ Some f → (job : Job) × (o ≡ Some job) × (flight_for c 0 job ≡ f)
+first_in : (c : ℕ) (o : Option Job) (f : Flight) → option_map (flight_for c 0) o ≡ Some f
+    → (job : Job) × (o ≡ Some job) × (flight_for c 0 job ≡ f)
 first_in c None f is = absurd (none-some f is)
 first_in c (Some job) f is = (job, refl, same_Some (flight_for c 0 job) f is)
 
@@ -307,23 +332,30 @@ length-used f n stores enough = length-map (take n stores) f ∙ length-take-le 
 -- a setting has as many spaces as its trace
 pub length-told : (plan : Plan) (stores : List Stored) → plan.spaces ≤ length stores → (given : Given) → given ≡ setting_over plan stores
     → length given.told ≡ plan.spaces
-length-told plan stores enough given is = ap (λ (g : Given). length g.told) is ∙ length-used (λ (s : Stored). s.told) plan.spaces stores enough
+length-told plan stores enough given is = ap (λ (g : Given). length g.told) is
+    ∙ length-used (λ (s : Stored). s.told) plan.spaces stores enough
 
--- A trace over stores, of which the spaces use the first.
-module _ (plan : Plan) (trace : HasText plan) (stores : List Stored) (enough : plan.spaces ≤ length stores) (unused : List Stored)
-    (jobs : List (List Job)) (are : jobs ≡ map (λ c. jobs_of c plan) (range_with_len 0 (actors plan))) (spaces : List Kept)
-    (new : AreNewSpaces (setting_over plan stores) spaces) where
+-- A trace over stores, of which the spaces use the first: the jobs of its processors, and spaces that are new.
+pub record Begins (plan : Plan) (stores : List Stored) (jobs : List (List Job)) (spaces : List Kept) : Type 0 where
+  pub trace : HasText plan
+  pub enough : plan.spaces ≤ length stores
+  pub are : jobs ≡ map (λ c. jobs_of c plan) (range_with_len 0 (actors plan))
+  pub new : AreNewSpaces (setting_over plan stores) spaces
+
+module _ (plan : Plan) (stores unused : List Stored) (jobs : List (List Job)) (spaces : List Kept)
+    (begins : Begins plan stores jobs spaces) where
   abbrev start : Running
   start = record { given = setting_over plan stores; jobs = jobs; flights = first_flights jobs; history = []; unused = unused }
 
   processors : length jobs ≡ actors plan
-  processors = ap length are ∙ length-map-range_with_len (λ c. jobs_of c plan) 0 (actors plan)
+  processors = ap length begins.are ∙ length-map-range_with_len (λ c. jobs_of c plan) 0 (actors plan)
 
   count : length spaces ≡ plan.spaces
-  count = new.count ∙ length-told plan stores enough (setting_over plan stores) refl
+  count = begins.new.count ∙ length-told plan stores begins.enough (setting_over plan stores) refl
 
   jobs_in : (c : ℕ) → c < actors plan → jobs_at jobs c ≡ jobs_of c plan
-  jobs_in c below = ap (λ l. jobs_at l c) are ∙ get_or-map-range_with_len (λ k. jobs_of k plan) 0 (actors plan) c c [] below (omega arith)
+  jobs_in c below =
+      ap (λ l. jobs_at l c) begins.are ∙ get_or-map-range_with_len (λ k. jobs_of k plan) 0 (actors plan) c c [] below (omega arith)
 
   jobs_past : (c : ℕ) → actors plan ≤ c → jobs_at jobs c ≡ []
   jobs_past c past = get_or_past jobs c [] (let all = processors in omega (arith, all, past))
@@ -337,10 +369,10 @@ module _ (plan : Plan) (trace : HasText plan) (stores : List Stored) (enough : p
   ]
 
   kinds : (c : ℕ) → AreOfMark (mark_of start.given c) (jobs_at jobs c)
-  kinds = by_jobs (λ c job. FitsMark (mark_of start.given c) job) (kinds_of plan trace)
+  kinds = by_jobs (λ c job. FitsMark (mark_of start.given c) job) (kinds_of plan begins.trace)
 
   can : (c n : ℕ) (job : Job) → slice_get (jobs_at jobs c) n ≡ Some job → CanDo (length spaces) job
-  can = by_jobs (λ c job. CanDo (length spaces) job) (λ c n job at. can_do plan trace (length spaces) c n job count at)
+  can = by_jobs (λ c job. CanDo (length spaces) job) (λ c n job at. can_do plan begins.trace (length spaces) c n job count at)
 
   entries_at : (c : ℕ) → sum_by entries_of_job (jobs_at jobs c) ≤ 8 * length (calls_of c plan.calls) + turns_at plan c
   entries_at c = elim (cases_lt c (actors plan)) [
@@ -351,7 +383,8 @@ module _ (plan : Plan) (trace : HasText plan) (stores : List Stored) (enough : p
   -- each job makes an entry, so there are no more of them than entries
   jobs_few : (own : List Job) → length own ≤ sum_by entries_of_job own
   jobs_few [] = omega arith
-  jobs_few (MakesCall call ∷ own) = (let rest = jobs_few own in let all = sum_by-cons entries_of_job (MakesCall call) own in omega (arith, rest, all))
+  jobs_few (MakesCall call ∷ own) =
+      (let rest = jobs_few own in let all = sum_by-cons entries_of_job (MakesCall call) own in omega (arith, rest, all))
   jobs_few (Turn low ∷ own) = (let rest = jobs_few own in let all = sum_by-cons entries_of_job (Turn low) own in omega (arith, rest, all))
 
   first_flight : (c : ℕ) → c < length jobs → flight_at (first_flights jobs) c ≡ flight_of c 0 (jobs_at jobs c)
@@ -361,7 +394,8 @@ module _ (plan : Plan) (trace : HasText plan) (stores : List Stored) (enough : p
   known = length-map-range_with_len (λ c. flight_of c 0 (jobs_at jobs c)) 0 (length jobs)
 
   -- a flight is of its processor's first job
-  first : (c : ℕ) (f : Flight) → flight_at (first_flights jobs) c ≡ Some f → (job : Job) × (slice_get (jobs_at jobs c) 0 ≡ Some job) × (flight_for c 0 job ≡ f)
+  first : (c : ℕ) (f : Flight) → flight_at (first_flights jobs) c ≡ Some f
+      → (job : Job) × (slice_get (jobs_at jobs c) 0 ≡ Some job) × (flight_for c 0 job ≡ f)
   first c f flies =
       let below = get_or_within (first_flights jobs) c f flies in
       let all = known in
@@ -395,11 +429,13 @@ module _ (plan : Plan) (trace : HasText plan) (stores : List Stored) (enough : p
   left_few : (c : ℕ) → left_at start c ≤ 8 * length (calls_of c plan.calls) + turns_at plan c
   left_few c = elim (cases_lt c (length jobs)) [
     | inl below ↦
-        let at : left_at start c ≡ sum_by entries_of_job (jobs_at jobs c) = ap (entries_left (jobs_at jobs c)) (first_flight c below) ∙ first_left c (mark_of start.given c) (jobs_at jobs c) (kinds c) in
+        let at : left_at start c ≡ sum_by entries_of_job (jobs_at jobs c) =
+        ap (entries_left (jobs_at jobs c)) (first_flight c below) ∙ first_left c (mark_of start.given c) (jobs_at jobs c) (kinds c) in
         let own = entries_at c in
         omega (arith, at, own)
     | inr past ↦
-        let at : left_at start c ≡ 0 = ap (entries_left (jobs_at jobs c)) (get_or_past (first_flights jobs) c None (let all = known in omega (arith, all, past))) in
+        let at : left_at start c ≡ 0 = ap (entries_left (jobs_at jobs c))
+        (get_or_past (first_flights jobs) c None (let all = known in omega (arith, all, past))) in
         omega (arith, at)
   ]
 
@@ -409,7 +445,8 @@ module _ (plan : Plan) (trace : HasText plan) (stores : List Stored) (enough : p
   progress_first : (c : ℕ) → c < length jobs
       → at_rest (mark_of start.given c) 0 ≡ progress_by_flight (mark_of start.given c) (jobs_at jobs c) (flight_at (first_flights jobs) c)
   progress_first c below =
-      sym (first_progress c (mark_of start.given c) (jobs_at jobs c) (kinds c)) ∙ ap (progress_by_flight (mark_of start.given c) (jobs_at jobs c)) (sym (first_flight c below))
+      sym (first_progress c (mark_of start.given c) (jobs_at jobs c) (kinds c))
+      ∙ ap (progress_by_flight (mark_of start.given c) (jobs_at jobs c)) (sym (first_flight c below))
 
   lawful : IsLawful start
   lawful =
@@ -419,29 +456,42 @@ module _ (plan : Plan) (trace : HasText plan) (stores : List Stored) (enough : p
         agrees = Agrees-legal start.given [] tt;
         progress = λ c below. ap Some (progress_first c below);
         answers = λ c below. ap (λ (p : Progress). enumerate_from 0 (calls_among (take p.made (jobs_at jobs c)))) (progress_first c below);
-        between = λ c f flies. (let is = first c f flies in subst (λ (x : Flight). is_between x.purpose x.phase ≡ true) is.2 (starts c is.0 is.1).between);
+        between = λ c f flies. (let is = first c f flies in subst (λ (x : Flight). is_between x.purpose x.phase ≡ true) is.2
+            (starts c is.0 is.1).between);
         flying = λ c f flies. (let is = flights c f flies in record { job = is.job; going = is.going });
         one_keeper = λ s c d f g flies flies' keeps keeps'. absurd (keeps_none c f s flies keeps);
       }
 
-  IsMachine-start : (capacity : ℕ) → entries_of_trace plan ≤ capacity → IsMachine start spaces (start_frames plan.sizes plan.frames (actors plan)) capacity
+  IsMachine-start : (capacity : ℕ) → entries_of_trace plan ≤ capacity
+      → IsMachine start spaces (start_frames plan.sizes plan.frames (actors plan)) capacity
   IsMachine-start capacity fits =
       record {
         lawful = lawful;
         marks = sym processors;
         kinds = kinds;
-        told = sym new.count;
-        faults = length-used (λ (s : Stored). s.faults) plan.spaces stores enough ∙ sym count;
+        told = sym begins.new.count;
+        faults = length-used (λ (s : Stored). s.faults) plan.spaces stores begins.enough ∙ sym count;
         known = known;
         frames = refl;
-        few_jobs = λ c. (let few = jobs_few (jobs_at jobs c) in let own = entries_at c in let calls = length-calls c plan.calls in let turns = at_most_turns plan (c == plan.processors) in let daemon = turns_few plan.daemon trace.daemon_in in omega (arith, few, own, calls, turns, daemon, trace.few));
-        few_spaces = (let few = trace.spaces_in.1 in let all = count in omega (arith, few, all));
+        few_jobs = λ c. (let few = jobs_few (jobs_at jobs c) in let own = entries_at c in let calls = length-calls c plan.calls in
+            let turns =
+            at_most_turns plan (c == plan.processors) in let daemon = turns_few plan.daemon begins.trace.daemon_in in
+            omega (arith, few, own, calls, turns, daemon, begins.trace.few));
+        few_spaces = (let few = begins.trace.spaces_in.1 in let all = count in omega (arith, few, all));
         jobs = can;
         flights = flights;
-        space_is = λ s kept at. record { number = (new.new s kept at).number_is; frames = (new.new s kept at).frames_are; processors = (new.new s kept at).processors_are ∙ sym processors };
-        rest = λ s kept at none. record { resting = (new.new s kept at).resting; stands = (new.new s kept at).stands; next = refl };
+        space_is = λ s kept at. record {
+          number = (begins.new.new s kept at).number_is;
+          frames = (begins.new.new s kept at).frames_are;
+          processors = (begins.new.new s kept at).processors_are ∙ sym processors;
+        };
+        rest = λ s kept at none. record {
+          resting = (begins.new.new s kept at).resting;
+          stands = (begins.new.new s kept at).stands;
+          next = refl;
+        };
         room = (let few = all_few in omega (arith, few, fits));
-        few = (let few = all_few in let most = few_entries plan trace in omega (arith, few, most));
+        few = (let few = all_few in let most = few_entries plan begins.trace in omega (arith, few, most));
       }
 
 -- whatever its parts are called
@@ -451,9 +501,10 @@ pub IsMachine-started : (plan : Plan) → HasText plan → (stores : List Stored
     → AreNewSpaces run.given spaces → pool ≡ start_frames plan.sizes plan.frames (actors plan) → entries_of_trace plan ≤ capacity
     → IsMachine run spaces pool capacity
 IsMachine-started plan trace stores enough run spaces pool capacity given jobs same_flights none new same_pool room =
-    let new' = subst (λ (g : Given). AreNewSpaces g spaces) given new in
-    let same : run ≡ start plan trace stores enough run.unused run.jobs jobs spaces new' =
+    let begins : Begins plan stores run.jobs spaces =
+    record { trace = trace; enough = enough; are = jobs; new = subst (λ (g : Given). AreNewSpaces g spaces) given new } in
+    let same : run ≡ start plan stores run.unused run.jobs spaces begins =
     λ i. record { given = given i; jobs = run.jobs; flights = same_flights i; history = none i; unused = run.unused } in
     subst (λ r. IsMachine r spaces pool capacity) (sym same)
-    (subst (λ p. IsMachine (start plan trace stores enough run.unused run.jobs jobs spaces new') spaces p capacity) (sym same_pool)
-    (IsMachine-start plan trace stores enough run.unused run.jobs jobs spaces new' capacity room))
+    (subst (λ p. IsMachine (start plan stores run.unused run.jobs spaces begins) spaces p capacity) (sym same_pool)
+    (IsMachine-start plan stores run.unused run.jobs spaces begins capacity room))

@@ -27,7 +27,8 @@ use Rattle.pager_core.proofs.Lists.{slice_get-push}
 
 map-reverse : {X Y : Type 0} (f : X → Y) (xs : List X) → map f (reverse xs) ≡ reverse (map f xs)
 map-reverse f [] = refl
-map-reverse f (x ∷ xs) = ap (map f) (reverse_onto xs x []) ∙ map_push f (reverse xs) x ∙ ap (λ l. l ++ f x ∷ []) (map-reverse f xs) ∙ sym (reverse_onto (map f xs) (f x) [])
+map-reverse f (x ∷ xs) = ap (map f) (reverse_onto xs x []) ∙ map_push f (reverse xs) x ∙ ap (λ l. l ++ f x ∷ []) (map-reverse f xs)
+    ∙ sym (reverse_onto (map f xs) (f x) [])
 
 -- stores that stand behind others, last first, come before them in their order
 pub in_order : {P : Type 0} (seen : P → Stored) (others all : List P) (own : List Stored) → map seen all ≡ map seen others ++ reverse own
@@ -56,16 +57,16 @@ length-given_back seen others turned spaces are =
     omega (arith, all, both, own, left, same, long)
 
 -- the last of the stores goes to a space that comes behind the others
-pub in_order-more : {P : Type 0} (seen : P → Stored) (all left fewer : List P) (store : P) (spaces more : List Kept) (space : Kept)
-    → map seen all ≡ map seen left ++ reverse (map (λ (k : Kept). k.store) spaces) → left ≡ fewer ++ store ∷ []
-    → more ≡ spaces ++ space ∷ [] → space.store ≡ seen store → map seen all ≡ map seen fewer ++ reverse (map (λ (k : Kept). k.store) more)
-in_order-more seen all left fewer store spaces more space behind last pushed is =
+pub in_order-more : {P : Type 0} (seen : P → Stored) (all fewer : List P) (store : P) (spaces : List Kept) (space : Kept)
+    → map seen all ≡ map seen (fewer ++ store ∷ []) ++ reverse (map (λ (k : Kept). k.store) spaces) → space.store ≡ seen store
+    → map seen all ≡ map seen fewer ++ reverse (map (λ (k : Kept). k.store) (spaces ++ space ∷ []))
+in_order-more seen all fewer store spaces space behind is =
     let own = reverse (map (λ (k : Kept). k.store) spaces) in
-    let turned : reverse (map (λ (k : Kept). k.store) more) ≡ seen store ∷ own =
-    ap (λ l. reverse (map (λ (k : Kept). k.store) l)) pushed ∙ ap reverse (map_push (λ (k : Kept). k.store) spaces space)
-    ∙ reverse-append (map (λ (k : Kept). k.store) spaces) (space.store ∷ []) ∙ ap (λ x. x ∷ own) is in
-    behind ∙ ap (λ l. map seen l ++ own) last ∙ ap (λ l. l ++ own) (map_push seen fewer store)
-    ∙ append_assoc (map seen fewer) (seen store ∷ []) own ∙ ap (λ l. map seen fewer ++ l) (sym turned)
+    let turned : reverse (map (λ (k : Kept). k.store) (spaces ++ space ∷ [])) ≡ seen store ∷ own =
+    ap reverse (map_push (λ (k : Kept). k.store) spaces space) ∙ reverse-append (map (λ (k : Kept). k.store) spaces) (space.store ∷ [])
+    ∙ ap (λ x. x ∷ own) is in
+    behind ∙ ap (λ l. l ++ own) (map_push seen fewer store) ∙ append_assoc (map seen fewer) (seen store ∷ []) own
+    ∙ ap (λ l. map seen fewer ++ l) (sym turned)
 
 pub turned_back : {P : Type 0} (seen : P → Stored) (xs ys : List P) → ys ≡ reverse xs → map seen (reverse ys) ≡ map seen xs
 turned_back seen xs ys turned = ap (λ l. map seen (reverse l)) turned ∙ ap (map seen) (reverse-reverse xs)
@@ -105,10 +106,9 @@ left_over spaces others all n are count =
 
 -- What is read off the stores one by one.
 
-pub read_more : {X Y : Type 0} (f : X → Y) (xs xs' : List X) (x : X) (ys ys' : List Y) (y : Y) → xs' ≡ xs ++ x ∷ [] → ys' ≡ ys ++ y ∷ []
-    → ys ≡ map f xs → y ≡ f x → ys' ≡ map f xs'
-read_more f xs xs' x ys ys' y more read are is =
-    read ∙ ap (λ l. l ++ y ∷ []) are ∙ ap (λ z. map f xs ++ z ∷ []) is ∙ sym (map_push f xs x) ∙ sym (ap (map f) more)
+pub read_more : {X Y : Type 0} (f : X → Y) (xs : List X) (x : X) (ys : List Y) (y : Y) → ys ≡ map f xs → y ≡ f x
+    → ys ++ y ∷ [] ≡ map f (xs ++ x ∷ [])
+read_more f xs x ys y are is = ap (λ l. l ++ y ∷ []) are ∙ ap (λ z. map f xs ++ z ∷ []) is ∙ sym (map_push f xs x)
 
 -- what holds of each of the stores
 abbrev pub Each : (Stored → Type 0) → List Stored → Type 0
@@ -127,21 +127,23 @@ IsZeroIfTold store = store.told ≡ true → TellsZero store
 
 -- each space is as a run begins with it, whatever was told of its store that is so
 abbrev pub AreNew : Capacity → List Kept → Type 0
-AreNew room spaces = (s : ℕ) (kept : Kept) (told : Bool) → slice_get spaces s ≡ Some kept → (told ≡ true → TellsZero kept.store) → IsNew room.sizes room.frames room.processors s told kept.store.faults kept
+AreNew room spaces =
+    (s : ℕ) (kept : Kept) (told : Bool) → slice_get spaces s ≡ Some kept → (told ≡ true → TellsZero kept.store)
+    → IsNew room.sizes room.frames room.processors s told kept.store.faults kept
 
 -- what is read off the store of this number
 read_at : {X Y : Type 0} (f : X → Y) (d : Y) (xs : List X) (i : ℕ) (x : X) → slice_get xs i ≡ Some x → get_or (map f xs) i d ≡ f x
 read_at f d xs i x at = get_or_from_slice_get (map f xs) i (f x) d (slice_get-map f xs i ∙ ap (option_map f) at)
 
 -- rooms for the stores that the setting is over
-pub AreRoomsOver-made : (frames : ℕ) (z : SizeSet) (marks : List ℕ) (stores : List Stored) (given : Given) (rooms : List Capacity) (n processors : ℕ)
-    → given ≡ given_over frames z marks stores → n ≡ length stores → processors ≡ length marks
-    → rooms ≡ replicate n (record { frames = frames; processors = processors; sizes = z }) → Each IsZeroIfTold stores
+pub AreRoomsOver-made : (frames : ℕ) (z : SizeSet) (marks : List ℕ) (stores : List Stored) (given : Given) (rooms : List Capacity)
+    → given ≡ given_over frames z marks stores
+    → rooms ≡ replicate (length stores) (record { frames = frames; processors = length marks; sizes = z }) → Each IsZeroIfTold stores
     → AreRoomsOver given stores rooms
-AreRoomsOver-made frames z marks stores given rooms n processors is count many are zeros =
+AreRoomsOver-made frames z marks stores given rooms is are zeros =
     let told_count = length-map stores (λ (s : Stored). s.told) in
     subst (λ (g : Given). AreRoomsOver g stores rooms) (sym is) (record {
-      rooms_are = are ∙ (λ i. replicate ((count ∙ sym told_count) i) (record { frames = frames; processors = many i; sizes = z }));
+      rooms_are = are ∙ ap (λ n. replicate n (record { frames = frames; processors = length marks; sizes = z })) (sym told_count);
       told = λ s store at told. zeros s store at (sym (read_at (λ (x : Stored). x.told) false stores s store at) ∙ told);
       faults = λ s store at. read_at (λ (x : Stored). x.faults) 0 stores s store at;
     })
@@ -153,13 +155,17 @@ pub are_new : (given : Given) (rooms : List Capacity) (spaces : List Kept) (othe
     → AreRoomsOver given (take (length rooms) all) rooms → AreNewSpaces given spaces
 are_new given rooms spaces others all are count each over =
     let own : List Stored = map (λ (k : Kept). k.store) spaces in
-    let first : take (length rooms) all ≡ own = ap (take (length rooms)) are ∙ ap (λ m. take m (own ++ others)) (sym (length-map spaces (λ (k : Kept). k.store) ∙ count)) ∙ take-append_seam own others in
+    let first : take (length rooms) all ≡ own =
+    ap (take (length rooms)) are ∙ ap (λ m. take m (own ++ others)) (sym (length-map spaces (λ (k : Kept). k.store) ∙ count))
+    ∙ take-append_seam own others in
     let room : Capacity = record { frames = given.frames; processors = length given.marks; sizes = given.sizes } in
-    let alike : All (λ r. r ≡ room) rooms = subst (All (λ r. r ≡ room)) (sym over.rooms_are) (All-replicate (λ r. r ≡ room) (length given.told) room refl) in
+    let alike : All (λ r. r ≡ room) rooms = subst (All (λ r. r ≡ room)) (sym over.rooms_are)
+    (All-replicate (λ r. r ≡ room) (length given.told) room refl) in
     record {
       count = count ∙ ap length over.rooms_are ∙ length-replicate (length given.told) room;
       new = λ s kept at.
-          let store : slice_get (take (length rooms) all) s ≡ Some kept.store = ap (λ l. slice_get l s) first ∙ slice_get-map (λ (k : Kept). k.store) spaces s ∙ ap (option_map (λ (k : Kept). k.store)) at in
+          let store : slice_get (take (length rooms) all) s ≡ Some kept.store =
+          ap (λ l. slice_get l s) first ∙ slice_get-map (λ (k : Kept). k.store) spaces s ∙ ap (option_map (λ (k : Kept). k.store)) at in
           subst (λ f. IsNew given.sizes given.frames (length given.marks) s (is_told given s) f kept) (sym (over.faults s kept.store store))
           (each room alike s kept (is_told given s) at (over.told s kept.store store));
     }
@@ -174,22 +180,26 @@ pub turned_rooms : {P : Type 0} (seen : P → Stored) (stores turned : List P) (
     → turned ≡ reverse stores → n ≤ length stores → length given.told ≡ n → AreRoomsOver given (take n (map seen stores)) rooms
     → AreRoomsTurned seen turned given rooms n
 turned_rooms seen stores turned given rooms n round within told over =
-    let many : length rooms ≡ n = ap length over.rooms_are ∙ length-replicate (length given.told) (record { frames = given.frames; processors = length given.marks; sizes = given.sizes }) ∙ told in
+    let many : length rooms ≡ n = ap length over.rooms_are ∙ length-replicate (length given.told)
+    (record { frames = given.frames; processors = length given.marks; sizes = given.sizes }) ∙ told in
     let long : length turned ≡ length stores = ap length round ∙ length-reverse stores in
     record {
       count = many;
       enough = omega (arith, many, long, within);
-      over = subst (λ l. AreRoomsOver given l rooms) (ap (take n) (sym (turned_back seen stores turned round)) ∙ ap (λ m. take m (map seen (reverse turned))) (sym many)) over;
+      over = subst (λ l. AreRoomsOver given l rooms) (ap (take n) (sym (turned_back seen stores turned round))
+          ∙ ap (λ m. take m (map seen (reverse turned))) (sym many)) over;
     }
 
 pub AreNew-push : (room : Capacity) (spaces more : List Kept) (space : Kept) → AreNew room spaces → more ≡ spaces ++ space ∷ []
-    → ((told : Bool) → (told ≡ true → TellsZero space.store) → IsNew room.sizes room.frames room.processors (length spaces) told space.store.faults space)
+    → ((told : Bool) → (told ≡ true → TellsZero space.store) → IsNew room.sizes room.frames room.processors
+    (length spaces) told space.store.faults space)
     → AreNew room more
 AreNew-push room spaces more space are pushed new s kept told at zeros =
     elim (slice_get-push spaces space s kept (subst (λ l. slice_get l s ≡ Some kept) pushed at)) [
       | inl before ↦ are s kept told before zeros
       | inr last ↦ subst (λ n. IsNew room.sizes room.frames room.processors n told kept.store.faults kept) (sym last.0)
-          (subst (λ k. IsNew room.sizes room.frames room.processors (length spaces) told k.store.faults k) last.1 (new told (λ is. subst (λ k. TellsZero k.store) (sym last.1) (zeros is))))
+          (subst (λ k. IsNew room.sizes room.frames room.processors (length spaces) told k.store.faults k) last.1
+          (new told (λ is. subst (λ k. TellsZero k.store) (sym last.1) (zeros is))))
     ]
 
 -- The end.

@@ -4,7 +4,6 @@ use Rattle.std.specs.Option.{IsSomeAnd}
 use Rattle.std.proofs.lemmas.Bool.{false≢true}
 use Rattle.std.proofs.lemmas.Option.{same_Some}
 use Rattle.pager_model.specs.declared.entry.Want.{Want}
-use Rattle.pager_model.specs.declared.entry.What.TheVariants.{Take}
 use Rattle.pager_model.specs.Flat.{space_of_call}
 use Rattle.pager_model.specs.FrameStates.{FrameState, Taking, layout_of, used_at, frame_of, take_frame, state_taken, counted, HasNothing}
 use Rattle.pager_model.specs.Agreement.{OwnsBy}
@@ -22,7 +21,8 @@ use Rattle.pager_core.specs.Flights.{IsReady, WantsFrame}
 use Rattle.pager_core.specs.Rows.{call_in, is_store, page_or_zero, row_of}
 use Rattle.pager_core.specs.Steps.{Makes, AreAgreed}
 use Rattle.pager_core.proofs.AnswerSteps.{allowed-same}
-use Rattle.pager_core.proofs.EntrySteps.{IsLeft, Leaves-on, same_space}
+use Rattle.pager_core.proofs.EntrySteps.{IsLeft, Leaves-on, SpaceAndFrames, same_space}
+use Rattle.pager_core.proofs.MadeEntries.{made_on_frames}
 use Rattle.pager_core.proofs.Purposes.{in_phase, with_phase, same_work, by_ready}
 
 -- the place of a page is a used place
@@ -43,7 +43,11 @@ IsLeft-placed f page frame want was now st can on wants places stands next = rec
   stands = stands;
   next = next;
   found = record {
-    lawful = record { page_is = wants.lacks.lawful.page_is; in_space = wants.lacks.lawful.in_space; allowed = allowed-same was now (call_in f.purpose) places.same ∙ wants.lacks.lawful.allowed };
+    lawful = record {
+      page_is = wants.lacks.lawful.page_is;
+      in_space = wants.lacks.lawful.in_space;
+      allowed = allowed-same was now (call_in f.purpose) places.same ∙ wants.lacks.lawful.allowed;
+    };
     pending = places.pending;
     none_clearing = places.same_clearing ∙ wants.lacks.resting.none_clearing;
     none_paged = places.same_paged ∙ wants.lacks.resting.none_paged;
@@ -53,37 +57,38 @@ IsLeft-placed f page frame want was now st can on wants places stands next = rec
 }
 
 -- The page gets the frame that is taken.
-module _ (f : Flight) (page : ℕ) (want : Want) (was now : Kept) (before : FrameState) (t : Taking) where
+module _ (f : Flight) (page : ℕ) (want : Want) (was : SpaceAndFrames) (now : Kept) (t : Taking) where
   Makes-take :
-      (st : SpaceState) → IsReady (in_phase f (Frame page want)) was st → AreAgreed was before → HasNothing before f.processor
-      → take_frame before (space_of_call (call_in f.purpose)) page want ≡ Some t → Places was now page t.frame
-      → Makes (in_phase f (Frame page want)) (in_phase f (Fill page t.frame)) was now st before (counted t.state) (take_entry f.processor (space_of_call (call_in f.purpose)) page t.frame want)
+      (st : SpaceState) → IsReady (in_phase f (Frame page want)) was.space st → AreAgreed was.space was.frames
+      → HasNothing was.frames f.processor
+      → take_frame was.frames (space_of_call (call_in f.purpose)) page want ≡ Some t → Places was.space now page t.frame
+      → Makes (in_phase f (Frame page want)) (in_phase f (Fill page t.frame)) was.space now st was.frames (counted t.state)
+      (take_entry f.processor (space_of_call (call_in f.purpose)) page t.frame want)
   Makes-take st ready agree nothing takes places =
       let own = space_of_call (call_in f.purpose) in
-      let on : own ≡ was.number = same_Some _ _ ready.under in
-      let absent : frame_at was page ≡ None = ready.found.lacks.absent in
-      let goes : ℕ → Bool → Option Progress = λ p claimed. Some (record { made = f.number; doing = Filling (record { space = own; page = p; writing = cond claimed (Some (is_store (call_in f.purpose))) None }) t.frame }) in
+      let on : own ≡ was.space.number = same_Some _ _ ready.under in
+      let absent : frame_at was.space page ≡ None = ready.found.lacks.absent in
+      let goes : ℕ → Bool → Option Progress = λ p claimed. Some (record {
+        made = f.number;
+        doing = Filling (record { space = own; page = p; writing = cond claimed (Some (is_store (call_in f.purpose))) None }) t.frame;
+      }) in
       record {
-        entry = record {
+        entry = made_on_frames (record {
           same_work = same_work f (Frame page want) (Fill page t.frame);
-          processor = refl;
-          parts = ((own, refl), refl);
-          frames_allow = λ named. (
-            ap (λ s. frame_of before s page) on ∙ sym (agree.pages page) ∙ absent,
-            nothing,
-            subst (λ o. IsSomeAnd o (λ (u : Taking). u.frame ≡ t.frame)) (sym takes) refl,
-          );
-          frames_after = ap (λ o. counted (state_taken before o)) (sym takes);
           -- none was claimed, so it isn't told whether the access stores
           in_order = ap (λ p. goes p false) (ap page_or_zero (sym ready.found.lacks.lawful.page_is)) ∙ ap (goes _) (sym ready.fits.phase);
-          reply = refl;
-          answer = refl;
-          between = refl;
           fewer = omega arith;
-        };
-        space = Leaves-on (in_phase f (Fill page t.frame)) was now st f.processor own true (Take page t.frame want) on (same_space places.same) ready.next tt
+          on_way = refl;
+          no_answer = refl;
+        }) ((own, refl), refl) (
+          ap (λ s. frame_of was.frames s page) on ∙ sym (agree.pages page) ∙ absent,
+          nothing,
+          subst (λ o. IsSomeAnd o (λ (u : Taking). u.frame ≡ t.frame)) (sym takes) refl,
+        ) (ap (λ o. counted (state_taken was.frames o)) (sym takes));
+        space = Leaves-on (take_entry f.processor own page t.frame want) (ap Some on) (same_space places.same) ready.next tt
             (ap (λ rs. wanted rs page) ready.stands.beside.regions ∙ ready.found.wanted, ready.stands.base page ∙ absent)
-            (IsLeft-placed f page t.frame want was now (space_after st (take_entry f.processor own page t.frame want)) ready.fits.can on ready.found places
+            (IsLeft-placed f page t.frame want was.space now
+            (space_after st (take_entry f.processor own page t.frame want)) ready.fits.can on ready.found places
             (places.stands st f.processor want ready.stands) refl);
       }
 
@@ -97,16 +102,34 @@ HasNothing-wanting f page want before phase owns =
 pub own_wanting : (f : Flight) (page : ℕ) (want : Want) (kept : Kept) (st : SpaceState) → f.phase ≡ Frame page want → IsReady f kept st
     → space_of_call (call_in f.purpose) ≡ kept.number
 own_wanting f page want kept st phase =
-    by_ready f (Frame page want) kept st refl phase (λ g to. space_of_call (call_in g.purpose) ≡ kept.number) (λ ready. same_Some _ _ ready.under)
+    by_ready f (Frame page want) kept st refl phase (λ g to. space_of_call (call_in g.purpose) ≡ kept.number)
+    (λ ready. same_Some _ _ ready.under)
 
-pub frame_taken : (f : Flight) (page own frame : ℕ) (want : Want) (was now : Kept) (before after : FrameState) (t : Taking)
-    → f.phase ≡ Frame page want → own ≡ space_of_call (call_in f.purpose) → frame ≡ t.frame → AreAgreed was before
-    → OwnsBy before f.processor (row_of f).progress.doing → take_frame before own page want ≡ Some t → after ≡ counted t.state
-    → Places was now page t.frame → (st : SpaceState) → IsReady f was st
-    → Makes f (with_phase f (Fill page frame)) was now st before after (take_entry f.processor own page frame want)
-frame_taken f page own frame want was now before after t phase same numbered agree owns takes counts places st =
-    subst (λ n. IsReady f was st → Makes f (with_phase f (Fill page n)) was now st before after (take_entry f.processor own page n want)) (sym numbered)
-    (subst (λ u. IsReady f was st → Makes f (with_phase f (Fill page t.frame)) was now st before u (take_entry f.processor own page t.frame want)) (sym counts)
-    (subst (λ s. IsReady f was st → Makes f (with_phase f (Fill page t.frame)) was now st before (counted t.state) (take_entry f.processor s page t.frame want)) (sym same)
-    (by_ready f (Frame page want) was st refl phase (λ g to. Makes g (to (Fill page t.frame)) was now st before (counted t.state) (take_entry f.processor (space_of_call (call_in f.purpose)) page t.frame want))
-    (λ ready. Makes-take f page want was now before t st ready agree (HasNothing-wanting f page want before phase owns) (ap (λ s. take_frame before s page want) (sym same) ∙ takes) places))))
+-- A frame of this number is taken for a page of a space, from frames and to those after it, and the page gets it.
+pub record IsTaken (from : FrameState) (was now : SpaceAndFrames) (own page frame : ℕ) (want : Want) : Type 0 where
+  pub taking : Taking
+  pub takes : take_frame from own page want ≡ Some taking
+  pub frame_is : frame ≡ taking.frame
+  pub after_is : now.frames ≡ counted taking.state
+  pub places : Places was.space now.space page taking.frame
+
+pub frame_taken : (f : Flight) (page own frame : ℕ) (want : Want) (was now : SpaceAndFrames) → f.phase ≡ Frame page want
+    → own ≡ space_of_call (call_in f.purpose) → AreAgreed was.space was.frames → OwnsBy was.frames f.processor (row_of f).progress.doing
+    → IsTaken was.frames was now own page frame want → (st : SpaceState) → IsReady f was.space st
+    → Makes f (with_phase f (Fill page frame)) was.space now.space st was.frames now.frames (take_entry f.processor own page frame want)
+frame_taken f page own frame want was now phase same agree owns taken st =
+    let t = taken.taking in
+    subst (λ n. IsReady f was.space st
+    → Makes f (with_phase f (Fill page n)) was.space now.space st was.frames now.frames (take_entry f.processor own page n want))
+    (sym taken.frame_is)
+    (subst (λ u. IsReady f was.space st
+    → Makes f (with_phase f (Fill page t.frame)) was.space now.space st was.frames u (take_entry f.processor own page t.frame want))
+    (sym taken.after_is)
+    (subst (λ s. IsReady f was.space st
+    → Makes f (with_phase f (Fill page t.frame)) was.space now.space st was.frames (counted t.state)
+    (take_entry f.processor s page t.frame want)) (sym same)
+    (by_ready f (Frame page want) was.space st refl phase
+    (λ g to. Makes g (to (Fill page t.frame)) was.space now.space st was.frames (counted t.state)
+    (take_entry f.processor (space_of_call (call_in f.purpose)) page t.frame want))
+    (λ ready. Makes-take f page want was now.space t st ready agree (HasNothing-wanting f page want was.frames phase owns)
+    (ap (λ s. take_frame was.frames s page want) (sym same) ∙ taken.takes) taken.places))))

@@ -15,6 +15,7 @@ use Rattle.pager_core.specs.declared.flight.Purpose.TheVariants.{Call as OfCall,
 use Rattle.pager_core.specs.Flights.{Fits}
 use Rattle.pager_core.specs.Rows.{evictions_in, is_of_call, mark_in, row_of}
 use Rattle.pager_core.specs.Steps.{MakesOnFrames}
+use Rattle.pager_core.proofs.MadeEntries.{made_on_frames}
 use Rattle.pager_core.proofs.Purposes.{with_phase}
 
 -- a flight of a turn
@@ -38,20 +39,16 @@ claim_entry c v = record { processor = c; space = None; frames = true; what = Cl
 
 claims : (c n mark evictions : ℕ) (before : FrameState) (v : Victim) → Fits (turn c n mark evictions Look) → HasNothing before c
     → IsVictim before v.space v.page v.frame → is_short before mark ≡ true → evictions < mark
-    → MakesOnFrames (turn c n mark evictions Look) (turn c n mark evictions (Out v)) before (counted (claimed before v.frame (Some c))) (claim_entry c v)
+    → MakesOnFrames (turn c n mark evictions Look) (turn c n mark evictions (Out v)) before (counted (claimed before v.frame (Some c)))
+    (claim_entry c v)
 claims c n mark evictions before v fits nothing victim short fewer = record {
-  entry = record {
+  entry = made_on_frames (record {
     same_work = record { processor = refl; number = refl; same_kind = refl; call = refl; mark = refl };
-    processor = refl;
-    parts = (refl, refl);
-    frames_allow = λ named. (nothing, victim, may_claim before mark (omega (arith, fewer)) short);
-    frames_after = refl;
     in_order = ap (λ b. leads b n (Claiming (ForTurn mark evictions) v)) (lt-ltb evictions mark fewer);
-    reply = refl;
-    answer = refl;
-    between = refl;
     fewer = omega (arith, fewer);
-  };
+    on_way = refl;
+    no_answer = refl;
+  }) (refl, refl) (nothing, victim, may_claim before mark (omega (arith, fewer)) short) refl;
   no_space = refl;
   fits = record { kind = fewer; can = fits.can; phase = refl };
   keeps_none = refl;
@@ -59,9 +56,12 @@ claims c n mark evictions before v fits nothing victim short fewer = record {
 
 -- so it does of a flight of a turn
 pub claimed_for_turn :
-    (f : Flight) (before : FrameState) (v : Victim) → is_of_call f.purpose ≡ false → f.phase ≡ Look → Fits f → OwnsBy before f.processor (row_of f).progress.doing → IsVictim before v.space v.page v.frame → is_short before (mark_in f.purpose) ≡ true → evictions_in f.purpose < mark_in f.purpose
+    (f : Flight) (before : FrameState) (v : Victim) → is_of_call f.purpose ≡ false → f.phase ≡ Look → Fits f
+    → OwnsBy before f.processor (row_of f).progress.doing → IsVictim before v.space v.page v.frame
+    → is_short before (mark_in f.purpose) ≡ true → evictions_in f.purpose < mark_in f.purpose
     → MakesOnFrames f (with_phase f (Out v)) before (counted (claimed before v.frame (Some f.processor))) (claim_entry f.processor v)
 claimed_for_turn f before v of_turn phase fits owns victim short fewer =
-    subst (λ (g : Flight). Fits g → OwnsBy before f.processor (row_of g).progress.doing → MakesOnFrames g (with_phase g (Out v)) before (counted (claimed before v.frame (Some f.processor))) (claim_entry f.processor v))
+    subst (λ (g : Flight). Fits g → OwnsBy before f.processor (row_of g).progress.doing
+    → MakesOnFrames g (with_phase g (Out v)) before (counted (claimed before v.frame (Some f.processor))) (claim_entry f.processor v))
     (sym (turn-is f (mark_in f.purpose) (evictions_in f.purpose) Look (of_turn-is f.purpose of_turn) phase))
     (λ fits owns. claims f.processor f.number (mark_in f.purpose) (evictions_in f.purpose) before v fits owns victim short fewer) fits owns

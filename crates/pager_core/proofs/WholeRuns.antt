@@ -19,7 +19,8 @@ use Rattle.pager_core.specs.Running.{Running, calls_among, jobs_at, progress_by_
 
 -- A legal history in which each processor's answers are its calls, and whose lists have led to the end of its jobs, is that of a whole run,
 -- whoever made it.
-pub IsWholeRun-legal : (given : Given) (jobs : List (List Job)) (history : List Numbered) → IsLegal given (entries_in history) → IsNumbered history
+pub IsWholeRun-legal : (given : Given) (jobs : List (List Job)) (history : List Numbered) → IsLegal given (entries_in history)
+    → IsNumbered history
     → ((c : ℕ) → c < length jobs → answers_in (entries_of c (entries_in history)) ≡ enumerate_from 0 (calls_among (jobs_at jobs c)))
     → ((c : ℕ) → c < length jobs → progress_at given (entries_in history) c ≡ Some (at_rest (mark_of given c) (length (jobs_at jobs c))))
     → length given.marks ≡ length jobs → IsWholeRun given jobs history
@@ -30,7 +31,8 @@ IsWholeRun-legal given jobs history legal numbered answers whole all =
       answers = answers;
       whole = whole;
       partition = IsPartition-legal given (entries_in history) legal;
-      none_held = NothingHeld-legal given (entries_in history) legal (λ c below. (length (jobs_at jobs c), whole c (omega (arith, all, below))));
+      none_held = NothingHeld-legal given (entries_in history) legal (λ c below.
+          (length (jobs_at jobs c), whole c (omega (arith, all, below))));
       agrees = Agrees-legal given (entries_in history) legal;
     }
 

@@ -1,6 +1,7 @@
 -- What the fields of a machine keep true.
 use Rattle.std.specs.Prelude.{ℕ, ◌≡◌, ◌≢◌, ◌+◌, ◌*◌, ◌<◌, ◌≤◌, List, length, sum_by, slice_get, slice_index_or, Option, Some, None, IfSome}
 use Rattle.std.specs.List.{range_with_len}
+use Rattle.pager_model.specs.Bounds.{most_spaces}
 use Rattle.pager_model.specs.declared.call.Call.{Call}
 use Rattle.pager_model.specs.FrameStates.{FrameState}
 use Rattle.pager_model.specs.Flat.{space_of_call}
@@ -83,7 +84,7 @@ pub record IsMachine (run : Running) (spaces : List Kept) (pool : FrameState) (c
   pub frames : pool ≡ frames_at run.given (entries_in run.history)
   -- no processor has more jobs than a trace makes entries
   pub few_jobs : (c : ℕ) → length (jobs_at run.jobs c) ≤ most_entries
-  pub few_spaces : length spaces ≤ 16
+  pub few_spaces : length spaces ≤ most_spaces
   -- every job can be done
   pub jobs : (c n : ℕ) (job : Job) → slice_get (jobs_at run.jobs c) n ≡ Some job → CanDo (length spaces) job
   pub flights : (c : ℕ) (f : Flight) → flight_at run.flights c ≡ Some f → IsFlying run spaces c f

@@ -145,12 +145,28 @@ both (Some s) = Both s
 -- the row of a phase that an entry led to, or the first: it keeps what the table of locks says of its place
 abbrev pub placed : (Option ℕ → Needs) → Option ℕ → Progress → Next → ℕ → ℕ → Row
 placed made own p next steps entries =
-    record { needs = made (under_in own p.doing); keeps = keeps_in own p.doing; progress = p; next = next; steps = steps; entries = entries; outcome = Going }
+    record {
+      needs = made (under_in own p.doing);
+      keeps = keeps_in own p.doing;
+      progress = p;
+      next = next;
+      steps = steps;
+      entries = entries;
+      outcome = Going;
+    }
 
 -- the row of a phase that a step without an entry led to: it keeps the space that this step was made under, where the next is made too
 abbrev pub found : (Option ℕ → Needs) → Option ℕ → Progress → Next → ℕ → ℕ → Row
 found made own p next steps entries =
-    record { needs = made (under_in own p.doing); keeps = under_in own p.doing; progress = p; next = next; steps = steps; entries = entries; outcome = Going }
+    record {
+      needs = made (under_in own p.doing);
+      keeps = under_in own p.doing;
+      progress = p;
+      next = next;
+      steps = steps;
+      entries = entries;
+      outcome = Going;
+    }
 
 -- where a processor is whose store failed: a sync or an evict failed by itself, and an access by a page's read or a victim's write
 abbrev pub faulted : Access → ℕ → ℕ → Option ℕ → Doing
@@ -159,7 +175,8 @@ faulted access space count (Some page) = Uncopied space page count
 
 -- the row of a victim's page that can't be paged out, which an entry led to where the write failed
 abbrev pub unclaiming : Option ℕ → ℕ → Purpose → Victim → Option ℕ → Row
-unclaiming own n purpose v None = found both own (at n (Claiming (claims_for purpose) v)) Anyone (left_by purpose 2 2 5) (left_by purpose 6 2 4)
+unclaiming own n purpose v None = found both own (at n (Claiming (claims_for purpose) v)) Anyone (left_by purpose 2 2 5)
+    (left_by purpose 6 2 4)
 unclaiming own n purpose v (Some count) =
     placed both own (at n (Unwritten (claims_for purpose) v count)) Anyone (left_by purpose 2 2 5) (left_by purpose 6 2 4)
 
@@ -170,7 +187,15 @@ kept_dropping own (OfTurn mark evictions) v = keeps_in own (Holding (ForTurn mar
 
 abbrev pub dropping : Option ℕ → ℕ → Purpose → Victim → Row
 dropping own n purpose v =
-    record { needs = both own; keeps = kept_dropping own purpose v; progress = at n (Holding (claims_for purpose) v); next = Anyone; steps = left_by purpose 2 1 5; entries = left_by purpose 5 1 4; outcome = Going }
+    record {
+      needs = both own;
+      keeps = kept_dropping own purpose v;
+      progress = at n (Holding (claims_for purpose) v);
+      next = Anyone;
+      steps = left_by purpose 2 1 5;
+      entries = left_by purpose 5 1 4;
+      outcome = Going;
+    }
 
 -- the row of a phase, for the flight of a processor with this many calls answered or turns made, in this space of its own and for this
 -- purpose
@@ -178,12 +203,16 @@ abbrev pub row_in : ℕ → ℕ → Option ℕ → Purpose → Phase → Row
 row_in c n own purpose Start = placed alone own (at n Idle) Anyone 10 8
 row_in c n own purpose (Evict page) = found both own (at n Idle) Anyone 1 8
 row_in c n own purpose (Clear first len) = found both own (at n Idle) Anyone 2 8
-row_in c n own purpose (Gone first len) = placed alone own (at n (Cleared (space_of_call (call_in purpose)) first len)) (AfterClear c first len) 1 7
+row_in c n own purpose (Gone first len) = placed alone own (at n (Cleared (space_of_call (call_in purpose)) first len))
+    (AfterClear c first len) 1 7
 row_in c n own purpose (Frame page want) = found both own (at n Idle) Anyone 9 8
 row_in c n own purpose (Short wired claims held) = placed alone own (at n (Refusing wired claims held)) Anyone 1 7
-row_in c n own purpose (Out v) = placed both own (at n (Claiming (claims_for purpose) v)) Anyone (left_by purpose 8 4 5) (left_by purpose 7 3 4)
-row_in c n own purpose (Write v) = found alone own (at n (Claiming (claims_for purpose) v)) Anyone (left_by purpose 7 3 5) (left_by purpose 7 3 4)
-row_in c n own purpose (Hand v) = placed both own (at n (Emptied (claims_for purpose) v)) (Only c) (left_by purpose 6 2 5) (left_by purpose 6 2 4)
+row_in c n own purpose (Out v) = placed both own (at n (Claiming (claims_for purpose) v)) Anyone (left_by purpose 8 4 5)
+    (left_by purpose 7 3 4)
+row_in c n own purpose (Write v) = found alone own (at n (Claiming (claims_for purpose) v)) Anyone (left_by purpose 7 3 5)
+    (left_by purpose 7 3 4)
+row_in c n own purpose (Hand v) = placed both own (at n (Emptied (claims_for purpose) v)) (Only c) (left_by purpose 6 2 5)
+    (left_by purpose 6 2 4)
 row_in c n own purpose (Unclaim v fault) = unclaiming own n purpose v fault
 row_in c n own purpose (Back v) = placed alone own (at n (Holding (claims_for purpose) v)) Anyone 5 5
 row_in c n own purpose (Drop v) = dropping own n purpose v
@@ -191,12 +220,29 @@ row_in c n own purpose Late = placed alone own (at n (AnswersLate (access_in pur
 row_in c n own purpose (Use page want v) = found both own (at n (Holding (claims_for purpose) v)) Anyone 4 5
 row_in c n own purpose (Fill page frame) = placed alone own (at n (Filling (access_in purpose) frame)) (Only c) 3 4
 row_in c n own purpose (Unfill page frame count) = placed both own (at n (Unfilling (access_in purpose) frame count)) (Only c) 2 3
-row_in c n own purpose (Fault space count) = placed alone own (at n (faulted (access_in purpose) space count (copied_page (call_in purpose)))) Anyone 1 2
+row_in c n own purpose (Fault space count) = placed alone own
+    (at n (faulted (access_in purpose) space count (copied_page (call_in purpose)))) Anyone 1 2
 row_in c n own purpose (Lack space) = placed alone own (at n (Lacking (access_in purpose) space)) Anyone 1 2
 row_in c n own purpose Look =
-    record { needs = alone own; keeps = None; progress = at n (looking purpose); next = Anyone; steps = left_looking purpose 5; entries = left_looking purpose 4; outcome = Going }
+    record {
+      needs = alone own;
+      keeps = None;
+      progress = at n (looking purpose);
+      next = Anyone;
+      steps = left_looking purpose 5;
+      entries = left_looking purpose 4;
+      outcome = Going;
+    }
 row_in c n own purpose Rested =
-    record { needs = NoneNeeded; keeps = None; progress = at (n + 1) (Looking (mark_in purpose) 0); next = Anyone; steps = 0; entries = 0; outcome = TurnEnded }
+    record {
+      needs = NoneNeeded;
+      keeps = None;
+      progress = at (n + 1) (Looking (mark_in purpose) 0);
+      next = Anyone;
+      steps = 0;
+      entries = 0;
+      outcome = TurnEnded;
+    }
 row_in c n own purpose (Ended reply) =
     record { needs = NoneNeeded; keeps = None; progress = at (n + 1) Idle; next = Anyone; steps = 0; entries = 0; outcome = Answered reply }
 

@@ -23,7 +23,8 @@ pub record IsNew (z : SizeSet) (frames processors number : ℕ) (told : Bool) (f
 -- Room for the spaces of a setting over these stores, of which what it says is so: each room is for the frames,
 -- the processors and the page sizes of the setting.
 pub record AreRoomsOver (given : Given) (stores : List Stored) (rooms : List Capacity) : Type 0 where
-  pub rooms_are : rooms ≡ replicate (length given.told) (record { frames = given.frames; processors = length given.marks; sizes = given.sizes })
+  pub rooms_are : rooms ≡ replicate (length given.told)
+      (record { frames = given.frames; processors = length given.marks; sizes = given.sizes })
   pub told : (s : ℕ) (store : Stored) → slice_get stores s ≡ Some store → is_told given s ≡ true → TellsZero store
   pub faults : (s : ℕ) (store : Stored) → slice_get stores s ≡ Some store → faults_at_entry given s ≡ store.faults
 

@@ -156,7 +156,8 @@ pub record IsLawful (run : Running) : Type 0 where
   pub agrees : Agrees run.given (entries_in run.history)
   pub progress : (c : ℕ) → c < length run.jobs → progress_at run.given (entries_in run.history) c ≡ Some (progress_of_actor run c)
   pub answers : (c : ℕ) → c < length run.jobs
-      → answers_in (entries_of c (entries_in run.history)) ≡ enumerate_from 0 (calls_among (take (progress_of_actor run c).made (jobs_at run.jobs c)))
+      → answers_in (entries_of c (entries_in run.history)) ≡ enumerate_from 0
+      (calls_among (take (progress_of_actor run c).made (jobs_at run.jobs c)))
   pub between : (c : ℕ) (f : Flight) → flight_at run.flights c ≡ Some f → is_between f.purpose f.phase ≡ true
   pub flying : (c : ℕ) (f : Flight) → flight_at run.flights c ≡ Some f → IsOfJob (jobs_at run.jobs c) f
   pub one_keeper : (s c d : ℕ) (f g : Flight) → flight_at run.flights c ≡ Some f → flight_at run.flights d ≡ Some g
@@ -168,7 +169,8 @@ pub record IsWholeRun (given : Given) (jobs : List (List Job)) (history : List N
   pub legal : IsLegal given (entries_in history)
   pub numbered : IsNumbered history
   pub answers : (c : ℕ) → c < length jobs → answers_in (entries_of c (entries_in history)) ≡ enumerate_from 0 (calls_among (jobs_at jobs c))
-  pub whole : (c : ℕ) → c < length jobs → progress_at given (entries_in history) c ≡ Some (at_rest (mark_of given c) (length (jobs_at jobs c)))
+  pub whole : (c : ℕ) → c < length jobs → progress_at given (entries_in history) c
+      ≡ Some (at_rest (mark_of given c) (length (jobs_at jobs c)))
   pub partition : IsPartition given.frames (frames_at given (entries_in history))
   pub none_held : NothingHeld (frames_at given (entries_in history))
   pub agrees : Agrees given (entries_in history)

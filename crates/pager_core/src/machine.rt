@@ -1,5 +1,6 @@
 ghost use Rattle.std.specs.Prelude.{◌≡◌, ◌≢◌, ℕ, ◌+◌, ◌*◌, ◌^◌, ◌<◌, ◌≤◌, ◌↔◌, Bool, [], ◌∷◌, ◌++◌, Some, None, IfOk, IfErr, IfSome, IfNone, IsTrue, length, map, option_map, drop, take, replicate, true, slice_get};
 ghost use Rattle.std.specs.List.{range_with_len};
+ghost use Rattle.pager_model.specs.Bounds.{most_actors};
 ghost use Rattle.pager_model.specs.Agreement.{OwnsBy};
 ghost use Rattle.pager_model.specs.Counts.{counts};
 ghost use Rattle.pager_model.specs.FrameStates.{start_frames};
@@ -315,7 +316,7 @@ fn entries_of_turns(daemon: Option<Daemon>) -> usize
 
 /// For each processor the flight of its first job, where it has one.
 fn first_of_each(alloc: Global, jobs: &[Vec<Job>]) -> Result<Vec<Option<Flight>>, NoMemory>
-    requires { length jobs.now ≤ 17 }
+    requires { length jobs.now ≤ most_actors }
     ensures { IfOk result (λ flights. flights.items ≡ first_flights (map (λ v. v.items) jobs.now)) }
 {
     let mut flights = Vec::with_capacity(alloc, jobs.len())?;

@@ -14,7 +14,7 @@ ghost use Rattle.pager_model.specs.Stored.{Stored, TellsZero};
 ghost use Rattle.space_core.specs.Standing.{Kept};
 ghost use Rattle.pager_core.specs.RunParts.{AreRoomsOver, AreNewSpaces, AreAtRest, most_in_history};
 ghost use Rattle.pager_core.specs.Sums.{AreFewer, sum_at, tiles_in, promotions_in, demotions_in};
-ghost use Rattle.pager_model.specs.Bounds.{most_frames};
+ghost use Rattle.pager_model.specs.Bounds.{most_frames, most_spaces, most_actors};
 
 use frame_pool::Pool;
 use pager_model::{Daemon, Job, Line, NoMemory, Setting, Sizes, Summary, Trace};
@@ -43,8 +43,8 @@ impl<S: Store + Send + Drop> RunRoom<S> {
         marks: &[u32],
         stores: &[S],
     ) -> Result<RunRoom<S>, NoMemory>
-        requires spaces { (1 ≤ length stores.now) × (length stores.now ≤ 16) }
-        requires processors { (1 ≤ length marks.now) × (length marks.now ≤ 17) }
+        requires spaces { (1 ≤ length stores.now) × (length stores.now ≤ most_spaces) }
+        requires processors { (1 ≤ length marks.now) × (length marks.now ≤ most_actors) }
         requires whole { frames % 512 ≡ 0 }
         requires frames { frames ≤ most_frames }
         ensures setting { IfOk result (λ room. room.setting ≡ given_over frames sizes marks.now (map S.seen stores.now)) }
@@ -77,13 +77,14 @@ pub struct SpaceRooms<S: Store + Send + Drop> {
 
 impl<S: Store + Send + Drop> Model for SpaceRooms<S> {
     ghost use Rattle.std.specs.Prelude.{◌≡◌, ◌≤◌, List, [], length, vec_capacity};
+    ghost use Rattle.pager_model.specs.Bounds.{most_spaces};
     ghost use Rattle.space_core.specs.Rooms.{Capacity};
 
     ghost Value = { List Capacity };
 
     ghost view = { λ r. r.rooms.items };
 
-    ghost invariant = { λ r. (length r.rooms.items ≤ 16) × (r.spaces.items ≡ []) × (length r.rooms.items ≤ vec_capacity r.spaces) };
+    ghost invariant = { λ r. (length r.rooms.items ≤ most_spaces) × (r.spaces.items ≡ []) × (length r.rooms.items ≤ vec_capacity r.spaces) };
 }
 
 impl<S: Store + Send + Drop> SpaceRooms<S> {
@@ -96,8 +97,8 @@ impl<S: Store + Send + Drop> SpaceRooms<S> {
         count: u32,
     ) -> Result<SpaceRooms<S>, NoMemory>
         requires frames { frames ≤ most_frames }
-        requires processors { processors ≤ 17 }
-        requires few { count ≤ 16 }
+        requires processors { processors ≤ most_actors }
+        requires few { count ≤ most_spaces }
         ensures { IfOk result (λ rooms. rooms ≡ replicate count (record { frames = frames; processors = processors; sizes = sizes })) }
     {
         let mut rooms = Vec::with_capacity(alloc, count as usize)?;
@@ -148,7 +149,7 @@ impl<S: Store + Send + Drop> Gathered<S> {
     /// the others, and come behind them. Takes no memory.
     pub fn of(history: History, spaces: Vec<Space<S>>, pool: Pool, unused: Vec<S>) -> Gathered<S>
         requires rest { (given : Given) × AreAtRest given (entries_in history.items) spaces.items pool }
-        requires few { (length history.items ≤ most_in_history) × (length spaces.items ≤ 16) }
+        requires few { (length history.items ≤ most_in_history) × (length spaces.items ≤ most_spaces) }
         requires room { length unused.items + length spaces.items ≤ vec_capacity unused }
         ensures history { result.history ≡ history }
         ensures stores { map S.seen result.stores.items ≡ map (λ (k : Kept). k.store) spaces.items ++ map S.seen (reverse unused.items) }
@@ -191,8 +192,8 @@ fn setting_of<S: Store + Send + Drop>(
     marks: &[u32],
     stores: &[S],
 ) -> Result<Setting, NoMemory>
-    requires spaces { (1 ≤ length stores.now) × (length stores.now ≤ 16) }
-    requires processors { (1 ≤ length marks.now) × (length marks.now ≤ 17) }
+    requires spaces { (1 ≤ length stores.now) × (length stores.now ≤ most_spaces) }
+    requires processors { (1 ≤ length marks.now) × (length marks.now ≤ most_actors) }
     ensures given { IfOk result (λ g. g ≡ given_over frames sizes marks.now (map S.seen stores.now)) }
     ensures told { IfOk result (λ g. (s : ℕ) (store : Stored) → slice_get (map S.seen stores.now) s ≡ Some store → store.told ≡ true → TellsZero store) }
     ensures capped { IfOk result (λ _. AreCapped (length stores.now) (map S.seen stores.now)) }
@@ -221,7 +222,7 @@ fn give_back<S: Store + Send + Drop>(spaces: Vec<Space<S>>, stores: &mut Vec<S>)
 
 /// How many tiles of each size the spaces have.
 fn tiles_of<S: Store + Send + Drop>(spaces: &[Space<S>]) -> [u32; 4]
-    requires few { length spaces.now ≤ 16 }
+    requires few { length spaces.now ≤ most_spaces }
     ensures { result ≡ tiles_in spaces.now 0 ∷ tiles_in spaces.now 1 ∷ tiles_in spaces.now 2 ∷ tiles_in spaces.now 3 ∷ [] }
 {
     let mut tiles = [0; 4];

@@ -28,7 +28,8 @@ with_listed-in z used k r ms yields = cond-true _ _ _ (ap (λ o. same_size o (So
 pub with_listed-out : (z : SizeSet) (used : List Bool) (k : ℕ) (r : Reservation) (ms : List Member)
     → (yield_in z (is_used used) r ≡ Some k → ⊥) → with_listed z used k (Some r) ms ≡ ms
 with_listed-out z used k r ms other =
-    elim (same_size (yield_in z (is_used used) r) (Some k)) as (λ v. same_size (yield_in z (is_used used) r) (Some k) ≡ v → cond v (with_member (member_of r) ms) ms ≡ ms) [
+    elim (same_size (yield_in z (is_used used) r) (Some k)) as (λ v. same_size (yield_in z (is_used used) r) (Some k) ≡ v
+    → cond v (with_member (member_of r) ms) ms ≡ ms) [
       | true ↦ λ same. absurd (other (same_size_from _ k same))
       | false ↦ λ differs. refl
     ] refl
@@ -42,7 +43,8 @@ with_listed-swap z used k (Some r) (Some q) ms =
     let in_list : Reservation → Bool = λ x. same_size (yield_in z (is_used used) x) (Some k) in
     let with_r : List Member → List Member = with_member (member_of r) in
     let with_q : List Member → List Member = with_member (member_of q) in
-    elim (in_list r) as (λ v. cond v (with_r (cond (in_list q) (with_q ms) ms)) (cond (in_list q) (with_q ms) ms) ≡ cond (in_list q) (with_q (cond v (with_r ms) ms)) (cond v (with_r ms) ms)) [
+    elim (in_list r) as (λ v. cond v (with_r (cond (in_list q) (with_q ms) ms)) (cond (in_list q) (with_q ms) ms)
+    ≡ cond (in_list q) (with_q (cond v (with_r ms) ms)) (cond v (with_r ms) ms)) [
       | true ↦ elim (in_list q) as (λ w. with_r (cond w (with_q ms) ms) ≡ cond w (with_q (with_r ms)) (with_r ms)) [
         | true ↦ with_member-swap (member_of r) (member_of q) ms
         | false ↦ refl
@@ -84,7 +86,9 @@ All-list_of z P used k [] holds = All-nil P
 All-list_of z P used k (None ∷ rs) holds = All-list_of z P used k rs (λ id r is yields. holds (suc id) r is yields)
 All-list_of z P used k (Some r ∷ rs) holds =
     let rest = All-list_of z P used k rs (λ id q is yields. holds (suc id) q is yields) in
-    elim (same_size (yield_in z (is_used used) r) (Some k)) as (λ v. same_size (yield_in z (is_used used) r) (Some k) ≡ v → All P (cond v (with_member (member_of r) (list_of z used k rs)) (list_of z used k rs))) [
+    elim (same_size (yield_in z (is_used used) r) (Some k)) as
+    (λ v. same_size (yield_in z (is_used used) r) (Some k) ≡ v
+    → All P (cond v (with_member (member_of r) (list_of z used k rs)) (list_of z used k rs))) [
       | true ↦ λ same. All-with_member P (member_of r) (list_of z used k rs) (holds 0 r refl (same_size_from _ k same)) rest
       | false ↦ λ differs. rest
     ] refl
@@ -113,7 +117,8 @@ pub oldest_in-found : (z : SizeSet) (used : List Bool) (k : ℕ) (records : List
     → (r : Reservation) × (get_or records id None ≡ Some r) × (yield_in z (is_used used) r ≡ Some k)
 oldest_in-found z used k records id placed found =
     oldest_in-holds (Yields z used k records) (list_of z used k records) id
-    (All-list_of z (λ m. Yields z used k records m.frame) used k records (λ at r is yields. (r, ap (λ n. get_or records n None) (placed at r is).named ∙ is, yields)))
+    (All-list_of z (λ m. Yields z used k records m.frame) used k records
+    (λ at r is yields. (r, ap (λ n. get_or records n None) (placed at r is).named ∙ is, yields)))
     found
 
 pub oldest_in-none : (z : SizeSet) (used : List Bool) (k : ℕ) (records : List (Option Reservation)) (id : ℕ) (r : Reservation)
@@ -144,7 +149,8 @@ list_at-other lists (suc (suc k)) (suc (suc j)) ms k_small j_small other = absur
 list_of-out : (z : SizeSet) (used : List Bool) (k : ℕ) (records : List (Option Reservation)) (id : ℕ) (r : Reservation)
     → get_or records id None ≡ Some r → (yield_in z (is_used used) r ≡ Some k → ⊥)
     → list_of z used k records ≡ list_of z used k (set records id None)
-list_of-out z used k records id r is other = list_of-open z used k records id r is ∙ with_listed-out z used k r (list_of z used k (set records id None)) other
+list_of-out z used k records id r is other = list_of-open z used k records id r is
+    ∙ with_listed-out z used k r (list_of z used k (set records id None)) other
 
 -- a reservation has one yield
 one_yield : (z : SizeSet) (used : List Bool) (r : Reservation) (k j : ℕ) → yield_in z (is_used used) r ≡ Some k → j ≢ k
@@ -161,8 +167,10 @@ AreListed-with z lists used records id k r are is yields small =
     let with_r = with_member (member_of r) (list_at lists k) in
     let here : with_r ≡ list_of z used k records = ap (with_member (member_of r)) (are k small) ∙ sym whole in
     λ j j_small. elim (cases_eq j k) [
-      | inl same ↦ subst (λ n. list_at (with_list lists k with_r) n ≡ list_of z used n records) (sym same) (list_at-same lists k with_r ∙ here)
-      | inr other ↦ list_at-other lists k j with_r small j_small other ∙ are j j_small ∙ sym (list_of-out z used j records id r is (one_yield z used r k j yields other))
+      | inl same ↦ subst (λ n. list_at (with_list lists k with_r) n ≡ list_of z used n records) (sym same)
+          (list_at-same lists k with_r ∙ here)
+      | inr other ↦ list_at-other lists k j with_r small j_small other ∙ are j j_small
+          ∙ sym (list_of-out z used j records id r is (one_yield z used r k j yields other))
     ]
 
 -- a full reservation, and one without a used place of the largest size, stands in no list
@@ -174,10 +182,13 @@ AreListed-full z lists used records id r are is full k small =
 
 -- the first frame of the first list from k on that isn't empty is that of a reservation with a yield of at least k
 pub oldest_from-found : (l : Layout) (k count id : ℕ) → ArePlaced l.records → oldest_from l k count ≡ Some id
-    → (r : Reservation) × (j : ℕ) × (k ≤ j) × (j < k + count) × (get_or l.records id None ≡ Some r) × (yield_in l.sizes (is_used l.used) r ≡ Some j)
+    → (r : Reservation) × (j : ℕ) × (k ≤ j) × (j < k + count) × (get_or l.records id None ≡ Some r)
+    × (yield_in l.sizes (is_used l.used) r ≡ Some j)
 oldest_from-found l k zero id placed found = absurd (none-some id found)
 oldest_from-found l k (suc count) id placed found =
-    elim (oldest_of l k) as (λ o. oldest_of l k ≡ o → option_or o (oldest_from l (k + 1) count) ≡ Some id → (r : Reservation) × (j : ℕ) × (k ≤ j) × (j < k + suc count) × (get_or l.records id None ≡ Some r) × (yield_in l.sizes (is_used l.used) r ≡ Some j)) [
+    elim (oldest_of l k) as (λ o. oldest_of l k ≡ o → option_or o (oldest_from l (k + 1) count) ≡ Some id
+    → (r : Reservation) × (j : ℕ) × (k ≤ j) × (j < k + suc count) × (get_or l.records id None ≡ Some r) ×
+    (yield_in l.sizes (is_used l.used) r ≡ Some j)) [
       | None ↦ λ none later.
           let w = oldest_from-found l (k + 1) count id placed later in
           (w.0, w.1, omega (arith, w.2), omega (arith, w.3), w.4, w.5)

@@ -18,10 +18,13 @@ IsSound-from : (g : Given) (st : FrameState) (entries : List Entry) → IsSound 
     → IsSound g.frames (length g.marks) (fold frames_after st entries)
 IsSound-from g st [] sound allowed = sound
 IsSound-from g st (e ∷ es) sound allowed =
-    IsSound-from g (frames_after st e) es (IsSound-moved g.frames (length g.marks) st (mark_of g e.processor) e.processor e.space e.what sound allowed.0 allowed.1) allowed.2
+    IsSound-from g (frames_after st e) es (IsSound-moved g.frames (length g.marks) st
+    (mark_of g e.processor) e.processor e.space e.what sound allowed.0 allowed.1) allowed.2
 
-pub IsSound-allowed : (g : Given) (entries : List Entry) → AreFrameEntries g entries → IsSound g.frames (length g.marks) (frames_state g entries)
-IsSound-allowed g entries allowed = IsSound-from g (start_frames g.sizes g.frames (length g.marks)) entries (IsSound-start g.sizes g.frames (length g.marks)) allowed
+pub IsSound-allowed : (g : Given) (entries : List Entry) → AreFrameEntries g entries
+    → IsSound g.frames (length g.marks) (frames_state g entries)
+IsSound-allowed g entries allowed = IsSound-from g (start_frames g.sizes g.frames (length g.marks)) entries
+    (IsSound-start g.sizes g.frames (length g.marks)) allowed
 
 -- where nothing is taken there was no place
 none-placing : (st : FrameState) (want : Want) (o : Option Placing) → option_map (taking st want) o ≡ None → o ≡ None
@@ -34,11 +37,13 @@ pub full-take_frame : (g : Given) (entries : List Entry) → AreFrameEntries g e
     → IsFull (frames_state g entries)
 full-take_frame g entries allowed space page want none fails =
     let st = frames_state g entries in
-    full-placing (layout_of st) st.entries space page want (IsSound-allowed g entries allowed).laid none (none-placing st want (placing st.entries space page want (layout_of st)) fails)
+    full-placing (layout_of st) st.entries space page want (IsSound-allowed g entries allowed).laid none
+    (none-placing st want (placing st.entries space page want (layout_of st)) fails)
 
 pub take_frame-full : (g : Given) (entries : List Entry) → AreFrameEntries g entries → (space page : ℕ) (want : Want)
     → frame_of (frames_state g entries) space page ≡ None → IsFull (frames_state g entries)
     → take_frame (frames_state g entries) space page want ≡ None
 take_frame-full g entries allowed space page want none full =
     let st = frames_state g entries in
-    ap (option_map (taking st want)) (placing-full (layout_of st) st.entries space page want (IsSound-allowed g entries allowed).laid none full)
+    ap (option_map (taking st want)) (placing-full (layout_of st) st.entries space page want
+    (IsSound-allowed g entries allowed).laid none full)

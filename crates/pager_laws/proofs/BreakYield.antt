@@ -83,7 +83,8 @@ module _ (m : ℕ) (l : Layout) (r : Reservation) (laid : IsLaid l) (is : record
   Breaks-part i k after one breaks =
       let freed = breaks.freed.1 in
       let ends = part_ends m i r le one in
-      let beside : (n : ℕ) → (n < r.frame) ⊎ (r.frame + 8 ^ r.size ≤ n) → (n < (part_at m r i).frame) ⊎ ((part_at m r i).frame + 8 ^ m ≤ n) =
+      let beside : (n : ℕ) → (n < r.frame) ⊎ (r.frame + 8 ^ r.size ≤ n)
+      → (n < (part_at m r i).frame) ⊎ ((part_at m r i).frame + 8 ^ m ≤ n) =
       λ n out. elim out [ inl before ↦ inl (omega (arith, before)) | inr past ↦ inr (omega (arith, ends, past)) ] in
       record {
         laid = breaks.laid;
@@ -168,9 +169,11 @@ Breaks-break_over (suc levels) l r k le laid is yields narrow =
           let wide = part_as_wide z used r k m small widest within in
           let found = lowest_found z used r k m wide.0 yields wide.1 wide.2 in
           let part = part_at m r found.0 in
-          let stands : record_at after part.frame ≡ Some part = record_at-part m l r.frame r laid is found.0 small found.2 (kept_each m used r found.0 found.2 none) in
+          let stands : record_at after part.frame ≡ Some part = record_at-part m l r.frame r laid is found.0 small found.2
+          (kept_each m used r found.0 found.2 none) in
           let rest = Breaks-break_over levels after part k (omega (arith, part_size-less z r (omega arith))) sound stands found.3 less in
-          let goes : goes_on_at z used r ≡ Some part = cond-true _ _ _ (lt-ltb 0 m (omega arith)) ∙ goes_on z m used r found.0 none found.1 in
+          let goes : goes_on_at z used r ≡ Some part = cond-true _ _ _ (lt-ltb 0 m (omega arith))
+          ∙ goes_on z m used r found.0 none found.1 in
           subst (λ o. Breaks r k l (step o)) (sym {b = Some part} goes)
           (Breaks-part m l r laid is small found.0 k _ found.2 rest)
     ]

@@ -58,15 +58,19 @@ stored f g p word false here at was words copies dirty clean = equal_again f g p
 copied_after : (f : Flat) (call : Call) → AreCopied f → AreCopied (after_call f call)
 copied_after f (Map space page len kind rights) are p clean = equal_again f _ p refl (λ i. refl) (are p clean)
 copied_after f (Grow space page by) are p clean = equal_again f _ p refl (λ i. refl) (are p clean)
-copied_after f (Unmap space page) are p clean = gone f (after_call f (Unmap space page)) p (goes (region_at f.regions page) p) (are p) (λ i. refl) refl refl clean
+copied_after f (Unmap space page) are p clean = gone f (after_call f (Unmap space page)) p (goes (region_at f.regions page) p) (are p)
+    (λ i. refl) refl refl clean
 copied_after f (Protect space page len rights) are p clean = equal_again f _ p refl (λ i. refl) (are p clean)
 copied_after f (Load space address) are p clean = are p clean
 copied_after f (Store space address word) are p clean =
-    stored f (after_call f (Store space address word)) p word (is_lawful (reply_of f (Store space address word))) (p == page_of address) (λ i. i == word_of address) (are p) (λ i. refl) refl refl clean
+    stored f (after_call f (Store space address word)) p word (is_lawful (reply_of f (Store space address word))) (p == page_of address)
+    (λ i. i == word_of address) (are p) (λ i. refl) refl refl clean
 copied_after f (Sync space page) are p clean =
-    written f (after_call f (Sync space page)) p (is_lawful (reply_of f (Sync space page)) && (p == page)) (are p) (λ i. refl) refl refl clean
+    written f (after_call f (Sync space page)) p (is_lawful (reply_of f (Sync space page)) && (p == page)) (are p)
+    (λ i. refl) refl refl clean
 copied_after f (Evict space page) are p clean =
-    written f (after_call f (Evict space page)) p (is_lawful (reply_of f (Evict space page)) && (p == page)) (are p) (λ i. refl) refl refl clean
+    written f (after_call f (Evict space page)) p (is_lawful (reply_of f (Evict space page)) && (p == page)) (are p)
+    (λ i. refl) refl refl clean
 
 -- whatever the call is answered
 copied_answered : (f : Flat) (call : Call) (reply : Reply) → AreCopied f → AreCopied (answered_flat f call reply)
@@ -125,7 +129,8 @@ answered_same f call reply is = absurd is
 -- and every page its frame
 pub same_base : (st : SpaceState) (frames : Bool) (call : Call) (reply : Reply) → is_lawful reply ≡ false
     → frames ≡ frees_its_page st call reply → (p : ℕ) → base_after_answer st.base frames call p ≡ st.base p
-same_base st frames call reply none parts p = ap (λ b. base_after_answer st.base b call p) (parts ∙ sym (frees-unlawful st call reply none)) ∙ base-unnamed st.base call p
+same_base st frames call reply none parts p = ap (λ b. base_after_answer st.base b call p)
+    (parts ∙ sym (frees-unlawful st call reply none)) ∙ base-unnamed st.base call p
 
 -- any other does what its call does, where the flat memory has its reply and its pages
 pub record IsServed (st : SpaceState) (c : ℕ) (call : Call) (reply : Reply) : Type 0 where
@@ -137,7 +142,8 @@ word_lawful : (told : Bool) (asked : Reply) (tied : Option ℕ) (word : ℕ) →
 word_lawful true asked tied word is = sym (ap is_lawful is)
 word_lawful false asked tied word is = sym (ap is_lawful is.0.1)
 
-pub answer_is : (st : SpaceState) (c : ℕ) (call : Call) (reply : Reply) → ReplyAllowed st c call reply → IsWithoutService reply ⊎ IsServed st c call reply
+pub answer_is : (st : SpaceState) (c : ℕ) (call : Call) (reply : Reply) → ReplyAllowed st c call reply
+    → IsWithoutService reply ⊎ IsServed st c call reply
 answer_is st c call (NoFrames wired claimed held) allowed = inl tt
 answer_is st c call (StoreFault space count) allowed = inl tt
 answer_is st c call NoMemory allowed = inl tt
@@ -150,7 +156,8 @@ still_dirty true dirty is = absurd (false≢true is)
 still_dirty false dirty is = (is, refl)
 
 -- a page that is dirty after a store was so before, or the store was lawful and of this page
-dirty_or_here : (lawful here dirty : Bool) → (if lawful && here then true else dirty) ≡ true → (dirty ≡ true) ⊎ ((lawful ≡ true) × (here ≡ true))
+dirty_or_here : (lawful here dirty : Bool) → (if lawful && here then true else dirty) ≡ true
+    → (dirty ≡ true) ⊎ ((lawful ≡ true) × (here ≡ true))
 dirty_or_here true true dirty is = inr (refl, refl)
 dirty_or_here true false dirty is = inl is
 dirty_or_here false here dirty is = inl is
@@ -175,7 +182,8 @@ module _ (st : SpaceState) (keeps : KeepsCopies st) (frames : Bool) (c number : 
       let before = still_dirty _ _ is in
       elim (keeps.dirty p before.0) [
         | inl there ↦ there
-        | inr was ↦ absurd (true≢false (sym (goes_cleared st c p _ (served.pages (lawful_next st.next c p number _ answered may was)) was) ∙ before.1))
+        | inr was ↦ absurd (true≢false (sym (goes_cleared st c p _ (served.pages (lawful_next st.next c p number _ answered may was)) was)
+            ∙ before.1))
       ]
   dirty_served (Protect space page len rights) answered may served parts p is = was_there st c _ keeps may (λ first len un. un) p is
   dirty_served (Load space address) answered may served parts p is = was_there st c _ keeps may (λ first len un. un) p is
@@ -206,7 +214,8 @@ module _ (st : SpaceState) (keeps : KeepsCopies st) (frames : Bool) (c number : 
   dirty_answered call answered may allowed p is =
       elim (answer_is st c call answered.reply allowed.reply) [
         | inl without ↦
-            let there = dirty_unserved call answered may without p (ap (λ (f : Flat). f.dirty p) (sym (answered_same st.flat call answered.reply without)) ∙ is) in
+            let there = dirty_unserved call answered may without p (ap (λ (f : Flat). f.dirty p)
+            (sym (answered_same st.flat call answered.reply without)) ∙ is) in
             (there.0, same_base st frames call answered.reply (unlawful answered.reply without) allowed.parts p ∙ there.1)
         | inr served ↦ dirty_served call answered may served allowed.parts p (ap (λ (f : Flat). f.dirty p) (sym served.does) ∙ is)
       ]
@@ -264,7 +273,11 @@ module _ (st : SpaceState) (e : Entry) (keeps : KeepsCopies st) where
   KeepsCopies-after (Failed page false count) may allowed =
       record { clean = keeps.clean; dirty = λ p is. inl (was_there st e.processor _ keeps may (λ first len un. un) p is) }
   KeepsCopies-after (Take page frame want) may allowed =
-      record { clean = keeps.clean; dirty = λ p is. inl (filled (p == page) frame _ (was_there st e.processor _ keeps may (λ first len un. un) p is)) }
+      record {
+        clean = keeps.clean;
+        dirty = λ p is. inl (filled (p == page) frame _
+            (was_there st e.processor _ keeps may (λ first len un. un) p is));
+      }
   KeepsCopies-after (Give page frame) may allowed =
       record {
         clean = keeps.clean;
@@ -273,11 +286,19 @@ module _ (st : SpaceState) (e : Entry) (keeps : KeepsCopies st) where
             inl (left (p == page) _ other (was_there st e.processor _ keeps may (λ first len un. un) p is));
       }
   KeepsCopies-after (Clear first len) may allowed =
-      record { clean = keeps.clean; dirty = λ p is. cleared (in_range first len p) _ (was_there st e.processor _ keeps may (λ first len un. un) p is) }
+      record {
+        clean = keeps.clean;
+        dirty = λ p is. cleared (in_range first len p) _
+            (was_there st e.processor _ keeps may (λ first len un. un) p is);
+      }
   KeepsCopies-after (Claim victim page frame need) may allowed =
       record { clean = keeps.clean; dirty = λ p is. inl (was_there st e.processor _ keeps may (λ first len un. un) p is) }
   KeepsCopies-after (UseHeld page frame want) may allowed =
-      record { clean = keeps.clean; dirty = λ p is. inl (filled (p == page) frame _ (was_there st e.processor _ keeps may (λ first len un. un) p is)) }
+      record {
+        clean = keeps.clean;
+        dirty = λ p is. inl (filled (p == page) frame _
+            (was_there st e.processor _ keeps may (λ first len un. un) p is));
+      }
   KeepsCopies-after (Unclaim frame) may allowed =
       record { clean = keeps.clean; dirty = λ p is. inl (was_there st e.processor _ keeps may (λ first len un. un) p is) }
   KeepsCopies-after what may allowed = absurd allowed

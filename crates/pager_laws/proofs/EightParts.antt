@@ -14,7 +14,8 @@ eight_count r splits =
 pub parted_records-eight : (used : ℕ → Bool) (r : Reservation) (records : List (Option Reservation)) → 0 < r.size
     → parted_records (r.size - 1) used r records ≡ split_records used r records
 parted_records-eight used r records splits =
-    ap (λ n. fold (λ rs i. set rs (part_at (r.size - 1) r i).frame (kept_at (r.size - 1) used r i)) records (range_with_len 0 n)) (eight_count r splits)
+    ap (λ n. fold (λ rs i. set rs (part_at (r.size - 1) r i).frame (kept_at (r.size - 1) used r i)) records (range_with_len 0 n))
+    (eight_count r splits)
 
 pub parted_free-eight : (used : ℕ → Bool) (r : Reservation) (free : List Bool) → 0 < r.size
     → parted_free (r.size - 1) used r free ≡ free_up_to 8 (r.size - 1) used r free

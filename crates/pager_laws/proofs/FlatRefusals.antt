@@ -41,12 +41,21 @@ after_refusal f (Grow space page by) h =
     record { regions = cond-false _ _ _ h; rights = λ p. cond-false _ _ _ h; words = λ p i. refl; copies = λ p. refl; dirty = λ p. refl }
 after_refusal f (Unmap space page) h =
     let none = unmapped-none (region_at f.regions page) h in
-    record { regions = without-none page f.regions none; rights = λ p. refl; words = λ p i. rw none refl; copies = λ p. rw none refl; dirty = λ p. rw none refl }
+    record {
+      regions = without-none page f.regions none;
+      rights = λ p. refl;
+      words = λ p i. rw none refl;
+      copies = λ p. rw none refl;
+      dirty = λ p. rw none refl;
+    }
 after_refusal f (Protect space page len rights) h =
     let out = range_refused (range_in page len (region_at f.regions page)) h in
     record { regions = refl; rights = λ p. rw out refl; words = λ p i. refl; copies = λ p. refl; dirty = λ p. refl }
-after_refusal f (Load space address) h = record { regions = refl; rights = λ p. refl; words = λ p i. refl; copies = λ p. refl; dirty = λ p. refl }
+after_refusal f (Load space address) h =
+    record { regions = refl; rights = λ p. refl; words = λ p i. refl; copies = λ p. refl; dirty = λ p. refl }
 after_refusal f (Store space address word) h =
     record { regions = refl; rights = λ p. refl; words = λ p i. rw h refl; copies = λ p. refl; dirty = λ p. rw h refl }
-after_refusal f (Sync space page) h = record { regions = refl; rights = λ p. refl; words = λ p i. refl; copies = λ p. rw h refl; dirty = λ p. rw h refl }
-after_refusal f (Evict space page) h = record { regions = refl; rights = λ p. refl; words = λ p i. refl; copies = λ p. rw h refl; dirty = λ p. rw h refl }
+after_refusal f (Sync space page) h =
+    record { regions = refl; rights = λ p. refl; words = λ p i. refl; copies = λ p. rw h refl; dirty = λ p. rw h refl }
+after_refusal f (Evict space page) h =
+    record { regions = refl; rights = λ p. refl; words = λ p i. refl; copies = λ p. rw h refl; dirty = λ p. rw h refl }

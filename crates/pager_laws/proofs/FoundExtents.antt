@@ -46,24 +46,30 @@ abbrev found_at : Layout → ℕ → ℕ → ℕ → Found
 found_at l size broken first = record { layout = l; size = size; first = first; broken = broken }
 
 -- a choice in a layout that differs by splittings alone is found
-IsFound-chosen : (l from : Layout) (size broken : ℕ) (found : Found) → Settles l from → chosen size broken from ≡ Some found → IsFound l size found
+IsFound-chosen : (l from : Layout) (size broken : ℕ) (found : Found) → Settles l from → chosen size broken from ≡ Some found
+    → IsFound l size found
 IsFound-chosen l from size broken found settles is =
-    elim (choice from.free size) as (λ o. choice from.free size ≡ o → option_map (found_at from size broken) o ≡ Some found → IsFound l size found) [
+    elim (choice from.free size) as (λ o. choice from.free size ≡ o → option_map (found_at from size broken) o ≡ Some found
+    → IsFound l size found) [
       | None ↦ λ none h. absurd (none-some found h)
-      | Some first ↦ λ here h. subst (IsFound l size) (same_Some (found_at from size broken first) found h) (record { settles = settles; is = here; small = omega arith })
+      | Some first ↦ λ here h. subst (IsFound l size) (same_Some (found_at from size broken first) found h)
+          (record { settles = settles; is = here; small = omega arith })
     ] refl is
 
 -- so is a choice after a reservation was broken, and the largest of them
 IsFound-extent_of : (l : Layout) (size : ℕ) (found : Found) → IsLaid l → extent_of size l ≡ Some found → IsFound l size found
 IsFound-extent_of l size found laid is =
-    elim (chosen size 0 l) as (λ o. chosen size 0 l ≡ o → option_or o (option_and_then (λ id. chosen size 1 (broken_at id l)) (to_break l size)) ≡ Some found → IsFound l size found) [
+    elim (chosen size 0 l) as (λ o. chosen size 0 l ≡ o → option_or o
+    (option_and_then (λ id. chosen size 1 (broken_at id l)) (to_break l size)) ≡ Some found → IsFound l size found) [
       | Some first ↦ λ here h. IsFound-chosen l l size 0 found (Settles-same l laid) (here ∙ h)
       | None ↦ λ _ h.
-          elim (to_break l size) as (λ o. to_break l size ≡ o → option_and_then (λ id. chosen size 1 (broken_at id l)) o ≡ Some found → IsFound l size found) [
+          elim (to_break l size) as (λ o. to_break l size ≡ o → option_and_then (λ id. chosen size 1 (broken_at id l)) o ≡ Some found
+          → IsFound l size found) [
             | None ↦ λ none e. absurd (none-some found e)
             | Some id ↦ λ breaks e.
                 let may = MayBreak-found l size id laid breaks in
-                IsFound-chosen l (break_layout may.reservation l) size 1 found (Settles-break l id may.reservation laid may.is) (sym (ap (chosen size 1) may.broken) ∙ e)
+                IsFound-chosen l (break_layout may.reservation l) size 1 found (Settles-break l id may.reservation laid may.is)
+                (sym (ap (chosen size 1) may.broken) ∙ e)
           ] refl h
     ] refl is
 
@@ -71,12 +77,18 @@ pub IsFound-largest_extent : (l : Layout) (size : ℕ) (found : Found) → IsLai
 IsFound-largest_extent l zero found laid is = IsFound-extent_of l 0 found laid is
 IsFound-largest_extent l (suc size) found laid is =
     let smaller : largest_extent size l ≡ Some found → IsFound l (suc size) found =
-    λ h. let rest = IsFound-largest_extent l size found laid h in record { settles = rest.settles; is = rest.is; small = omega (arith, rest.small) } in
-    elim (has_size l.sizes (suc size)) as (λ b. cond b (option_or (extent_of (suc size) l) (largest_extent size l)) (largest_extent size l) ≡ Some found → IsFound l (suc size) found) [
-      | true ↦ λ e. elim (extent_of (suc size) l) as (λ o. extent_of (suc size) l ≡ o → option_or o (largest_extent size l) ≡ Some found → IsFound l (suc size) found) [
-        | Some first ↦ λ here h. IsFound-extent_of l (suc size) found laid (here ∙ h)
-        | None ↦ λ _ h. smaller h
-      ] refl e
+    λ h. let rest = IsFound-largest_extent l size found laid h in record {
+      settles = rest.settles;
+      is = rest.is;
+      small = omega (arith, rest.small);
+    } in
+    elim (has_size l.sizes (suc size)) as (λ b. cond b (option_or (extent_of (suc size) l) (largest_extent size l)) (largest_extent size l)
+    ≡ Some found → IsFound l (suc size) found) [
+      | true ↦ λ e. elim (extent_of (suc size) l) as (λ o. extent_of (suc size) l ≡ o → option_or o (largest_extent size l) ≡ Some found
+          → IsFound l (suc size) found) [
+            | Some first ↦ λ here h. IsFound-extent_of l (suc size) found laid (here ∙ h)
+            | None ↦ λ _ h. smaller h
+          ] refl e
       | false ↦ λ e. smaller e
     ] is
 
@@ -90,7 +102,9 @@ chosen-none l size broken none =
 
 extent_of-none : (l : Layout) (size : ℕ) → IsLaid l → extent_of size l ≡ None → (choice l.free size ≡ None) × (to_break l size ≡ None)
 extent_of-none l size laid none =
-    elim (chosen size 0 l) as (λ o. chosen size 0 l ≡ o → option_or o (option_and_then (λ id. chosen size 1 (broken_at id l)) (to_break l size)) ≡ None → (choice l.free size ≡ None) × (to_break l size ≡ None)) [
+    elim (chosen size 0 l) as (λ o. chosen size 0 l ≡ o
+    → option_or o (option_and_then (λ id. chosen size 1 (broken_at id l)) (to_break l size)) ≡ None
+    → (choice l.free size ≡ None) × (to_break l size ≡ None)) [
       | Some first ↦ λ _ h. absurd (none-some first (sym h))
       | None ↦ λ no_choice h. (
         chosen-none l size 0 no_choice,
@@ -98,35 +112,42 @@ extent_of-none l size laid none =
           | None ↦ λ _ _. refl
           | Some id ↦ λ breaks e.
               let may = MayBreak-found l size id laid breaks in
-              absurd (choice-break l id may.reservation may.yields size laid may.is may.yield_is may.enough (chosen-none (break_layout may.reservation l) size 1 (sym (ap (chosen size 1) may.broken) ∙ e)))
+              absurd (choice-break l id may.reservation may.yields size laid may.is may.yield_is may.enough
+              (chosen-none (break_layout may.reservation l) size 1 (sym (ap (chosen size 1) may.broken) ∙ e)))
         ] refl h,
       )
     ] refl none
 
-pub largest_extent-none : (l : Layout) (size : ℕ) → IsLaid l → largest_extent size l ≡ None → (choice l.free 0 ≡ None) × (to_break l 0 ≡ None)
+pub largest_extent-none : (l : Layout) (size : ℕ) → IsLaid l → largest_extent size l ≡ None
+    → (choice l.free 0 ≡ None) × (to_break l 0 ≡ None)
 largest_extent-none l zero laid none = extent_of-none l 0 laid none
 largest_extent-none l (suc size) laid none =
-    elim (has_size l.sizes (suc size)) as (λ b. cond b (option_or (extent_of (suc size) l) (largest_extent size l)) (largest_extent size l) ≡ None → (choice l.free 0 ≡ None) × (to_break l 0 ≡ None)) [
-      | true ↦ λ e. elim (extent_of (suc size) l) as (λ o. option_or o (largest_extent size l) ≡ None → (choice l.free 0 ≡ None) × (to_break l 0 ≡ None)) [
-        | Some first ↦ λ h. absurd (none-some first (sym h))
-        | None ↦ λ h. largest_extent-none l size laid h
-      ] e
+    elim (has_size l.sizes (suc size)) as (λ b. cond b (option_or (extent_of (suc size) l) (largest_extent size l)) (largest_extent size l)
+    ≡ None → (choice l.free 0 ≡ None) × (to_break l 0 ≡ None)) [
+      | true ↦ λ e. elim (extent_of (suc size) l) as (λ o. option_or o (largest_extent size l) ≡ None
+          → (choice l.free 0 ≡ None) × (to_break l 0 ≡ None)) [
+            | Some first ↦ λ h. absurd (none-some first (sym h))
+            | None ↦ λ h. largest_extent-none l size laid h
+          ] e
       | false ↦ λ e. largest_extent-none l size laid e
     ] none
 
 -- where there is no choice and nothing to break for any size, no extent is found
-pub none-largest_extent : (l : Layout) (size : ℕ) → ((k : ℕ) → choice l.free k ≡ None) → ((k : ℕ) → to_break l k ≡ None) → largest_extent size l ≡ None
+pub none-largest_extent : (l : Layout) (size : ℕ) → ((k : ℕ) → choice l.free k ≡ None) → ((k : ℕ) → to_break l k ≡ None)
+    → largest_extent size l ≡ None
 none-largest_extent l size no_choice no_break = at size
   where
     here : (k : ℕ) → extent_of k l ≡ None
     here k =
-        ap (λ o. option_or (option_map (found_at l k 0) o) (option_and_then (λ id. chosen k 1 (broken_at id l)) (to_break l k))) (no_choice k)
+        ap (λ o. option_or (option_map (found_at l k 0) o) (option_and_then (λ id. chosen k 1 (broken_at id l)) (to_break l k)))
+        (no_choice k)
         ∙ ap (λ o. option_and_then (λ id. chosen k 1 (broken_at id l)) o) (no_break k)
 
     at : (k : ℕ) → largest_extent k l ≡ None
     at zero = here 0
     at (suc k) =
-        elim (has_size l.sizes (suc k)) as (λ b. cond b (option_or (extent_of (suc k) l) (largest_extent k l)) (largest_extent k l) ≡ None) [
+        elim (has_size l.sizes (suc k)) as (λ b. cond b (option_or (extent_of (suc k) l) (largest_extent k l)) (largest_extent k l)
+        ≡ None) [
           | true ↦ ap (λ o. option_or o (largest_extent k l)) (here (suc k)) ∙ at k
           | false ↦ at k
         ]

@@ -52,7 +52,8 @@ count-never : (xs : List ℕ) → count_by (λ x. false) xs ≡ 0
 count-never xs = count-nowhere (λ x. false) xs 0 (λ i is. false≢true is)
 
 -- pairs that pass are as many, whichever of the two is counted over first
-pub exchange : {X : Type 0} (p : ℕ → X → Bool) (xs : List X) (fs : List ℕ) → sum_by (λ f. count_by (p f) xs) fs ≡ sum_by (λ x. count_by (λ f. p f x) fs) xs
+pub exchange : {X : Type 0} (p : ℕ → X → Bool) (xs : List X) (fs : List ℕ)
+    → sum_by (λ f. count_by (p f) xs) fs ≡ sum_by (λ x. count_by (λ f. p f x) fs) xs
 exchange p [] fs = count-never fs
 exchange p (x ∷ xs) fs =
     let split = ap (λ h. sum_by h fs) (fun_ext (λ f. sum_by-cons (λ y. cond (p f y) 1 0) x xs)) in
@@ -70,7 +71,8 @@ count-first_indexes p xs d (suc n) within =
     let longer : sum_by at (range_with_len 0 (n + 1)) ≡ sum_by at (range_with_len 0 n ++ n ∷ []) = ap (sum_by at) (range_with_len-more n) in
     let more = sum_by_more (λ x. cond (p x) 1 0) xs n d (omega arith) in
     let next : n + 1 ≡ suc n = omega arith in
-    let step : sum_by at (range_with_len 0 (n + 1)) ≡ count_by p (take (n + 1) xs) = omega (arith, longer, sum_by_push at (range_with_len 0 n) n, more, rest) in
+    let step : sum_by at (range_with_len 0 (n + 1)) ≡ count_by p (take (n + 1) xs) =
+    omega (arith, longer, sum_by_push at (range_with_len 0 n) n, more, rest) in
     subst (λ k. sum_by at (range_with_len 0 k) ≡ count_by p (take k xs)) next step
 
 -- the elements that pass are as many as their indexes
@@ -90,9 +92,15 @@ count-between first (suc w) n within =
     let fewer : ℕ → Bool = λ f. leb first f && ltb f (first + w) in
     let more : ℕ → Bool = λ f. leb first f && ltb f (first + suc w) in
     let fails : fewer (first + w) ≡ false = grind (arith, nat_tests) in
-    let passes : more (first + w) ≡ true = and_from (leb first (first + w)) (ltb (first + w) (first + suc w)) (le-leb first (first + w) (omega arith)) (lt-ltb (first + w) (first + suc w) (omega arith)) in
+    let passes : more (first + w) ≡ true =
+    and_from (leb first (first + w)) (ltb (first + w) (first + suc w)) (le-leb first (first + w) (omega arith))
+    (lt-ltb (first + w) (first + suc w) (omega arith)) in
     let agree : (g : ℕ) → g ≢ first + w → fewer g ≡ more g = λ g other. ap (λ b. leb first g && b) (grind (arith, nat_tests)) in
-    omega (arith, count-one_more fewer more (first + w) fails passes agree 0 n (omega arith) (omega arith), count-between first w n (omega arith))
+    omega (
+      arith,
+      count-one_more fewer more (first + w) fails passes agree 0 n (omega arith) (omega arith),
+      count-between first w n (omega arith),
+    )
 
 -- a reservation of known frames has its places
 count-places_in : (n : ℕ) (o : Option Reservation) → ((r : Reservation) → o ≡ Some r → r.frame + 8 ^ r.size ≤ n)
@@ -101,7 +109,8 @@ count-places_in n None within = count-never (range_with_len 0 n)
 count-places_in n (Some r) within = count-between r.frame (8 ^ r.size) n (within r refl)
 
 -- a known frame that is held is one
-pub count-held : (n : ℕ) (o : Option ℕ) → ((f : ℕ) → o ≡ Some f → f < n) → count_by (λ g. is_that g o) (range_with_len 0 n) ≡ cond (is_some o) 1 0
+pub count-held : (n : ℕ) (o : Option ℕ) → ((f : ℕ) → o ≡ Some f → f < n)
+    → count_by (λ g. is_that g o) (range_with_len 0 n) ≡ cond (is_some o) 1 0
 count-held n None known = count-never (range_with_len 0 n)
 count-held n (Some f) known =
     let one_more = count-one_more (λ g. false) (λ g. eqb f g) f refl (eq-eqb f f refl)
@@ -176,7 +185,8 @@ module _ (frames processors : ℕ) (st : FrameState) (sound : IsSound frames pro
 
   -- over all frames the places
   all_places : sum_by (λ f. count_by (has_frame f) st.records) (range_with_len 0 frames) ≡ sum_by places_in st.records
-  all_places = all_places_of frames st.records (λ i r is. omega (arith, (sound.laid.placed i r is).within, sound.laid.records_long, sound.known))
+  all_places = all_places_of frames st.records
+      (λ i r is. omega (arith, (sound.laid.placed i r is).within, sound.laid.records_long, sound.known))
 
   -- no more places are used than there are
   pub used_places_few : used_count st ≤ sum_by places_in st.records
@@ -193,5 +203,6 @@ module _ (frames processors : ℕ) (st : FrameState) (sound : IsSound frames pro
       let all = ones ∙ sum_by-ones (range_with_len 0 frames) ∙ length-range_with_len 0 frames in
       let in_layout : ℕ → ℕ = λ f. cond (is_free (layout_of st) f) 1 0 + count_by (has_frame f) st.records in
       let parts = sum_by-plus in_layout (λ f. count_by (is_that f) st.held) (range_with_len 0 frames) in
-      let more_parts = sum_by-plus (λ f. cond (is_free (layout_of st) f) 1 0) (λ f. count_by (has_frame f) st.records) (range_with_len 0 frames) in
+      let more_parts = sum_by-plus (λ f. cond (is_free (layout_of st) f) 1 0) (λ f. count_by (has_frame f) st.records)
+      (range_with_len 0 frames) in
       omega (arith, all, parts, more_parts, all_free, all_places, all_held, used_places_few)

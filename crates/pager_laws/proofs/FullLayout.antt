@@ -34,7 +34,8 @@ none_taken free all frame = elim (cases_lt frame (length free)) [
 ]
 
 -- a reservation that passes the test has no yield
-yields_none : (z : SizeSet) (used : List Bool) (r : Reservation) → is_full_record z used (Some r) ≡ true → yield_in z (is_used used) r ≡ None
+yields_none : (z : SizeSet) (used : List Bool) (r : Reservation) → is_full_record z used (Some r) ≡ true
+    → yield_in z (is_used used) r ≡ None
 yields_none z used r full =
     elim (yield_in z (is_used used) r) as (λ o. is_none o ≡ true → o ≡ None) [
       | None ↦ λ _. refl
@@ -68,14 +69,16 @@ pub none-choice : (free : List Bool) (size : ℕ) → ((frame : ℕ) → get_or 
 none-choice free size taken =
     elim (choice free size) as (λ o. choice free size ≡ o → o ≡ None) [
       | None ↦ λ _. refl
-      | Some first ↦ λ is. absurd (false≢true (sym (taken (first + 0)) ∙ run_free_at free first (8 ^ size) (run_free-choice free size first is) 0 (eight_pos size)))
+      | Some first ↦ λ is. absurd
+          (false≢true (sym (taken (first + 0)) ∙ run_free_at free first (8 ^ size) (run_free-choice free size first is) 0 (eight_pos size)))
     ] refl
 
 -- where there is no choice for one frame, none is free
 pub choice-none : (free : List Bool) → choice free 0 ≡ None → (frame : ℕ) → get_or free frame false ≡ false
 choice-none free none frame = false_from_ne_true _ (λ is.
     let first : frame + 0 ≡ frame = omega arith in
-    let run : run_free free frame 1 ≡ true = run_free_from free frame 1 (λ i h. let at : frame + i ≡ frame = omega arith in ap (λ f. get_or free f false) at ∙ is) in
+    let run : run_free free frame 1 ≡ true = run_free_from free frame 1
+    (λ i h. let at : frame + i ≡ frame = omega arith in ap (λ f. get_or free f false) at ∙ is) in
     let all : frame % 1 ≡ 0 = omega arith in
     false≢true (sym (no_choice free 0 (omega arith) none frame all) ∙ run))
 
@@ -93,7 +96,8 @@ yield_up_to-none used r (suc n) none =
     ] none
 
 -- a reservation of the layout has a yield below 3, or none
-yields_small : (l : Layout) (id k : ℕ) (r : Reservation) → IsLaid l → record_at l id ≡ Some r → yield_in l.sizes (is_used l.used) r ≡ Some k → k < 3
+yields_small : (l : Layout) (id k : ℕ) (r : Reservation) → IsLaid l → record_at l id ≡ Some r
+    → yield_in l.sizes (is_used l.used) r ≡ Some k → k < 3
 yields_small l id k r laid is yields =
     let some = laid.some_used id r is in
     omega (arith, (laid.placed id r is).aligned.0, yield_less l.sizes (is_used l.used) r k some.0 some.1 some.2 yields)
@@ -108,9 +112,11 @@ yield_of-none z used r none = at (yield_of used r) (sym (yield_in-within z used 
 
 -- where there is no choice for one frame and nothing to break, the layout is full
 pub EachFull-none : (l : Layout) → IsLaid l → choice l.free 0 ≡ None → to_break l 0 ≡ None → EachFull l
-EachFull-none l laid none nothing = record { taken = choice-none l.free none; full = λ id r is. at id r is (yield_in l.sizes (is_used l.used) r) refl }
+EachFull-none l laid none nothing =
+    record { taken = choice-none l.free none; full = λ id r is. at id r is (yield_in l.sizes (is_used l.used) r) refl }
   where
-    at : (id : ℕ) (r : Reservation) → record_at l id ≡ Some r → (o : Option ℕ) → yield_in l.sizes (is_used l.used) r ≡ o → yield_in l.sizes (is_used l.used) r ≡ None
+    at : (id : ℕ) (r : Reservation) → record_at l id ≡ Some r → (o : Option ℕ) → yield_in l.sizes (is_used l.used) r ≡ o
+        → yield_in l.sizes (is_used l.used) r ≡ None
     at id r is None yields = yields
     at id r is (Some k) yields =
         let small = yields_small l id k r laid is yields in
@@ -138,6 +144,7 @@ used-full l frame id r full is has =
     elim (cases_Bool (is_used l.used frame)) [
       | inl used ↦ used
       | inr unused ↦
-          let empty : none_used (is_used l.used) (r.frame + i * 1) 1 ≡ true = and_from _ _ (not_from_false _ (ap (is_used l.used) at ∙ unused)) refl in
+          let empty : none_used (is_used l.used) (r.frame + i * 1) 1 ≡ true =
+          and_from _ _ (not_from_false _ (ap (is_used l.used) at ∙ unused)) refl in
           absurd (false≢true (sym none ∙ has_empty-yes (is_used l.used) r 0 i (omega (arith, size, bounds.0, bounds.1)) empty))
     ]

@@ -34,7 +34,8 @@ either (Some u) later t is = inl is
 
 module _ (z : SizeSet) (pages : ℕ → Option Mapping) (t : Tile) where
   -- the largest up to a size is an extent round the page
-  among_names : (k page : ℕ) → largest_among z pages k page ≡ Some t → (t.extent.size ≤ k) × (t.extent.first ≡ extent_start t.extent.size page)
+  among_names : (k page : ℕ) → largest_among z pages k page ≡ Some t → (t.extent.size ≤ k)
+      × (t.extent.first ≡ extent_start t.extent.size page)
   among_names zero page is =
       let names = eligible_names pages 0 (extent_start 0 page) (pages (extent_start 0 page)) t is in
       (omega (arith, names.0), names.1 ∙ ap (λ n. extent_start n page) (sym names.0))
@@ -65,11 +66,14 @@ module _ (z : SizeSet) (pages : ℕ → Option Mapping) (t : Tile) where
       ]
 
 -- the tile of a page by these sizes is a tile by them
-pub tile_in-is_tile : (z : SizeSet) (pages : ℕ → Option Mapping) (page : ℕ) (t : Tile) → tile_in z pages page ≡ Some t → is_tile_in z pages t ≡ true
+pub tile_in-is_tile : (z : SizeSet) (pages : ℕ → Option Mapping) (page : ℕ) (t : Tile) → tile_in z pages page ≡ Some t
+    → is_tile_in z pages t ≡ true
 tile_in-is_tile z pages page t is =
     let names = among_names z pages t 3 page is in
-    let start : page / 8 ^ t.extent.size ≡ t.extent.first / 8 ^ t.extent.size = sym (ap (λ n. n / 8 ^ t.extent.size) names.1 ∙ first_of_extent t.extent.size page) in
-    let joined : (j : ℕ) → t.extent.size ≤ j → j ≤ 3 → page / 8 ^ j ≡ t.extent.first / 8 ^ j = λ j more low. coarser t.extent.size j page t.extent.first more low start in
+    let start : page / 8 ^ t.extent.size ≡ t.extent.first / 8 ^ t.extent.size =
+    sym (ap (λ n. n / 8 ^ t.extent.size) names.1 ∙ first_of_extent t.extent.size page) in
+    let joined : (j : ℕ) → t.extent.size ≤ j → j ≤ 3 → page / 8 ^ j ≡ t.extent.first / 8 ^ j =
+    λ j more low. coarser t.extent.size j page t.extent.first more low start in
     ap (is_that_tile t) (among_alike z pages t page t.extent.first joined 3 (omega arith) is) ∙ same_tile-refl t
 
 -- Images.
@@ -87,7 +91,8 @@ all_still test other [] h = refl
 all_still test other (t ∷ ts) h =
     let parts = and_parts _ _ h in
     elim (cases_Bool (other t)) [
-      | inl is ↦ ap (list_all test) (cond-true _ _ _ is) ∙ ap (λ b. b && list_all test (filter other ts)) parts.0 ∙ all_still test other ts parts.1
+      | inl is ↦ ap (list_all test) (cond-true _ _ _ is) ∙ ap (λ b. b && list_all test (filter other ts)) parts.0
+          ∙ all_still test other ts parts.1
       | inr isnt ↦ ap (list_all test) (cond-false _ _ _ isnt) ∙ all_still test other ts parts.1
     ]
 
@@ -98,7 +103,8 @@ all_taken test (suc n) (t ∷ ts) h =
     let parts = and_parts _ _ h in ap (λ b. b && list_all test (take n ts)) parts.0 ∙ all_taken test n ts parts.1
 
 -- what was a tile of these pages still is one
-pub still_again : (z : SizeSet) (pages : ℕ → Option Mapping) (ts : List Tile) → still_tiles z pages (still_tiles z pages ts) ≡ still_tiles z pages ts
+pub still_again : (z : SizeSet) (pages : ℕ → Option Mapping) (ts : List Tile)
+    → still_tiles z pages (still_tiles z pages ts) ≡ still_tiles z pages ts
 still_again z pages ts = filter-all (is_tile_in z pages) (still_tiles z pages ts) (all_filtered (is_tile_in z pages) ts)
 
 -- a tile of these pages, where there is one
@@ -110,8 +116,11 @@ touched_kept : (z : SizeSet) (pages : ℕ → Option Mapping) (o : Option Tile) 
     → still_tiles z pages ts ≡ ts → still_tiles z pages (touched_by o ts) ≡ touched_by o ts
 touched_kept z pages None ts is kept = kept
 touched_kept z pages (Some t) ts is kept =
-    let others = all_still (is_tile_in z pages) (λ u. not (same_tile t u)) ts (ap (list_all (is_tile_in z pages)) (sym kept) ∙ all_filtered (is_tile_in z pages) ts) in
-    filter-all (is_tile_in z pages) (touched t ts) (all_taken (is_tile_in z pages) image_room (t ∷ filter (λ u. not (same_tile t u)) ts) (ap (λ b. b && list_all (is_tile_in z pages) (filter (λ u. not (same_tile t u)) ts)) is ∙ others))
+    let others = all_still (is_tile_in z pages) (λ u. not (same_tile t u)) ts
+    (ap (list_all (is_tile_in z pages)) (sym kept) ∙ all_filtered (is_tile_in z pages) ts) in
+    filter-all (is_tile_in z pages) (touched t ts)
+    (all_taken (is_tile_in z pages) image_room (t ∷ filter (λ u. not (same_tile t u)) ts)
+    (ap (λ b. b && list_all (is_tile_in z pages) (filter (λ u. not (same_tile t u)) ts)) is ∙ others))
 
 -- one processor used a tile, or none
 pub touched_if : (z : SizeSet) (pages : ℕ → Option Mapping) (here : Bool) (o : Option Tile) (ts : List Tile) → IsUsed z pages o

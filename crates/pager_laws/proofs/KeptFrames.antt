@@ -23,7 +23,8 @@ KeepsFrames-sound frames processors st sound = record {
 }
 
 pub KeepsFrames-allowed : (g : Given) (entries : List Entry) → AreFrameEntries g entries → KeepsFrames g.frames (frames_state g entries)
-KeepsFrames-allowed g entries allowed = KeepsFrames-sound g.frames (length g.marks) (frames_state g entries) (IsSound-allowed g entries allowed)
+KeepsFrames-allowed g entries allowed = KeepsFrames-sound g.frames (length g.marks) (frames_state g entries)
+    (IsSound-allowed g entries allowed)
 
 pub KeepsFrames-legal : (g : Given) (history : List Entry) → IsLegal g history → KeepsFrames g.frames (frames_at g history)
 KeepsFrames-legal g history legal = KeepsFrames-sound g.frames (length g.marks) (frames_at g history) (IsKept-legal g history legal).sound

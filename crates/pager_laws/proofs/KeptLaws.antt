@@ -22,4 +22,5 @@ KeepsLaws-legal g history legal =
 
 pub KeepsLawsAllAlong-legal : (g : Given) (history : List Entry) → IsLegal g history → KeepsLawsAllAlong g history
 KeepsLawsAllAlong-legal g history legal before [] split = KeepsLaws-legal g before (subst (IsLegal g) (split ∙ append-nil before) legal)
-KeepsLawsAllAlong-legal g history legal before (e ∷ after) split = KeepsLaws-legal g before (IsLegal-at g before after e (subst (IsLegal g) split legal)).0
+KeepsLawsAllAlong-legal g history legal before (e ∷ after) split = KeepsLaws-legal g before
+    (IsLegal-at g before after e (subst (IsLegal g) split legal)).0

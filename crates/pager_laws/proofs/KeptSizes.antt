@@ -39,7 +39,8 @@ module _ (z : SizeSet) where
   part_sized k true q one = tt
   part_sized k false q one = one
 
-  parts_sized : (k : ℕ) (used : ℕ → Bool) (r : Reservation) (parts : List ℕ) (records : List (Option Reservation)) → has_size z k ≡ true → All IsSized records
+  parts_sized : (k : ℕ) (used : ℕ → Bool) (r : Reservation) (parts : List ℕ) (records : List (Option Reservation)) → has_size z k ≡ true
+      → All IsSized records
       → All IsSized (fold (λ rs i. slice_set rs (part_at k r i).frame (kept_at k used r i)) records parts)
   parts_sized k used r [] records one all = all
   parts_sized k used r (i ∷ parts) records one all =
@@ -52,7 +53,8 @@ module _ (z : SizeSet) where
       let one : has_size z m ≡ true = subst (λ y. has_size y m ≡ true) keeps.sizes (has_within l.sizes (r.size - 1)) in
       record { sizes = keeps.sizes; kept = parts_sized m (is_used l.used) r (range_with_len 0 (part_count m r)) l.records one keeps.kept }
 
-  split_on_keeps : (next : Reservation → Option Reservation) (levels : ℕ) (r : Reservation) (l : Layout) → KeepsSizes l → KeepsSizes (split_on next levels r l)
+  split_on_keeps : (next : Reservation → Option Reservation) (levels : ℕ) (r : Reservation) (l : Layout) → KeepsSizes l
+      → KeepsSizes (split_on next levels r l)
   split_on_keeps next zero r l keeps = keeps
   split_on_keeps next (suc levels) r l keeps =
       let split = split_keeps r l keeps in
@@ -104,14 +106,20 @@ module _ (z : SizeSet) where
   either_sized (Some f) b one other = one
 
   chosen_sized : (size broken : ℕ) (l : Layout) → has_size z size ≡ true → KeepsSizes l → FindsSized (chosen size broken l)
-  chosen_sized size broken l one keeps = elim (choice l.free size) as (λ o. FindsSized (option_map (λ first. let f : Found = record { layout = l; size = size; first = first; broken = broken } in f) o)) [
+  chosen_sized size broken l one keeps = elim (choice l.free size) as (λ o. FindsSized (option_map (λ first. let f : Found = record {
+    layout = l;
+    size = size;
+    first = first;
+    broken = broken;
+  } in f) o)) [
     | None ↦ tt
     | Some first ↦ record { layout = keeps; size = one }
   ]
 
   extent_sized : (size : ℕ) (l : Layout) → has_size z size ≡ true → KeepsSizes l → FindsSized (extent_of size l)
   extent_sized size l one keeps =
-      either_sized (chosen size 0 l) (option_and_then (λ id. chosen size 1 (broken_at id l)) (to_break l size)) (chosen_sized size 0 l one keeps)
+      either_sized (chosen size 0 l) (option_and_then (λ id. chosen size 1 (broken_at id l)) (to_break l size))
+      (chosen_sized size 0 l one keeps)
       (elim (to_break l size) as (λ o. FindsSized (option_and_then (λ id. chosen size 1 (broken_at id l)) o)) [
         | None ↦ tt
         | Some id ↦ chosen_sized size 1 (broken_at id l) one (broken_keeps id l keeps)
@@ -124,7 +132,8 @@ module _ (z : SizeSet) where
       elim (cases_Bool (has_size l.sizes (suc size))) [
         | inl has ↦
             let one : has_size z (suc size) ≡ true = subst (λ y. has_size y (suc size) ≡ true) keeps.sizes has in
-            subst FindsSized (sym (cond-true _ _ _ has)) (either_sized (extent_of (suc size) l) (largest_extent size l) (extent_sized (suc size) l one keeps) smaller)
+            subst FindsSized (sym (cond-true _ _ _ has)) (either_sized (extent_of (suc size) l) (largest_extent size l)
+            (extent_sized (suc size) l one keeps) smaller)
         | inr lacks ↦ subst FindsSized (sym (cond-false _ _ _ lacks)) smaller
       ]
 
@@ -146,9 +155,13 @@ module _ (z : SizeSet) where
   placed_sized stamp space page want l (Some r) one keeps =
       record { sizes = keeps.sizes; kept = All-set IsSized l.records r.frame _ one keeps.kept }
   placed_sized stamp space page want l None one keeps =
-      elim (largest_extent (preferred_in l space page want) l) as (λ o. FindsSized o → PlacesSized (option_map (reserved stamp space page) o)) [
+      elim (largest_extent (preferred_in l space page want) l) as (λ o. FindsSized o
+      → PlacesSized (option_map (reserved stamp space page) o)) [
         | None ↦ λ none. tt
-        | Some f ↦ λ found. record { sizes = found.layout.sizes; kept = All-set IsSized f.layout.records f.first _ found.size found.layout.kept }
+        | Some f ↦ λ found. record {
+          sizes = found.layout.sizes;
+          kept = All-set IsSized f.layout.records f.first _ found.size found.layout.kept;
+        }
       ] (largest_sized (preferred_in l space page want) l keeps)
 
   -- ---- states
@@ -158,10 +171,12 @@ module _ (z : SizeSet) where
 
   take_keeps : (st : FrameState) (space page : ℕ) (want : Want) → KeepsIn st → KeepsIn (state_taken st (take_frame st space page want))
   take_keeps st space page want keeps =
-      elim (placing st.entries space page want (layout_of st)) as (λ o. PlacesSized o → KeepsIn (state_taken st (option_map (taking st want) o))) [
+      elim (placing st.entries space page want (layout_of st)) as (λ o. PlacesSized o
+      → KeepsIn (state_taken st (option_map (taking st want) o))) [
         | None ↦ λ none. keeps
         | Some p ↦ λ placed. record { sizes = placed.sizes; kept = placed.kept }
-      ] (placed_sized st.entries space page want (layout_of st) (covering space page st.records) (covering_sized space page st.records keeps.kept) keeps)
+      ] (placed_sized st.entries space page want (layout_of st) (covering space page st.records)
+      (covering_sized space page st.records keeps.kept) keeps)
 
   give_keeps : (st : FrameState) (space page : ℕ) → KeepsIn st → KeepsIn (give_page st space page)
   give_keeps st space page keeps =

@@ -58,7 +58,8 @@ Settles-split l id r laid is = Settles-parted (part_size l.sizes r) l id r laid 
 pub record_at-part : (k : ℕ) (l : Layout) (id : ℕ) (r : Reservation) → IsLaid l → record_at l id ≡ Some r → (i : ℕ) → k ≤ r.size
     → i < part_count k r → kept_at k (is_used l.used) r i ≡ Some (part_at k r i)
     → record_at (parted k r l) (part_at k r i).frame ≡ Some (part_at k r i)
-record_at-part k l id r laid is i le one kept = parted_at k (is_used l.used) r l.records le (placed_own l id r laid is) (part_count k r) i one (omega arith) ∙ kept
+record_at-part k l id r laid is i le one kept = parted_at k (is_used l.used) r l.records le (placed_own l id r laid is)
+    (part_count k r) i one (omega arith) ∙ kept
 
 -- Breaking.
 
@@ -69,7 +70,8 @@ kept_each k used r i one none = elim (kept_at-cases k used r i) [
   | inl empty ↦
       let all = range_with_len 0 (part_count k r) in
       let here : get_or all i 0 ≡ i = get_or-range_with_len 0 (part_count k r) i 0 one ∙ omega arith in
-      let some = list_any_at (is_empty_at k used r) all i 0 (omega (arith, length-range_with_len 0 (part_count k r))) (ap (is_empty_at k used r) here ∙ empty.1) in
+      let some = list_any_at (is_empty_at k used r) all i 0 (omega (arith, length-range_with_len 0 (part_count k r)))
+      (ap (is_empty_at k used r) here ∙ empty.1) in
       absurd (false≢true (sym none ∙ some))
   | inr kept ↦ kept.0
 ]
@@ -93,7 +95,8 @@ pub goes_on_part : (z : SizeSet) (k : ℕ) (used : ℕ → Bool) (r p : Reservat
 goes_on_part z k used r p goes = elim (cases_Bool (has_empty used r k)) [
   | inl empty ↦ absurd (none-some p (sym (cond-true _ _ _ empty) ∙ goes))
   | inr none ↦
-      elim (lowest_as_wide z k used r) as (λ o. lowest_as_wide z k used r ≡ o → option_map (part_at k r) o ≡ Some p → IsKeptPart k used r p) [
+      elim (lowest_as_wide z k used r) as (λ o. lowest_as_wide z k used r ≡ o → option_map (part_at k r) o ≡ Some p
+      → IsKeptPart k used r p) [
         | None ↦ λ no_one at. absurd (none-some p at)
         | Some i ↦ λ found at.
             let below = find_below (λ m. same_size (yield_in z used (part_at k r m)) (yield_in z used r)) 0 (part_count k r) i found in
@@ -170,7 +173,8 @@ split_on-enough next falls (suc a) (suc b) r l splits low high =
     let on : ℕ → Option Reservation → Layout = λ n o. option_map_or (λ p. split_on next n p after) o after in
     elim (next r) as (λ o. next r ≡ o → on a o ≡ on b o) [
       | None ↦ λ stops. refl
-      | Some p ↦ λ goes. let less = falls r p goes splits in split_on-enough next falls a b p after less.0 (omega (arith, less.1)) (omega (arith, less.1))
+      | Some p ↦ λ goes. let less = falls r p goes splits in split_on-enough next falls a b p after less.0 (omega (arith, less.1))
+          (omega (arith, less.1))
     ] refl
 
 -- Narrowing.
@@ -217,7 +221,8 @@ Narrows-narrow_over (suc n) l id frame r size laid is has used =
     let step : Option Reservation → Layout = λ o. option_map_or (λ p. split_on (narrows_to z frame) n p next) o next in
     elim (cases_lt 0 k) [
       | inl more ↦
-          let rest = Narrows-narrow_over n next mine.frame frame mine (omega (arith, within_at_most z (r.size - 1))) split.laid stands part.3 used in
+          let rest = Narrows-narrow_over n next mine.frame frame mine
+          (omega (arith, within_at_most z (r.size - 1))) split.laid stands part.3 used in
           let both : Narrows l (split_on (narrows_to z frame) n mine next) frame =
           record { settles = Settles-then l next _ split rest.settles; alone = rest.alone; is = rest.is; one = rest.one } in
           let goes : narrows_to z frame r ≡ Some (part_with k frame r) = cond-true _ _ _ (lt-ltb 0 k more) in

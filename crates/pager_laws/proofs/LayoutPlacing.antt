@@ -74,8 +74,12 @@ MayPut-stamped l stamp space page id r laid is has none =
     }
 
 -- The reservation that a choice of free frames makes with an extent of pages that no other one has, may be put into the layout.
-module _ (l : Layout) (stamp space page : ℕ) (found : Found) (laid : IsLaid l) (is : choice l.free found.size ≡ Some found.first)
-    (misses : Misses l space page found.size) where
+pub record IsChosen (l : Layout) (space page : ℕ) (found : Found) : Type 0 where
+  pub laid : IsLaid l
+  pub is : choice l.free found.size ≡ Some found.first
+  pub misses : Misses l space page found.size
+
+module _ (l : Layout) (stamp space page : ℕ) (found : Found) (chosen : IsChosen l space page found) where
   abbrev made : Reservation
   made = new_reservation stamp space page found
 
@@ -83,24 +87,24 @@ module _ (l : Layout) (stamp space page : ℕ) (found : Found) (laid : IsLaid l)
   freed = with_range l.free found.first (8 ^ found.size) false
 
   ends_within : found.first + 8 ^ found.size ≤ length l.free
-  ends_within = choice_within l.free found.size found.first is
+  ends_within = choice_within l.free found.size found.first chosen.is
 
   was_free : (frame : ℕ) → has_frame frame (Some made) ≡ true → is_free l frame ≡ true
   was_free frame has =
       let bounds = has_frame_bounds frame made has in
-      run_free_frames l.free found.first (8 ^ found.size) (run_free-choice l.free found.size found.first is) frame bounds.0 bounds.1
+      run_free_frames l.free found.first (8 ^ found.size) (run_free-choice l.free found.size found.first chosen.is) frame bounds.0 bounds.1
 
   -- a frame of the extent is of no reservation, and no used place
   no_one : (frame id : ℕ) → has_frame frame (Some made) ≡ true → has_frame frame (record_at l id) ≡ true → ⊥
-  no_one frame id mine had = laid.not_free frame id (was_free frame mine) had
+  no_one frame id mine had = chosen.laid.not_free frame id (was_free frame mine) had
 
   idle : (frame : ℕ) → has_frame frame (Some made) ≡ true → is_used l.used frame ≡ false
-  idle frame mine = false_from_ne_true _ (λ used. let held = laid.places frame used in no_one frame held.0 mine held.1)
+  idle frame mine = false_from_ne_true _ (λ used. let held = chosen.laid.places frame used in no_one frame held.0 mine held.1)
 
   vacant_at : (o : Option Reservation) → record_at l found.first ≡ o → record_at l found.first ≡ None
   vacant_at None here = here
   vacant_at (Some r) here =
-      let placed = laid.placed found.first r here in
+      let placed = chosen.laid.placed found.first r here in
       let had = has_frame_from found.first r (omega (arith, placed.named)) (omega (arith, placed.named, eight_pos r.size)) in
       let mine = has_frame_from found.first made (omega arith) (omega (arith, eight_pos found.size)) in
       absurd (no_one found.first found.first mine (ap (has_frame found.first) here ∙ had))
@@ -112,7 +116,7 @@ module _ (l : Layout) (stamp space page : ℕ) (found : Found) (laid : IsLaid l)
   not_had : (s p id : ℕ) (r : Reservation) → record_at l id ≡ Some r → covers s p r ≡ true → covers s p made ≡ true → ⊥
   not_had s p id r here has mine =
       let at = CoversPageOf-covers s p made mine in
-      misses id p r here (ap (λ n. covers n p r) at.space_is ∙ has) at.low at.high
+      chosen.misses id p r here (ap (λ n. covers n p r) at.space_is ∙ has) at.low at.high
 
   nowhere : (s p : ℕ) → covers s p made ≡ true → covering s p l.records ≡ None
   nowhere s p mine =
@@ -147,20 +151,21 @@ module _ (l : Layout) (stamp space page : ℕ) (found : Found) (laid : IsLaid l)
   ]
 
   covers_page : covers space page made ≡ true
-  covers_page = covers-CoversPageOf space page made (record { space_is = refl; low = extent_low found.size page; high = extent_high found.size page })
+  covers_page = covers-CoversPageOf space page made
+      (record { space_is = refl; low = extent_low found.size page; high = extent_high found.size page })
 
   MayPut-reserved : MayPut l space page made freed
   MayPut-reserved =
-      let aligned = IsExtent-choice l.free found.size found.first is in
+      let aligned = IsExtent-choice l.free found.size found.first chosen.is in
       record {
-        laid = laid;
+        laid = chosen.laid;
         placed = record {
           named = refl;
           aligned = aligned;
-          within = omega (arith, ends_within, laid.records_long);
+          within = omega (arith, ends_within, chosen.laid.records_long);
           pages_aligned = (aligned.0, mul-mod_left _ _);
         };
-        known = omega (arith, ends_within, laid.records_long, eight_pos found.size);
+        known = omega (arith, ends_within, chosen.laid.records_long, eight_pos found.size);
         has = covers_page;
         unused = idle (frame_for page made) (has_frame_for space page made covers_page);
         long = length-with_range l.free found.first (8 ^ found.size) false ends_within;
@@ -171,11 +176,13 @@ module _ (l : Layout) (stamp space page : ℕ) (found : Found) (laid : IsLaid l)
         frames = λ frame had. absurd (no_frame frame _ vacant had);
         pages = λ s p r here has. absurd (none-some r (sym vacant ∙ here));
         apart = λ s p id r here has mine. absurd (not_had s p id r here has mine);
-        same = λ s p mine. ap (used_in l.used p) (nowhere s p mine) ∙ sym (used_in-unused l p made (idle (frame_for p made) (has_frame_for s p made mine)));
+        same = λ s p mine. ap (used_in l.used p) (nowhere s p mine) ∙ sym
+            (used_in-unused l p made (idle (frame_for p made) (has_frame_for s p made mine)));
       }
 
 -- a place in a layout that differs by splittings alone is a place
-WasPlaced-settled : (l from new : Layout) (space page frame : ℕ) → Settles l from → WasPlaced from new space page frame → WasPlaced l new space page frame
+WasPlaced-settled : (l from new : Layout) (space page frame : ℕ) → Settles l from → WasPlaced from new space page frame
+    → WasPlaced l new space page frame
 WasPlaced-settled l from new space page frame settles places = record {
   laid = places.laid;
   long = places.long ∙ settles.long;
@@ -201,20 +208,27 @@ WasPlaced-reserved l stamp space page want found laid none is =
     let size = preferred_in l space page want in
     let at = IsFound-largest_extent l size found laid is in
     let misses = Misses-smaller l space page found.size size at.small (Misses-preferred l space page want none) in
-    let may = MayPut-reserved found.layout stamp space page found at.settles.laid at.is (Misses-settled l found.layout space page found.size at.settles misses) in
+    let may = MayPut-reserved found.layout stamp space page found
+    (record { laid = at.settles.laid; is = at.is; misses = Misses-settled l found.layout space page found.size at.settles misses }) in
     WasPlaced-settled l found.layout _ space page _ at.settles (WasPlaced-put found.layout space page _ _ may)
 
 pub WasPlaced-placing : (l : Layout) (stamp space page : ℕ) (want : Want) (place : Placing) → IsLaid l → frame_in l space page ≡ None
     → placing stamp space page want l ≡ Some place → WasPlaced l place.layout space page place.frame
 WasPlaced-placing l stamp space page want place laid none is =
-    elim (covering space page l.records) as (λ o. covering space page l.records ≡ o → placing_in stamp space page want l o ≡ Some place → WasPlaced l place.layout space page place.frame) [
+    elim (covering space page l.records) as (λ o. covering space page l.records ≡ o → placing_in stamp space page want l o ≡ Some place
+    → WasPlaced l place.layout space page place.frame) [
       | Some r ↦ λ here h.
           let w = covering-found space page l.records r here in
-          subst (λ q. WasPlaced l q.layout space page q.frame) (same_Some (populated stamp page l r) place h) (WasPlaced-put l space page (stamped r stamp) l.free (MayPut-stamped l stamp space page w.0 r laid w.2 w.3 none))
+          subst (λ q. WasPlaced l q.layout space page q.frame) (same_Some (populated stamp page l r) place h)
+          (WasPlaced-put l space page (stamped r stamp) l.free (MayPut-stamped l stamp space page w.0 r laid w.2 w.3 none))
       | None ↦ λ nowhere h.
-          elim (largest_extent (preferred_in l space page want) l) as (λ o. largest_extent (preferred_in l space page want) l ≡ o → option_map (reserved stamp space page) o ≡ Some place → WasPlaced l place.layout space page place.frame) [
+          elim (largest_extent (preferred_in l space page want) l) as
+          (λ o. largest_extent (preferred_in l space page want) l ≡ o → option_map (reserved stamp space page) o ≡ Some place
+          → WasPlaced l place.layout space page place.frame) [
             | None ↦ λ _ e. absurd (none-some place e)
-            | Some found ↦ λ found_is e. subst (λ q. WasPlaced l q.layout space page q.frame) (same_Some (reserved stamp space page found) place e) (WasPlaced-reserved l stamp space page want found laid nowhere found_is)
+            | Some found ↦
+                λ found_is e. subst (λ q. WasPlaced l q.layout space page q.frame) (same_Some (reserved stamp space page found) place e)
+                (WasPlaced-reserved l stamp space page want found laid nowhere found_is)
           ] refl h
     ] refl is
 
@@ -225,7 +239,9 @@ full-placing l stamp space page want laid none is =
     elim (covering space page l.records) as (λ o. placing_in stamp space page want l o ≡ None → is_full l ≡ true) [
       | Some r ↦ λ h. absurd (none-some (populated stamp page l r) (sym h))
       | None ↦ λ h.
-          elim (largest_extent (preferred_in l space page want) l) as (λ o. largest_extent (preferred_in l space page want) l ≡ o → option_map (reserved stamp space page) o ≡ None → is_full l ≡ true) [
+          elim (largest_extent (preferred_in l space page want) l) as
+          (λ o. largest_extent (preferred_in l space page want) l ≡ o → option_map (reserved stamp space page) o ≡ None
+          → is_full l ≡ true) [
             | None ↦ λ nothing _.
                 let at = largest_extent-none l (preferred_in l space page want) laid nothing in
                 is_full-from l (EachFull-none l laid at.0 at.1)
@@ -242,5 +258,6 @@ placing-full l stamp space page want laid none full =
           let w = covering-found space page l.records r here in
           let used = used-full l (frame_for page r) w.0 r all w.2 (has_frame_for space page r w.3) in
           absurd (false≢true (sym (frame_in-none l space page w.0 r laid none w.2 w.3) ∙ used))
-      | None ↦ λ _. ap (option_map (reserved stamp space page)) (none-largest_extent l (preferred_in l space page want) (λ k. none-choice l.free k all.taken) (λ k. to_break-full l k laid all))
+      | None ↦ λ _. ap (option_map (reserved stamp space page)) (none-largest_extent l (preferred_in l space page want)
+          (λ k. none-choice l.free k all.taken) (λ k. to_break-full l k laid all))
     ] refl

@@ -31,7 +31,10 @@ pub used_before : (used : List Bool) (frame f : ℕ) → is_used (set used frame
 used_before used frame f is = unset_before used frame f false true false≢true is
 
 -- a page's place is the one that it had, where those that stand stood before, and those with used places still stand
-pages_by : (old new : Layout) (frame : ℕ) → IsLaid old → IsLaid new → new.used ≡ set old.used frame false → ((j : ℕ) (q : Reservation) → record_at new j ≡ Some q → record_at old j ≡ Some q) → ((s p f : ℕ) (place : HasPlace old s p f) → is_used new.used f ≡ true → record_at new place.id ≡ Some place.reservation) → (s p f : ℕ) → (frame_in new s p ≡ Some f) ↔ ((f ≢ frame) × (frame_in old s p ≡ Some f))
+pages_by : (old new : Layout) (frame : ℕ) → IsLaid old → IsLaid new → new.used ≡ set old.used frame false
+    → ((j : ℕ) (q : Reservation) → record_at new j ≡ Some q → record_at old j ≡ Some q)
+    → ((s p f : ℕ) (place : HasPlace old s p f) → is_used new.used f ≡ true → record_at new place.id ≡ Some place.reservation) → (s p f : ℕ)
+    → (frame_in new s p ≡ Some f) ↔ ((f ≢ frame) × (frame_in old s p ≡ Some f))
 pages_by old new frame was now same before after s p f = (
   λ is.
       let place = frame_in-found new s p f is in
@@ -44,22 +47,39 @@ pages_by old new frame was now same before after s p f = (
 )
 
 -- after a range became free, what is free was free before or is in the range
-pub with_range_free : (free : List Bool) (first count : ℕ) → first + count ≤ length free → (f : ℕ) → (get_or (with_range free first count true) f false ≡ true) ↔ ((get_or free f false ≡ true) ⊎ ((first ≤ f) × (f < first + count)))
+pub with_range_free : (free : List Bool) (first count : ℕ) → first + count ≤ length free → (f : ℕ)
+    → (get_or (with_range free first count true) f false ≡ true) ↔ ((get_or free f false ≡ true) ⊎ ((first ≤ f) × (f < first + count)))
 with_range_free free first count fits =
-    range_cases first count (λ f. (get_or (with_range free first count true) f false ≡ true) ↔ ((get_or free f false ≡ true) ⊎ ((first ≤ f) × (f < first + count))))
-    (λ f out. let same = with_range_outside free first count true fits f out in
-    (λ is. inl (sym same ∙ is), λ was. elim was [ inl is ↦ same ∙ is | inr inside ↦ absurd (elim out [ inl before ↦ omega (arith, inside.0) | inr behind ↦ omega (arith, inside.1) ]) ]))
+    range_cases first count (λ f. (get_or (with_range free first count true) f false ≡ true) ↔
+    ((get_or free f false ≡ true) ⊎ ((first ≤ f) × (f < first + count))))
+    (λ f out. let same = with_range_outside free first count true fits f out in (
+      λ is. inl (sym same ∙ is),
+      λ was. elim was [
+        | inl is ↦ same ∙ is
+        | inr inside ↦
+            absurd (elim out [ inl before ↦ omega (arith, inside.0) | inr behind ↦ omega (arith, inside.1) ])
+      ],
+    ))
     (λ f low high. (λ is. inr (low, high), λ was. with_range_inside free first count true fits f low high))
 
 -- after a reservation went no other one has a frame of it
-pub not_in_rest : (l : Layout) (id : ℕ) (r : Reservation) → IsLaid l → record_at l id ≡ Some r → (f j : ℕ) → has_frame f (Some r) ≡ true → has_frame f (get_or (set l.records id None) j None) ≡ true → ⊥
+pub not_in_rest : (l : Layout) (id : ℕ) (r : Reservation) → IsLaid l → record_at l id ≡ Some r → (f j : ℕ) → has_frame f (Some r) ≡ true
+    → has_frame f (get_or (set l.records id None) j None) ≡ true → ⊥
 not_in_rest l id r laid is f j mine has =
     let w = holder f (get_or (set l.records id None) j None) has in
     let was = unset_before l.records id j None (Some w.0) (none-some w.0) w.1 in
     was.0 (laid.apart f j id (ap (has_frame f) was.1 ∙ w.2) (ap (has_frame f) is ∙ mine))
 
 -- A reservation goes whose one used place, if any, is the frame: its frames are free from then on, or out of the layout.
-module _ (l : Layout) (free : List Bool) (id frame : ℕ) (r : Reservation) (laid : IsLaid l) (is : record_at l id ≡ Some r) (long : length free ≡ length l.free) (beside : (f : ℕ) → has_frame f (Some r) ≡ false → get_or free f false ≡ is_free l f) (unused : (f : ℕ) → has_frame f (Some r) ≡ true → is_used (set l.used frame false) f ≡ false) (has : has_frame frame (Some r) ≡ true) where
+pub record GoesFree (l : Layout) (free : List Bool) (id frame : ℕ) (r : Reservation) : Type 0 where
+  pub laid : IsLaid l
+  pub is : record_at l id ≡ Some r
+  pub long : length free ≡ length l.free
+  pub beside : (f : ℕ) → has_frame f (Some r) ≡ false → get_or free f false ≡ is_free l f
+  pub unused : (f : ℕ) → has_frame f (Some r) ≡ true → is_used (set l.used frame false) f ≡ false
+  pub has : has_frame frame (Some r) ≡ true
+
+module _ (l : Layout) (free : List Bool) (id frame : ℕ) (r : Reservation) (goes : GoesFree l free id frame r) where
   abbrev without : Layout
   without = record { sizes = l.sizes; free = free; records = set l.records id None; used = set l.used frame false }
 
@@ -70,43 +90,48 @@ module _ (l : Layout) (free : List Bool) (id frame : ℕ) (r : Reservation) (lai
   -- nothing came in its place
   Replaces-without : Replaces l without r id
   Replaces-without = record {
-    region = IsRegion-own l id r laid is;
+    region = IsRegion-own l id r goes.laid goes.is;
     records_long = length-set l.records id None;
-    free_long = long;
+    free_long = goes.long;
     used_long = length-set l.used frame false;
     who = λ j q at. inl (stood j q at);
     stays = λ j q other at. get_or-set_other l.records id j None None other ∙ at;
-    free = beside;
-    used = λ f out. get_or-set_other l.used frame f false false (λ same. false≢true (sym out ∙ ap (λ g. has_frame g (Some r)) same ∙ has));
-    one_frame = λ f j k mine one two. absurd (not_in_rest l id r laid is f j mine one);
-    not_free = λ f j mine free_now has_now. not_in_rest l id r laid is f j mine has_now;
-    places = λ f mine used. absurd (false≢true (sym (unused f mine) ∙ used));
-    one_page = λ j k s p q t at_j at_k by_j by_k mine. let w = stood j q at_j in absurd (w.0 (laid.one_cover j id s p q r w.1 is by_j mine));
+    free = goes.beside;
+    used = λ f out. get_or-set_other l.used frame f false false
+        (λ same. false≢true (sym out ∙ ap (λ g. has_frame g (Some r)) same ∙ goes.has));
+    one_frame = λ f j k mine one two. absurd (not_in_rest l id r goes.laid goes.is f j mine one);
+    not_free = λ f j mine free_now has_now. not_in_rest l id r goes.laid goes.is f j mine has_now;
+    places = λ f mine used. absurd (false≢true (sym (goes.unused f mine) ∙ used));
+    one_page = λ j k s p q t at_j at_k by_j by_k mine. let w = stood j q at_j in
+        absurd (w.0 (goes.laid.one_cover j id s p q r w.1 goes.is by_j mine));
   }
 
   -- so the frame is given up, by which of the reservation's frames are in the layout then
-  Gives-without : (in_after : ℕ → Type 0) → ((f : ℕ) → has_frame f (Some r) ≡ true → IsIn without f ↔ in_after f) → ((f : ℕ) → has_frame f (Some r) ≡ false → IsIn l f ↔ in_after f) → Gives l without frame in_after
+  Gives-without : (in_after : ℕ → Type 0) → ((f : ℕ) → has_frame f (Some r) ≡ true → IsIn without f ↔ in_after f)
+      → ((f : ℕ) → has_frame f (Some r) ≡ false → IsIn l f ↔ in_after f) → Gives l without frame in_after
   Gives-without in_after inside outside =
-      let laid_after = IsLaid-replaced l without r id laid Replaces-without in
+      let laid_after = IsLaid-replaced l without r id goes.laid Replaces-without in
       record {
         laid = laid_after;
-        long = long;
+        long = goes.long;
         used = refl;
         within = λ f. elim (cases_Bool (has_frame f (Some r))) [
           | inl mine ↦ inside f mine
           | inr out ↦
-              let same = IsIn-beside l without r id laid Replaces-without f out in
+              let same = IsIn-beside l without r id goes.laid Replaces-without f out in
               (λ now. (outside f out).0 (same.0 now), λ was. same.1 ((outside f out).1 was))
         ];
-        pages = pages_by l without frame laid laid_after refl (λ j q at. (stood j q at).1) (λ s p f place used.
+        pages = pages_by l without frame goes.laid laid_after refl (λ j q at. (stood j q at).1) (λ s p f place used.
             let other : place.id ≢ id = λ here.
-            (let same : place.reservation ≡ r = same_Some place.reservation r (sym place.is ∙ ap (record_at l) here ∙ is) in
-            false≢true (sym (unused f (ap (λ q. has_frame f (Some q)) (sym same) ∙ HasPlace-has l s p f place)) ∙ used)) in
+            (let same : place.reservation ≡ r = same_Some place.reservation r (sym place.is ∙ ap (record_at l) here ∙ goes.is) in
+            false≢true (sym (goes.unused f (ap (λ q. has_frame f (Some q)) (sym same) ∙ HasPlace-has l s p f place)) ∙ used)) in
             get_or-set_other l.records id place.id None None other ∙ place.is);
       }
 
 -- the reservation keeps a used place
-Gives-keeping : (l : Layout) (id frame : ℕ) (r : Reservation) → IsLaid l → record_at l id ≡ Some r → has_frame frame (Some r) ≡ true → is_last frame r l ≡ false → Gives l (record { sizes = l.sizes; free = l.free; records = l.records; used = set l.used frame false }) frame (IsIn l)
+Gives-keeping : (l : Layout) (id frame : ℕ) (r : Reservation) → IsLaid l → record_at l id ≡ Some r → has_frame frame (Some r) ≡ true
+    → is_last frame r l ≡ false
+    → Gives l (record { sizes = l.sizes; free = l.free; records = l.records; used = set l.used frame false }) frame (IsIn l)
 Gives-keeping l id frame r laid is has keeps =
     let new : Layout = record { sizes = l.sizes; free = l.free; records = l.records; used = set l.used frame false } in
     let laid_after : IsLaid new = record {
@@ -123,7 +148,8 @@ Gives-keeping l id frame r laid is has keeps =
             (w.0, ap (λ s. has_frame w.0 (Some s)) (sym same) ∙ has_frame_from w.0 r w.1 w.2, w.3)
         | inr other ↦
             let u = laid.some_used j q at in
-            let apart_from : u.0 ≢ frame = λ same. other (laid.apart u.0 j id (ap (has_frame u.0) at ∙ u.1) (ap (has_frame u.0) is ∙ ap (λ f. has_frame f (Some r)) same ∙ has)) in
+            let apart_from : u.0 ≢ frame = λ same. other (laid.apart u.0 j id (ap (has_frame u.0) at ∙ u.1)
+            (ap (has_frame u.0) is ∙ ap (λ f. has_frame f (Some r)) same ∙ has)) in
             (u.0, u.1, get_or-set_other l.used frame u.0 false false apart_from ∙ u.2)
       ];
       one_cover = laid.one_cover;
@@ -137,38 +163,62 @@ Gives-keeping l id frame r laid is has keeps =
     }
 
 -- the reservation has no used place left
-Gives-last : (l : Layout) (frame : ℕ) (r : Reservation) → IsLaid l → record_at l r.frame ≡ Some r → has_frame frame (Some r) ≡ true → is_last frame r l ≡ true → Gives l (record { sizes = l.sizes; free = with_range l.free r.frame (8 ^ r.size) true; records = set l.records r.frame None; used = set l.used frame false }) frame (IsIn l)
+Gives-last : (l : Layout) (frame : ℕ) (r : Reservation) → IsLaid l → record_at l r.frame ≡ Some r → has_frame frame (Some r) ≡ true
+    → is_last frame r l ≡ true
+    → Gives l (record {
+      sizes = l.sizes;
+      free = with_range l.free r.frame (8 ^ r.size) true;
+      records = set l.records r.frame None;
+      used = set l.used frame false;
+    }) frame (IsIn l)
 Gives-last l frame r laid is has last =
     let placed = laid.placed r.frame r is in
     let fits : r.frame + 8 ^ r.size ≤ length l.free = omega (arith, placed.within, laid.records_long) in
     let long = length-with_range l.free r.frame (8 ^ r.size) true fits in
     let freed = with_range_free l.free r.frame (8 ^ r.size) fits in
     let unused : (f : ℕ) → has_frame f (Some r) ≡ true → is_used (set l.used frame false) f ≡ false =
-    λ f mine. (let bounds = has_frame_bounds f r mine in unused_in (is_used (set l.used frame false)) r.frame (8 ^ r.size) last f bounds.0 bounds.1) in
+    λ f mine. (let bounds = has_frame_bounds f r mine in unused_in (is_used (set l.used frame false)) r.frame
+    (8 ^ r.size) last f bounds.0 bounds.1) in
     let beside : (f : ℕ) → has_frame f (Some r) ≡ false → get_or (with_range l.free r.frame (8 ^ r.size) true) f false ≡ is_free l f =
     λ f out. both_ways _ _
     (λ now. elim ((freed f).0 now) [ inl was ↦ was | inr inside ↦ absurd (false≢true (sym out ∙ has_frame_from f r inside.0 inside.1)) ])
     (λ was. (freed f).1 (inl was)) in
-    Gives-without l (with_range l.free r.frame (8 ^ r.size) true) r.frame frame r laid is long beside unused has (IsIn l)
+    Gives-without l (with_range l.free r.frame (8 ^ r.size) true) r.frame frame r
+    (record { laid = laid; is = is; long = long; beside = beside; unused = unused; has = has }) (IsIn l)
     (λ f mine. (λ _. inr (r.frame, ap (has_frame f) is ∙ mine), λ _. inl ((freed f).1 (inr (has_frame_bounds f r mine)))))
     (λ f out. (λ now. now, λ was. was))
 
 -- a used place is unused from then on, and no frame leaves the layout or comes into it
-pub Gives-vacate : (l : Layout) (id frame : ℕ) (r : Reservation) → IsLaid l → record_at l id ≡ Some r → has_frame frame (Some r) ≡ true → is_used l.used frame ≡ true → Gives l (vacate_layout frame r l) frame (IsIn l)
+pub Gives-vacate : (l : Layout) (id frame : ℕ) (r : Reservation) → IsLaid l → record_at l id ≡ Some r → has_frame frame (Some r) ≡ true
+    → is_used l.used frame ≡ true → Gives l (vacate_layout frame r l) frame (IsIn l)
 Gives-vacate l id frame r laid is has used =
-    elim (is_last frame r l) as (λ b. is_last frame r l ≡ b → Gives l (record { sizes = l.sizes; free = cond b (with_range l.free r.frame (8 ^ r.size) true) l.free; records = cond b (set l.records r.frame None) l.records; used = set l.used frame false }) frame (IsIn l)) [
+    elim (is_last frame r l) as (λ b. is_last frame r l ≡ b → Gives l (record {
+      sizes = l.sizes;
+      free = cond b (with_range l.free r.frame (8 ^ r.size) true) l.free;
+      records = cond b (set l.records r.frame None) l.records;
+      used = set l.used frame false;
+    }) frame (IsIn l)) [
       | true ↦ λ last. Gives-last l frame r laid (ap (record_at l) (laid.placed id r is).named ∙ is) has last
       | false ↦ λ keeps. Gives-keeping l id frame r laid is has keeps
     ] refl
 
 -- a reservation of one frame goes, and its frame is out of the layout
-pub Gives-take_out : (l : Layout) (frame : ℕ) (r : Reservation) → IsLaid l → record_at l frame ≡ Some r → r.size ≡ 0 → Gives l (take_out frame l) frame (λ f. IsIn l f × (f ≢ frame))
+pub Gives-take_out : (l : Layout) (frame : ℕ) (r : Reservation) → IsLaid l → record_at l frame ≡ Some r → r.size ≡ 0
+    → Gives l (take_out frame l) frame (λ f. IsIn l f × (f ≢ frame))
 Gives-take_out l frame r laid is one =
     let named = (laid.placed frame r is).named in
     let width : 8 ^ r.size ≡ 1 = ap (λ k. 8 ^ k) one in
     let has : has_frame frame (Some r) ≡ true = has_frame_from frame r (omega (arith, named)) (omega (arith, named, width)) in
-    let only : (f : ℕ) → has_frame f (Some r) ≡ true → f ≡ frame = λ f mine. (let bounds = has_frame_bounds f r mine in omega (arith, bounds.0, bounds.1, named, width)) in
-    Gives-without l l.free frame frame r laid is refl (λ f out. refl) (λ f mine. get_or-set_default l.used frame f false (only f mine)) has (λ f. IsIn l f × (f ≢ frame))
+    let only : (f : ℕ) → has_frame f (Some r) ≡ true → f ≡ frame = λ f mine.
+    (let bounds = has_frame_bounds f r mine in omega (arith, bounds.0, bounds.1, named, width)) in
+    Gives-without l l.free frame frame r (record {
+      laid = laid;
+      is = is;
+      long = refl;
+      beside = λ f out. refl;
+      unused = λ f mine. get_or-set_default l.used frame f false (only f mine);
+      has = has;
+    }) (λ f. IsIn l f × (f ≢ frame))
     (λ f mine. (
       λ now. elim now [
         | inl free ↦ absurd (laid.not_free f frame free (ap (has_frame f) is ∙ mine))
@@ -179,7 +229,8 @@ Gives-take_out l frame r laid is one =
     (λ f out. (λ now. (now, λ same. false≢true (sym out ∙ ap (λ g. has_frame g (Some r)) same ∙ has)), λ was. was.0))
 
 -- a used place is carved out, and this frame alone leaves the layout
-pub Gives-carve : (l : Layout) (id frame : ℕ) (r : Reservation) → IsLaid l → record_at l id ≡ Some r → has_frame frame (Some r) ≡ true → is_used l.used frame ≡ true → Gives l (carve_layout frame r l) frame (λ f. IsIn l f × (f ≢ frame))
+pub Gives-carve : (l : Layout) (id frame : ℕ) (r : Reservation) → IsLaid l → record_at l id ≡ Some r → has_frame frame (Some r) ≡ true
+    → is_used l.used frame ≡ true → Gives l (carve_layout frame r l) frame (λ f. IsIn l f × (f ≢ frame))
 Gives-carve l id frame r laid is has used =
     let n = Narrows-narrow l id frame r laid is has used in
     let s = n.settles in
@@ -205,7 +256,8 @@ pub record PutsBack (old new : Layout) (frame : ℕ) : Type 0 where
   pub within : (f : ℕ) → IsIn new f ↔ (IsIn old f ⊎ (f ≡ frame))
 
 -- a frame out of the layout is put back
-pub PutsBack-put_back : (l : Layout) (frame : ℕ) → IsLaid l → frame < length l.free → (IsIn l frame → ⊥) → PutsBack l (put_back frame l) frame
+pub PutsBack-put_back : (l : Layout) (frame : ℕ) → IsLaid l → frame < length l.free → (IsIn l frame → ⊥)
+    → PutsBack l (put_back frame l) frame
 PutsBack-put_back l frame laid known out =
     let long = length-with_range l.free frame 1 true (omega (arith, known)) in
     let freed = with_range_free l.free frame 1 (omega (arith, known)) in

@@ -46,7 +46,8 @@ pub record Replaces (old new : Layout) (r : Reservation) (at : ℕ) : Type 0 whe
   pub free : (f : ℕ) → has_frame f (Some r) ≡ false → is_free new f ≡ is_free old f
   pub used : (f : ℕ) → has_frame f (Some r) ≡ false → is_used new.used f ≡ is_used old.used f
   -- in r no frame is of two reservations, no place free, each used place a place, and no page in two
-  pub one_frame : (f id other : ℕ) → has_frame f (Some r) ≡ true → has_frame f (record_at new id) ≡ true → has_frame f (record_at new other) ≡ true → id ≡ other
+  pub one_frame : (f id other : ℕ) → has_frame f (Some r) ≡ true → has_frame f (record_at new id) ≡ true
+      → has_frame f (record_at new other) ≡ true → id ≡ other
   pub not_free : (f id : ℕ) → has_frame f (Some r) ≡ true → is_free new f ≡ true → has_frame f (record_at new id) ≡ true → ⊥
   pub places : (f : ℕ) → has_frame f (Some r) ≡ true → is_used new.used f ≡ true → (id : ℕ) × (has_frame f (record_at new id) ≡ true)
   pub one_page : (id other s p : ℕ) (q t : Reservation) → record_at new id ≡ Some q → record_at new other ≡ Some t → covers s p q ≡ true
@@ -59,11 +60,14 @@ holder f (Some q) has = (q, refl, has)
 
 module _ (old new : Layout) (r : Reservation) (at : ℕ) (laid : IsLaid old) (move : Replaces old new r at) where
   -- a frame of another reservation is beside r, and as used as before
-  used_beside : (f j : ℕ) (q : Reservation) → j ≢ at → record_at old j ≡ Some q → has_frame f (Some q) ≡ true → is_used new.used f ≡ is_used old.used f
-  used_beside f j q other is has = move.used f (false_from_ne_true _ (λ mine. other (move.region.alone f j mine (ap (has_frame f) is ∙ has))))
+  used_beside : (f j : ℕ) (q : Reservation) → j ≢ at → record_at old j ≡ Some q → has_frame f (Some q) ≡ true
+      → is_used new.used f ≡ is_used old.used f
+  used_beside f j q other is has = move.used f
+      (false_from_ne_true _ (λ mine. other (move.region.alone f j mine (ap (has_frame f) is ∙ has))))
 
   -- a frame beside r is of the reservations that it was of
-  pub has_beside : (f j : ℕ) → has_frame f (Some r) ≡ false → (has_frame f (record_at new j) ≡ true) ↔ (has_frame f (record_at old j) ≡ true)
+  pub has_beside : (f j : ℕ) → has_frame f (Some r) ≡ false → (has_frame f (record_at new j) ≡ true) ↔
+      (has_frame f (record_at old j) ≡ true)
   has_beside f j out = (
     λ now. let w = holder f (record_at new j) now in elim (move.who j w.0 w.1) [
       | inl still ↦ ap (has_frame f) still.1 ∙ w.2
@@ -71,20 +75,27 @@ module _ (old new : Layout) (r : Reservation) (at : ℕ) (laid : IsLaid old) (mo
     ],
     λ was.
         let w = holder f (record_at old j) was in
-        let other : j ≢ at = λ here. false≢true (sym out ∙ move.region.frames f (sym (ap (λ k. has_frame f (record_at old k)) here) ∙ was)) in
+        let other : j ≢ at = λ here. false≢true (sym out ∙ move.region.frames f
+        (sym (ap (λ k. has_frame f (record_at old k)) here) ∙ was)) in
         ap (has_frame f) (move.stays j w.0 other w.1) ∙ w.2,
   )
 
   -- a reservation with a page beside r stood before
-  stood_beside : (j s p : ℕ) (q : Reservation) → covers s p r ≡ false → record_at new j ≡ Some q → covers s p q ≡ true → (j ≢ at) × (record_at old j ≡ Some q)
-  stood_beside j s p q out is has = elim (move.who j q is) [ inl still ↦ still | inr came ↦ absurd (false≢true (sym out ∙ came.pages s p has)) ]
+  stood_beside : (j s p : ℕ) (q : Reservation) → covers s p r ≡ false → record_at new j ≡ Some q → covers s p q ≡ true
+      → (j ≢ at) × (record_at old j ≡ Some q)
+  stood_beside j s p q out is has = elim (move.who j q is) [
+    | inl still ↦ still
+    | inr came ↦
+        absurd (false≢true (sym out ∙ came.pages s p has))
+  ]
 
   -- the new layout is sound
   pub IsLaid-replaced : IsLaid new
   IsLaid-replaced = record {
     records_long = move.records_long ∙ laid.records_long ∙ sym move.free_long;
     used_long = move.used_long ∙ laid.used_long ∙ sym move.free_long;
-    placed = λ j q is. subst (λ n. IsPlaced n j q) (sym move.records_long) (elim (move.who j q is) [ inl still ↦ laid.placed j q still.1 | inr came ↦ came.placed ]);
+    placed = λ j q is. subst (λ n. IsPlaced n j q) (sym move.records_long)
+        (elim (move.who j q is) [ inl still ↦ laid.placed j q still.1 | inr came ↦ came.placed ]);
     apart = λ f j k a b. elim (cases_Bool (has_frame f (Some r))) [
       | inl inside ↦ move.one_frame f j k inside a b
       | inr out ↦ laid.apart f j k ((has_beside f j out).0 a) ((has_beside f k out).0 b)
@@ -125,6 +136,8 @@ module _ (old new : Layout) (r : Reservation) (at : ℕ) (laid : IsLaid old) (mo
       frame_in-from old s p f laid (HasPlace-kept new old s p f place was.1 (sym used ∙ place.used)))
       (λ f found.
       let place = frame_in-found old s p f found in
-      let other : place.id ≢ at = λ here. false≢true (sym out ∙ move.region.pages s p place.reservation (sym (ap (record_at old) here) ∙ place.is) place.covers_page) in
+      let other : place.id ≢ at = λ here. false≢true (sym out ∙ move.region.pages s p place.reservation
+      (sym (ap (record_at old) here) ∙ place.is) place.covers_page) in
       let used = used_beside f place.id place.reservation other place.is (HasPlace-has old s p f place) in
-      frame_in-from new s p f IsLaid-replaced (HasPlace-kept old new s p f place (move.stays place.id place.reservation other place.is) (used ∙ place.used)))
+      frame_in-from new s p f IsLaid-replaced (HasPlace-kept old new s p f place (move.stays place.id place.reservation other place.is)
+      (used ∙ place.used)))

@@ -49,7 +49,8 @@ module _ (k : ℕ) (l new : Layout) (id : ℕ) (r : Reservation) (laid : IsLaid 
   region = IsRegion-own l id r laid is
 
   -- a record beside the reservation is at no part's frame
-  pub beside_parts : (j : ℕ) (q : Reservation) → j ≢ id → record_at l j ≡ Some q → (i : ℕ) → i < part_count k r → j ≡ (part_at k r i).frame → ⊥
+  pub beside_parts : (j : ℕ) (q : Reservation) → j ≢ id → record_at l j ≡ Some q → (i : ℕ) → i < part_count k r → j ≡ (part_at k r i).frame
+      → ⊥
   beside_parts j q other stands i one at =
       let own = laid.placed j q stands in
       let ends = part_ends k i r le one in
@@ -62,7 +63,8 @@ module _ (k : ℕ) (l new : Layout) (id : ℕ) (r : Reservation) (laid : IsLaid 
   stands_still j q other stands = split.others j (beside_parts j q other stands) ∙ stands
 
   -- and so does each part with a used place
-  pub part_stands : (i : ℕ) → i < part_count k r → is_empty_at k (is_used l.used) r i ≡ false → record_at new (part_at k r i).frame ≡ Some (part_at k r i)
+  pub part_stands : (i : ℕ) → i < part_count k r → is_empty_at k (is_used l.used) r i ≡ false
+      → record_at new (part_at k r i).frame ≡ Some (part_at k r i)
   part_stands i one filled = split.parts i one ∙ cond-false _ _ _ filled
 
   -- a record that stands then stood before and isn't the reservation, or is a part with a used place
@@ -83,7 +85,8 @@ module _ (k : ℕ) (l new : Layout) (id : ℕ) (r : Reservation) (laid : IsLaid 
   ]
 
   -- a page of a part is a page of the reservation
-  pub whole_covers : (s p : ℕ) (q : Reservation) (i : ℕ) → i < part_count k r → part_at k r i ≡ q → covers s p q ≡ true → covers s p r ≡ true
+  pub whole_covers : (s p : ℕ) (q : Reservation) (i : ℕ) → i < part_count k r → part_at k r i ≡ q → covers s p q ≡ true
+      → covers s p r ≡ true
   whole_covers s p q i one same has = covers_whole k s p i r le one (ap (covers s p) same ∙ has)
 
   -- a frame of the reservation is one of a part then
@@ -114,7 +117,8 @@ module _ (k : ℕ) (l new : Layout) (id : ℕ) (r : Reservation) (laid : IsLaid 
   -- a part that stands came in its place, with a used one
   pub part_came : (j i : ℕ) → IsPartAt k l r j i → CameIn l new r j (part_at k r i)
   part_came j i part = record {
-    placed = subst (λ n. IsPlaced (length l.records) n (part_at k r i)) (sym part.at) (part_at-placed (length l.records) k i r (placed_own l id r laid is) le part.below);
+    placed = subst (λ n. IsPlaced (length l.records) n (part_at k r i)) (sym part.at)
+        (part_at-placed (length l.records) k i r (placed_own l id r laid is) le part.below);
     frames = part_in_whole k r le i part.below;
     pages = λ s p. covers_whole k s p i r le part.below;
     some_used =
@@ -129,10 +133,18 @@ module _ (k : ℕ) (l new : Layout) (id : ℕ) (r : Reservation) (laid : IsLaid 
     records_long = split.records_long;
     free_long = split.free_long;
     used_long = ap length split.used;
-    who = λ j q stands. elim (who_stands j q stands) [ inl still ↦ inl still | inr part ↦ inr (subst (CameIn l new r j) part.2 (part_came j part.0 part.1)) ];
+    who = λ j q stands. elim (who_stands j q stands) [
+      | inl still ↦ inl still
+      | inr part ↦
+          inr (subst (CameIn l new r j) part.2 (part_came j part.0 part.1))
+    ];
     stays = stands_still;
     free = λ f out. both_ways _ _
-        (λ now. elim (split.free_cases f now) [ inl was ↦ was | inr emptied ↦ absurd (false≢true (sym out ∙ part_in_whole k r le emptied.part emptied.below f emptied.has)) ])
+        (λ now. elim (split.free_cases f now) [
+          | inl was ↦ was
+          | inr emptied ↦
+              absurd (false≢true (sym out ∙ part_in_whole k r le emptied.part emptied.below f emptied.has))
+        ])
         (split.free_before f);
     used = λ f out. ap (λ u. is_used u f) split.used;
     one_frame = λ f j m inside a b.
@@ -143,7 +155,8 @@ module _ (k : ℕ) (l new : Layout) (id : ℕ) (r : Reservation) (laid : IsLaid 
       | inl was ↦ laid.not_free f id was (ap (has_frame f) is ∙ inside)
       | inr emptied ↦
           let x = part_holds f j inside has in
-          false≢true (sym x.1.filled ∙ ap (is_empty_at k (is_used l.used) r) (same_part k r f x.0 emptied.part x.2 emptied.has) ∙ emptied.empty)
+          false≢true (sym x.1.filled ∙ ap (is_empty_at k (is_used l.used) r) (same_part k r f x.0 emptied.part x.2 emptied.has)
+          ∙ emptied.empty)
     ];
     places = λ f inside used.
         let part = used_stands f inside (sym (ap (λ u. is_used u f) split.used) ∙ used) in
@@ -192,7 +205,8 @@ module _ (k : ℕ) (l new : Layout) (id : ℕ) (r : Reservation) (laid : IsLaid 
         (λ f found.
         let place = frame_in-found l s p f found in
         let same = region.apart s p place.id place.reservation place.is place.covers_page has in
-        let at : f ≡ frame_for p r = place.frame ∙ ap (frame_for p) (same_Some place.reservation r (sym place.is ∙ ap (record_at l) same ∙ is)) in
+        let at : f ≡ frame_for p r = place.frame ∙ ap (frame_for p) (same_Some place.reservation r
+        (sym place.is ∙ ap (record_at l) same ∙ is)) in
         let part = used_stands (frame_for p r) (has_frame_for s p r has) (sym (ap (is_used l.used) at) ∙ place.used) in
         let part_has = part_covers k s p part.0 r has part.1 in
         frame_in-from new s p f IsLaid-split (record {
@@ -226,6 +240,7 @@ module _ (k : ℕ) (l new : Layout) (id : ℕ) (r : Reservation) (laid : IsLaid 
   }
 
 -- splitting a reservation keeps all this
-pub Settles-parted : (k : ℕ) (l : Layout) (id : ℕ) (r : Reservation) → IsLaid l → record_at l id ≡ Some r → k ≤ r.size → Settles l (parted k r l)
+pub Settles-parted : (k : ℕ) (l : Layout) (id : ℕ) (r : Reservation) → IsLaid l → record_at l id ≡ Some r → k ≤ r.size
+    → Settles l (parted k r l)
 Settles-parted k l id r laid is le =
     Settles-from k l (parted k r l) id r laid is le (IsSplit-parted k l r laid.records_long (placed_own l id r laid is) le)

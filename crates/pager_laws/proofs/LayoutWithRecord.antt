@@ -77,7 +77,11 @@ module _ (l : Layout) (space page : ℕ) (q : Reservation) (free : List Bool) (m
   ]
 
   only_page : (s p id : ℕ) (r : Reservation) → record_at new id ≡ Some r → covers s p r ≡ true → covers s p q ≡ true → id ≡ q.frame
-  only_page s p id r is has mine = elim (cases_eq id q.frame) [ inl here ↦ here | inr other ↦ may.apart s p id r (sym (there_is id other) ∙ is) has mine ]
+  only_page s p id r is has mine = elim (cases_eq id q.frame) [
+    | inl here ↦ here
+    | inr other ↦
+        may.apart s p id r (sym (there_is id other) ∙ is) has mine
+  ]
 
   -- what stood at its first frame gave way to the reservation
   Replaces-put : Replaces l new q q.frame
@@ -89,12 +93,19 @@ module _ (l : Layout) (space page : ℕ) (q : Reservation) (free : List Bool) (m
     who = λ id r is. elim (cases_eq id q.frame) [
       | inl here ↦
           let came : CameIn l new q q.frame q =
-          record { placed = may.placed; frames = λ f has. has; pages = λ s p has. has; some_used = (frame_for page q, used_frame, now_used (frame_for page q) refl) } in
-          inr (subst (λ k. CameIn l new q k r) (sym here) (subst (CameIn l new q q.frame) (same_Some q r (sym (here_is id here) ∙ is)) came))
+          record {
+            placed = may.placed;
+            frames = λ f has. has;
+            pages = λ s p has. has;
+            some_used = (frame_for page q, used_frame, now_used (frame_for page q) refl);
+          } in
+          inr (subst (λ k. CameIn l new q k r) (sym here) (subst (CameIn l new q q.frame)
+          (same_Some q r (sym (here_is id here) ∙ is)) came))
       | inr other ↦ inl (other, sym (there_is id other) ∙ is)
     ];
     stays = λ id r other is. there_is id other ∙ is;
-    free = λ f out. both_ways _ _ (λ now. (may.taken f now).0) (λ was. elim (may.left f was) [ inl left ↦ left | inr mine ↦ absurd (false≢true (sym out ∙ mine)) ]);
+    free = λ f out. both_ways _ _ (λ now. (may.taken f now).0) (λ was. elim
+        (may.left f was) [ inl left ↦ left | inr mine ↦ absurd (false≢true (sym out ∙ mine)) ]);
     used = λ f out. as_used f (λ same. false≢true (sym out ∙ ap (λ g. has_frame g (Some q)) same ∙ used_frame));
     one_frame = λ f id other mine a b. only_frame f id mine a ∙ sym (only_frame f other mine b);
     not_free = λ f id mine free _. (may.taken f free).1 mine;
@@ -130,13 +141,15 @@ module _ (l : Layout) (space page : ℕ) (q : Reservation) (free : List Bool) (m
         new_place s p has ∙ used_in-used new p q (now_used (frame_for p q) here) ∙ ap Some here
         ∙ sym (cond-true _ _ _ (same_page s p has here))
     | inr other ↦
-        let differs : (eqb space s && eqb p page) ≡ false = false_from_ne_true _ (λ same. other (ap (λ n. frame_for n q) (eqb-true p page (and_parts _ _ same).1))) in
+        let differs : (eqb space s && eqb p page) ≡ false = false_from_ne_true _
+        (λ same. other (ap (λ n. frame_for n q) (eqb-true p page (and_parts _ _ same).1))) in
         new_place s p has ∙ ap (λ b. cond b (Some (frame_for p q)) None) (as_used (frame_for p q) other) ∙ sym (may.same s p has)
         ∙ sym (cond-false _ _ _ differs)
   ]
 
   -- every other page keeps its place
-  pub frame_in-put : (s p : ℕ) → frame_in (put l q (frame_for page q) free) s p ≡ cond (eqb space s && eqb p page) (Some (frame_for page q)) (frame_in l s p)
+  pub frame_in-put : (s p : ℕ) → frame_in (put l q (frame_for page q) free) s p
+      ≡ cond (eqb space s && eqb p page) (Some (frame_for page q)) (frame_in l s p)
   frame_in-put s p = elim (cases_Bool (covers s p q)) [
     | inl has ↦ inside s p has
     | inr out ↦
@@ -147,4 +160,5 @@ module _ (l : Layout) (space page : ℕ) (q : Reservation) (free : List Bool) (m
       at_page : (s p : ℕ) → (eqb space s && eqb p page) ≡ true → covers s p q ≡ true
       at_page s p same =
           let parts = and_parts _ _ same in
-          subst (λ n. covers n p q ≡ true) (eqb-true space s parts.0) (subst (λ n. covers space n q ≡ true) (sym (eqb-true p page parts.1)) may.has)
+          subst (λ n. covers n p q ≡ true) (eqb-true space s parts.0)
+          (subst (λ n. covers space n q ≡ true) (sym (eqb-true p page parts.1)) may.has)

@@ -64,9 +64,11 @@ alone P space (Refused wired claimed held) names a o f = absurd (false≢true na
 alone P space (Rest short) names a o f = absurd (false≢true names.1)
 
 -- it leaves every page its frame
-base-alone : (base : ℕ → Option ℕ) (space : Option ℕ) (what : What) → IsOn space false what → (p : ℕ) → base_after base false what p ≡ base p
+base-alone : (base : ℕ → Option ℕ) (space : Option ℕ) (what : What) → IsOn space false what → (p : ℕ)
+    → base_after base false what p ≡ base p
 base-alone base space what names p =
-    alone (λ w. base_after base false w p ≡ base p) space what names (λ number call answered. base-unnamed base call p) (λ page written. refl) (λ page writing count. refl)
+    alone (λ w. base_after base false w p ≡ base p) space what names (λ number call answered. base-unnamed base call p)
+    (λ page written. refl) (λ page writing count. refl)
 
 -- and its processor its frame
 owns-alone : (st : FrameState) (c : ℕ) (space : Option ℕ) (what : What) → IsOn space false what → (p q : Progress)
@@ -76,13 +78,16 @@ owns-alone st c space what names =
     (λ number call answered p q. owns-answer st st c (Keeps-same st c) p q number call answered.reply)
     (by_out space) (by_failure space)
   where
-    by_out : (o : Option ℕ) (page : ℕ) (written : Bool) (p q : Progress) → progress_after p o (Out page written) ≡ Some q → OwnsBy st c p.doing → OwnsBy st c q.doing
+    by_out : (o : Option ℕ) (page : ℕ) (written : Bool) (p q : Progress) → progress_after p o (Out page written) ≡ Some q
+        → OwnsBy st c p.doing → OwnsBy st c q.doing
     by_out None page written p q goes owns = absurd (none-some q goes)
     by_out (Some s) page written p q goes owns = owns-out st st c (Keeps-same st c) p.made p.doing q s page goes owns
 
-    by_failure : (o : Option ℕ) (page : ℕ) (writing : Bool) (count : ℕ) (p q : Progress) → progress_after p o (Failed page writing count) ≡ Some q → OwnsBy st c p.doing → OwnsBy st c q.doing
+    by_failure : (o : Option ℕ) (page : ℕ) (writing : Bool) (count : ℕ) (p q : Progress)
+        → progress_after p o (Failed page writing count) ≡ Some q → OwnsBy st c p.doing → OwnsBy st c q.doing
     by_failure None page writing count p q goes owns = absurd (none-some q goes)
-    by_failure (Some s) page writing count p q goes owns = owns-failure st st c (Keeps-same st c) p.made p.doing q s page writing count goes owns
+    by_failure (Some s) page writing count p q goes owns = owns-failure st st c
+        (Keeps-same st c) p.made p.doing q s page writing count goes owns
 
 -- Entries on the frames.
 
@@ -97,9 +102,11 @@ record GoesOn (st after : FrameState) (c : ℕ) (space : Option ℕ) (what : Wha
 -- the pages of a space that pass a test have this frame then, or none, and all others keep theirs
 module _ (st after : FrameState) (space : ℕ) (test : ℕ → Bool) (frame : Option ℕ)
     (pages : (s p : ℕ) → frame_of after s p ≡ cond (eqb space s && test p) frame (frame_of st s p)) where
-  named_pages : (base : ℕ → Option ℕ) (s p : ℕ) → Some space ≡ Some s → base p ≡ frame_of st s p → cond (test p) frame (base p) ≡ frame_of after s p
+  named_pages : (base : ℕ → Option ℕ) (s p : ℕ) → Some space ≡ Some s → base p ≡ frame_of st s p
+      → cond (test p) frame (base p) ≡ frame_of after s p
   named_pages base s p same now =
-      ap (cond (test p) frame) now ∙ sym (pages s p ∙ ap (λ b. cond (b && test p) frame (frame_of st s p)) (eq-eqb space s (same_Some space s same)))
+      ap (cond (test p) frame) now ∙ sym (pages s p ∙ ap (λ b. cond (b && test p) frame (frame_of st s p))
+      (eq-eqb space s (same_Some space s same)))
 
   other_pages : (s p : ℕ) → eqb space s ≡ false → frame_of after s p ≡ frame_of st s p
   other_pages s p apart = pages s p ∙ ap (λ b. cond (b && test p) frame (frame_of st s p)) apart
@@ -117,23 +124,30 @@ Takes-from : (frames processors : ℕ) (st : FrameState) (space page frame : ℕ
     → frame_of st space page ≡ None → IsSomeAnd (take_frame st space page want) (λ t. t.frame ≡ frame)
     → Takes st space page frame (counted (state_taken st (take_frame st space page want)))
 Takes-from frames processors st space page frame want sound none takes =
-    elim (take_frame st space page want) as (λ o. take_frame st space page want ≡ o → IsSomeAnd o (λ t. t.frame ≡ frame) → Takes st space page frame (counted (state_taken st o))) [
+    elim (take_frame st space page want) as (λ o. take_frame st space page want ≡ o → IsSomeAnd o (λ t. t.frame ≡ frame)
+    → Takes st space page frame (counted (state_taken st o))) [
       | None ↦ λ _ no. absurd no
       | Some t ↦ λ is same.
           let does = Takes-take_frame frames processors st space page want t sound none is in
           record {
-            keeps = λ d. Keeps-move st t.state d (Keeps-take frames processors st space page want t d sound none is);
-            pages = λ s p. ap (λ l. frame_in l s p) does.layout ∙ does.places.pages s p ∙ ap (λ f. cond (eqb space s && eqb p page) (Some f) (frame_of st s p)) same;
+            keeps = λ d. Keeps-move st t.state d (Keeps-take frames processors st space page want t sound none is d);
+            pages = λ s p. ap (λ l. frame_in l s p) does.layout ∙ does.places.pages s p
+                ∙ ap (λ f. cond (eqb space s && eqb p page) (Some f) (frame_of st s p)) same;
           }
     ] refl takes
 
 -- an answer that names the frames is of an evict, and its page gives its frame up
-GoesOn-answer : (frames processors : ℕ) (st : FrameState) (c space number : ℕ) (call : Call) (answered : Answered)
-    → IsSound frames processors st → AllowsAnswer st space call
+GoesOn-answer : (frames processors : ℕ) (st : FrameState) (c space number : ℕ) (call : Call) → IsSound frames processors st
+    → AllowsAnswer st space call → (answered : Answered)
     → GoesOn st (counted (moved_by_answer st space call)) c (Some space) (Answer number call answered)
-GoesOn-answer frames processors st c space number (Evict t page) answered sound allowed =
+GoesOn-answer frames processors st c space number (Evict t page) sound allowed answered =
     let after = give_page st space page in
-    let keeps : (d : ℕ) → Keeps st (counted after) d = λ d. Keeps-move st after d (Keeps-give_page frames processors st space page allowed.0 d sound allowed.1) in
+    let keeps : (d : ℕ) → Keeps st (counted after) d = λ d. Keeps-move st after d (Keeps-give_page st space page allowed.0 d (record {
+      frames = frames;
+      processors = processors;
+      sound = sound;
+      is = allowed.1;
+    })) in
     let pages = frame_of-give_page st space page allowed.0 sound.laid allowed.1 in
     record {
       own = λ p q. owns-answer st (counted after) c (keeps c) p q number (Evict t page) answered.reply;
@@ -141,13 +155,13 @@ GoesOn-answer frames processors st c space number (Evict t page) answered sound 
       named = named_pages st (counted after) space (λ p. eqb p page) None pages;
       other = other_pages st (counted after) space (λ p. eqb p page) None pages;
     }
-GoesOn-answer frames processors st c space number (Map t page len kind rights) answered sound allowed = absurd allowed
-GoesOn-answer frames processors st c space number (Grow t page by) answered sound allowed = absurd allowed
-GoesOn-answer frames processors st c space number (Unmap t page) answered sound allowed = absurd allowed
-GoesOn-answer frames processors st c space number (Protect t page len rights) answered sound allowed = absurd allowed
-GoesOn-answer frames processors st c space number (Load t address) answered sound allowed = absurd allowed
-GoesOn-answer frames processors st c space number (Store t address word) answered sound allowed = absurd allowed
-GoesOn-answer frames processors st c space number (Sync t page) answered sound allowed = absurd allowed
+GoesOn-answer frames processors st c space number (Map t page len kind rights) sound allowed answered = absurd allowed
+GoesOn-answer frames processors st c space number (Grow t page by) sound allowed answered = absurd allowed
+GoesOn-answer frames processors st c space number (Unmap t page) sound allowed answered = absurd allowed
+GoesOn-answer frames processors st c space number (Protect t page len rights) sound allowed answered = absurd allowed
+GoesOn-answer frames processors st c space number (Load t address) sound allowed answered = absurd allowed
+GoesOn-answer frames processors st c space number (Store t address word) sound allowed answered = absurd allowed
+GoesOn-answer frames processors st c space number (Sync t page) sound allowed answered = absurd allowed
 
 -- no claim changes the place of a page
 frame_of-claimed : (st : FrameState) (frame : ℕ) (claim : Option ℕ) (s p : ℕ) → frame_of (claimed st frame claim) s p ≡ frame_of st s p
@@ -156,7 +170,8 @@ frame_of-claimed st frame claim s p = ap (λ l. frame_in l s p) (layout_of-claim
 GoesOn-moved : (frames processors : ℕ) (st : FrameState) (mark c : ℕ) (space : Option ℕ) (what : What) → IsSound frames processors st
     → FramesAllow st mark c space what → IsOn space true what → GoesOn st (counted (moved st c space what)) c space what
 GoesOn-moved frames processors st mark c None (Answer number call answered) sound allowed names = absurd (none-some _ names)
-GoesOn-moved frames processors st mark c (Some s) (Answer number call answered) sound allowed names = GoesOn-answer frames processors st c s number call answered sound allowed
+GoesOn-moved frames processors st mark c (Some s) (Answer number call answered) sound allowed names =
+    GoesOn-answer frames processors st c s number call sound allowed answered
 GoesOn-moved frames processors st mark c space (Out page written) sound allowed names = absurd allowed
 GoesOn-moved frames processors st mark c space (Failed page writing count) sound allowed names = absurd allowed
 GoesOn-moved frames processors st mark c None (Take page frame want) sound allowed names = absurd (none-some names.0.0 names.0.1)
@@ -172,10 +187,20 @@ GoesOn-moved frames processors st mark c (Some s) (Take page frame want) sound a
 GoesOn-moved frames processors st mark c None (Give page frame) sound allowed names = absurd (none-some names.0.0 names.0.1)
 GoesOn-moved frames processors st mark c (Some s) (Give page frame) sound allowed names =
     let after = give_page st s page in
-    let keeps : (d : ℕ) → Keeps st (counted after) d = λ d. Keeps-move st after d (Keeps-give_page frames processors st s page frame d sound allowed) in
+    let keeps : (d : ℕ) → Keeps st (counted after) d = λ d. Keeps-move st after d (Keeps-give_page st s page frame d (record {
+      frames = frames;
+      processors = processors;
+      sound = sound;
+      is = allowed;
+    })) in
     let pages = frame_of-give_page st s page frame sound.laid allowed in
     record {
-      own = λ p q goes. owns-give st (counted after) c (keeps c) p.made p.doing q s page frame goes (holds-given frames processors st s page frame c sound allowed);
+      own = λ p q goes. owns-give st (counted after) c (keeps c) p.made p.doing q s page frame goes (holds-given st s page frame c (record {
+        frames = frames;
+        processors = processors;
+        sound = sound;
+        is = allowed;
+      }));
       others = λ d _. keeps d;
       named = named_pages st (counted after) s (λ p. eqb p page) None pages;
       other = other_pages st (counted after) s (λ p. eqb p page) None pages;
@@ -183,7 +208,8 @@ GoesOn-moved frames processors st mark c (Some s) (Give page frame) sound allowe
 GoesOn-moved frames processors st mark c None (Clear first len) sound allowed names = absurd (none-some names.0.0 names.0.1)
 GoesOn-moved frames processors st mark c (Some s) (Clear first len) sound allowed names =
     let after = give_range st s first len in
-    let keeps : (d : ℕ) → Keeps st (counted after) d = λ d. Keeps-move st after d (Keeps-give_each frames processors s (range_with_len first len) st d sound) in
+    let keeps : (d : ℕ) → Keeps st (counted after) d = λ d. Keeps-move st after d
+    (Keeps-give_each frames processors s (range_with_len first len) st d sound) in
     let pages = frame_of-give_each frames processors s first len st sound in
     record {
       own = λ p q goes. owns-clear st (counted after) c (keeps c) p.made p.doing q s first len goes;
@@ -194,7 +220,11 @@ GoesOn-moved frames processors st mark c (Some s) (Clear first len) sound allowe
 GoesOn-moved frames processors st mark c space (Claim victim page frame need) sound allowed names =
     let after = claimed st frame (Some c) in
     record {
-      own = λ p q goes owns. owns-claim (counted after) c p.made p.doing q space (record { space = victim; page = page; frame = frame }) need goes (record { frame = (claims-claimed st victim page frame c allowed.1).frame });
+      own = λ p q goes owns. owns-claim (counted after) c p.made p.doing space (record {
+        space = victim;
+        page = page;
+        frame = frame;
+      }) need (record { frame = (claims-claimed st victim page frame c allowed.1).frame }) q goes;
       others = λ d other. Keeps-move st after d (Keeps-claimed st victim page frame c d allowed.1 other);
       named = λ base s p _ now. now ∙ sym (frame_of-claimed st frame (Some c) s p);
       other = λ s p _. frame_of-claimed st frame (Some c) s p;
@@ -204,12 +234,13 @@ GoesOn-moved frames processors st mark c (Some s) (UseHeld page frame want) soun
     let drops = dropped st c in
     let after = counted (state_taken drops (take_frame drops s page want)) in
     let same : (t p : ℕ) → frame_of drops t p ≡ frame_of st t p = λ t p. frame_of-dropped frames processors st c t p sound in
-    let takes = Takes-from frames processors drops s page frame want (IsSound-dropped frames processors st c sound) (same s page ∙ allowed.0) allowed.2 in
+    let takes = Takes-from frames processors drops s page frame want (IsSound-dropped frames processors st c sound)
+    (same s page ∙ allowed.0) allowed.2 in
     let pages : (t p : ℕ) → frame_of after t p ≡ cond (eqb s t && eqb p page) (Some frame) (frame_of st t p) =
     λ t p. takes.pages t p ∙ ap (cond (eqb s t && eqb p page) (Some frame)) (same t p) in
     let nothing = (takes.keeps c).nothing (nothing-dropped frames processors st c allowed.1.0 sound allowed.1.1) in
     record {
-      own = λ p q goes owns. owns-use after c p.made p.doing q s page frame goes nothing;
+      own = λ p q goes owns. owns-use after c p.made p.doing s page frame nothing q goes;
       others = λ d other. Keeps-then st drops after d (Keeps-dropped st c d other) (takes.keeps d);
       named = named_pages st after s (λ p. eqb p page) (Some frame) pages;
       other = other_pages st after s (λ p. eqb p page) (Some frame) pages;
@@ -268,7 +299,8 @@ names-is (Some t) s h = ap Some (eqb-true t s h)
 -- every processor owns what its place says after an entry, where its own processor does and the others keep what they have
 owns-more : (g : Given) (h : List Entry) (e : Entry) (after : FrameState)
     → ((c : ℕ) (p : Progress) → progress_at g h c ≡ Some p → OwnsBy (frames_at g h) c p.doing)
-    → ((p q : Progress) → progress_after p e.space e.what ≡ Some q → OwnsBy (frames_at g h) e.processor p.doing → OwnsBy after e.processor q.doing)
+    → ((p q : Progress) → progress_after p e.space e.what ≡ Some q → OwnsBy (frames_at g h) e.processor p.doing
+    → OwnsBy after e.processor q.doing)
     → ((d : ℕ) → d ≢ e.processor → Keeps (frames_at g h) after d) → (c : ℕ) (q : Progress) → progress_at g (h ++ e ∷ []) c ≡ Some q
     → OwnsBy after c q.doing
 owns-more g h e after owned own others c q goes =
@@ -276,10 +308,12 @@ owns-more g h e after owned own others c q goes =
       | true ↦ λ mine.
           let before = progress_before (progress_at g h c) e q (sym (progress_at-own g h e c mine) ∙ goes) in
           let same = eqb-true e.processor c mine in
-          subst (λ d. OwnsBy after d q.doing) same (own before.0 q before.2 (subst (λ d. OwnsBy (frames_at g h) d before.0.doing) (sym same) (owned c before.0 before.1)))
+          subst (λ d. OwnsBy after d q.doing) same (own before.0 q before.2
+          (subst (λ d. OwnsBy (frames_at g h) d before.0.doing) (sym same) (owned c before.0 before.1)))
       | false ↦ λ other.
           let keeps = others c (λ same. eqb-false e.processor c other (sym same)) in
-          Keeps-owns (frames_at g h) after c (is_holding q.doing) (victim_in q.doing) keeps (owned c q (sym (progress_at-other g h e c other) ∙ goes))
+          Keeps-owns (frames_at g h) after c (is_holding q.doing) (victim_in q.doing) keeps
+          (owned c q (sym (progress_at-other g h e c other) ∙ goes))
     ] refl
 
 -- each entry that may follow keeps what is kept
@@ -292,16 +326,19 @@ IsKept-more g h c space false what kept may =
     let same = frames_at-other g h e refl in
     record {
       sound = subst (IsSound g.frames (length g.marks)) (sym same) kept.sound;
-      owns = λ d q goes. subst (λ after. OwnsBy after d q.doing) (sym same) (owns-more g h e st kept.owns (owns-alone st c space what may.parts) (λ d _. Keeps-same st d) d q goes);
-      agrees = λ s p. elim (is_that s space) as (λ b. is_that s space ≡ b → (space_at g (h ++ e ∷ []) s).base p ≡ frame_of (frames_at g (h ++ e ∷ [])) s p) [
-        | true ↦ λ named.
-            ap (λ (q : SpaceState). q.base p) (space_at-named g h e s named)
-            ∙ base-alone (space_at g h s).base space what may.parts p
-            ∙ kept.agrees s p
-            ∙ ap (λ (q : FrameState). frame_of q s p) (sym same)
-        | false ↦ λ other.
-            ap (λ (q : SpaceState). q.base p) (space_at-other g h e s other) ∙ kept.agrees s p ∙ ap (λ (q : FrameState). frame_of q s p) (sym same)
-      ] refl;
+      owns = λ d q goes. subst (λ after. OwnsBy after d q.doing) (sym same)
+          (owns-more g h e st kept.owns (owns-alone st c space what may.parts) (λ d _. Keeps-same st d) d q goes);
+      agrees = λ s p. elim (is_that s space) as (λ b. is_that s space ≡ b
+          → (space_at g (h ++ e ∷ []) s).base p ≡ frame_of (frames_at g (h ++ e ∷ [])) s p) [
+            | true ↦ λ named.
+                ap (λ (q : SpaceState). q.base p) (space_at-named g h e s named)
+                ∙ base-alone (space_at g h s).base space what may.parts p
+                ∙ kept.agrees s p
+                ∙ ap (λ (q : FrameState). frame_of q s p) (sym same)
+            | false ↦ λ other.
+                ap (λ (q : SpaceState). q.base p) (space_at-other g h e s other) ∙ kept.agrees s p
+                ∙ ap (λ (q : FrameState). frame_of q s p) (sym same)
+          ] refl;
     }
 IsKept-more g h c space true what kept may =
     let e : Entry = record { processor = c; space = space; frames = true; what = what } in
@@ -310,19 +347,21 @@ IsKept-more g h c space true what kept may =
     let moves = frames_at-named g h e refl in
     let on = GoesOn-moved g.frames (length g.marks) st (mark_of g c) c space what kept.sound allowed may.parts in
     record {
-      sound = subst (IsSound g.frames (length g.marks)) (sym moves) (IsSound-moved g.frames (length g.marks) st (mark_of g c) c space what kept.sound may.processor allowed);
+      sound = subst (IsSound g.frames (length g.marks)) (sym moves) (IsSound-moved g.frames (length g.marks) st
+          (mark_of g c) c space what kept.sound may.processor allowed);
       owns = λ d q goes. subst (λ after. OwnsBy after d q.doing) (sym moves) (owns-more g h e _ kept.owns on.own on.others d q goes);
-      agrees = λ s p. elim (is_that s space) as (λ b. is_that s space ≡ b → (space_at g (h ++ e ∷ []) s).base p ≡ frame_of (frames_at g (h ++ e ∷ [])) s p) [
-        | true ↦ λ named.
-            ap (λ (q : SpaceState). q.base p) (space_at-named g h e s named)
-            ∙ on.named (space_at g h s).base s p (names-is space s named) (kept.agrees s p)
-            ∙ ap (λ (q : FrameState). frame_of q s p) (sym moves)
-        | false ↦ λ other.
-            ap (λ (q : SpaceState). q.base p) (space_at-other g h e s other)
-            ∙ kept.agrees s p
-            ∙ sym (on.other s p other)
-            ∙ ap (λ (q : FrameState). frame_of q s p) (sym moves)
-      ] refl;
+      agrees = λ s p. elim (is_that s space) as (λ b. is_that s space ≡ b
+          → (space_at g (h ++ e ∷ []) s).base p ≡ frame_of (frames_at g (h ++ e ∷ [])) s p) [
+            | true ↦ λ named.
+                ap (λ (q : SpaceState). q.base p) (space_at-named g h e s named)
+                ∙ on.named (space_at g h s).base s p (names-is space s named) (kept.agrees s p)
+                ∙ ap (λ (q : FrameState). frame_of q s p) (sym moves)
+            | false ↦ λ other.
+                ap (λ (q : SpaceState). q.base p) (space_at-other g h e s other)
+                ∙ kept.agrees s p
+                ∙ sym (on.other s p other)
+                ∙ ap (λ (q : FrameState). frame_of q s p) (sym moves)
+          ] refl;
     }
 
 -- without a reservation no page has a frame
@@ -349,7 +388,8 @@ IsKept-start g = record {
 }
 
 pub IsKept-legal : (g : Given) (history : List Entry) → IsLegal g history → IsKept g history
-IsKept-legal g history legal = IsLegal-keeps g (IsKept g) (λ h e kept may. IsKept-more g h e.processor e.space e.frames e.what kept may) (IsKept-start g) history legal
+IsKept-legal g history legal = IsLegal-keeps g (IsKept g) (λ h e kept may. IsKept-more g h e.processor e.space e.frames e.what kept may)
+    (IsKept-start g) history legal
 
 -- The laws.
 
@@ -378,5 +418,6 @@ NothingHeld-legal g history legal whole =
         | inl known ↦ (nothing c known).holds_none
         | inr past ↦ get_or_past st.held c None (omega (arith, past, kept.sound.processors_known))
       ];
-      none_claimed = λ frame. none_from_never (claim_in (used_at st frame)) (λ c claims. (nothing c (kept.sound.claims_known frame c claims).0).claims_none frame claims);
+      none_claimed = λ frame. none_from_never (claim_in (used_at st frame))
+          (λ c claims. (nothing c (kept.sound.claims_known frame c claims).0).claims_none frame claims);
     }

@@ -12,5 +12,6 @@ AllFollow-at g first (x ∷ before) after e all =
     let rest = AllFollow-at g (first ++ x ∷ []) before after e all.1 in
     ((all.0, rest.0), subst (λ l. MayFollow g l e) (append_assoc first (x ∷ []) before) rest.1)
 
-pub IsLegal-at : (g : Given) (before after : List Entry) (e : Entry) → IsLegal g (before ++ e ∷ after) → IsLegal g before × MayFollow g before e
+pub IsLegal-at : (g : Given) (before after : List Entry) (e : Entry) → IsLegal g (before ++ e ∷ after)
+    → IsLegal g before × MayFollow g before e
 IsLegal-at g before after e legal = AllFollow-at g [] before after e legal

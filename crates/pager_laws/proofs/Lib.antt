@@ -40,5 +40,6 @@ pub mod KeptLaws
 pub mod UnknownSpaces
 pub mod FaultReplies
 pub mod GivenRanges
+pub mod HistoryLists
 pub mod FlatRefusals
 pub mod RegionReplies

@@ -5,9 +5,11 @@ use Rattle.pager_model.specs.Ages.{Member, is_before, with_member}
 use Rattle.pager_model.proofs.AgeOrder.{is_before-other, is_before-later, is_before-same}
 
 -- two members before a list stand in their order, whichever goes in first
-two_in_order : (a b : Member) (ms : List Member) → cond (is_before a b) (a ∷ (b ∷ ms)) (b ∷ (a ∷ ms)) ≡ cond (is_before b a) (b ∷ (a ∷ ms)) (a ∷ (b ∷ ms))
+two_in_order : (a b : Member) (ms : List Member) → cond (is_before a b) (a ∷ (b ∷ ms)) (b ∷ (a ∷ ms))
+    ≡ cond (is_before b a) (b ∷ (a ∷ ms)) (a ∷ (b ∷ ms))
 two_in_order a b ms =
-    elim (is_before a b) as (λ v. is_before a b ≡ v → cond v (a ∷ (b ∷ ms)) (b ∷ (a ∷ ms)) ≡ cond (is_before b a) (b ∷ (a ∷ ms)) (a ∷ (b ∷ ms))) [
+    elim (is_before a b) as (λ v. is_before a b ≡ v → cond v (a ∷ (b ∷ ms)) (b ∷ (a ∷ ms))
+    ≡ cond (is_before b a) (b ∷ (a ∷ ms)) (a ∷ (b ∷ ms))) [
       | true ↦ λ before. sym (cond-false _ _ _ (is_before-other a b before))
       | false ↦ λ not_before. elim (is_before b a) as (λ v. is_before b a ≡ v → b ∷ (a ∷ ms) ≡ cond v (b ∷ (a ∷ ms)) (a ∷ (b ∷ ms))) [
         | true ↦ λ after. refl
@@ -41,22 +43,24 @@ pub with_member-swap : (a b : Member) (ms : List Member) → with_member a (with
 with_member-swap a b [] = two_in_order a b []
 with_member-swap a b (m ∷ ms) =
     elim (is_before a m) as (λ v. is_before a m ≡ v → with_member a (with_member b (m ∷ ms)) ≡ with_member b (with_member a (m ∷ ms))) [
-      | true ↦ λ a_before. elim (is_before b m) as (λ v. is_before b m ≡ v → with_member a (with_member b (m ∷ ms)) ≡ with_member b (with_member a (m ∷ ms))) [
-        | true ↦ λ b_before.
-            ap (with_member a) (with_member-here b m ms b_before)
-            ∙ ap (λ rest. cond (is_before a b) (a ∷ (b ∷ (m ∷ ms))) (b ∷ rest)) (with_member-here a m ms a_before)
-            ∙ two_in_order a b (m ∷ ms)
-            ∙ ap (λ rest. cond (is_before b a) (b ∷ (a ∷ (m ∷ ms))) (a ∷ rest)) (sym (with_member-here b m ms b_before))
-            ∙ ap (with_member b) (sym (with_member-here a m ms a_before))
-        | false ↦ λ b_behind. one_before a b m ms a_before b_behind
-      ] refl
-      | false ↦ λ a_behind. elim (is_before b m) as (λ v. is_before b m ≡ v → with_member a (with_member b (m ∷ ms)) ≡ with_member b (with_member a (m ∷ ms))) [
-        | true ↦ λ b_before. sym (one_before b a m ms b_before a_behind)
-        | false ↦ λ b_behind.
-            ap (with_member a) (with_member-behind b m ms b_behind)
-            ∙ with_member-behind a m (with_member b ms) a_behind
-            ∙ ap (λ rest. m ∷ rest) (with_member-swap a b ms)
-            ∙ sym (with_member-behind b m (with_member a ms) b_behind)
-            ∙ ap (with_member b) (sym (with_member-behind a m ms a_behind))
-      ] refl
+      | true ↦ λ a_before. elim (is_before b m) as (λ v. is_before b m ≡ v
+          → with_member a (with_member b (m ∷ ms)) ≡ with_member b (with_member a (m ∷ ms))) [
+            | true ↦ λ b_before.
+                ap (with_member a) (with_member-here b m ms b_before)
+                ∙ ap (λ rest. cond (is_before a b) (a ∷ (b ∷ (m ∷ ms))) (b ∷ rest)) (with_member-here a m ms a_before)
+                ∙ two_in_order a b (m ∷ ms)
+                ∙ ap (λ rest. cond (is_before b a) (b ∷ (a ∷ (m ∷ ms))) (a ∷ rest)) (sym (with_member-here b m ms b_before))
+                ∙ ap (with_member b) (sym (with_member-here a m ms a_before))
+            | false ↦ λ b_behind. one_before a b m ms a_before b_behind
+          ] refl
+      | false ↦ λ a_behind. elim (is_before b m) as (λ v. is_before b m ≡ v
+          → with_member a (with_member b (m ∷ ms)) ≡ with_member b (with_member a (m ∷ ms))) [
+            | true ↦ λ b_before. sym (one_before b a m ms b_before a_behind)
+            | false ↦ λ b_behind.
+                ap (with_member a) (with_member-behind b m ms b_behind)
+                ∙ with_member-behind a m (with_member b ms) a_behind
+                ∙ ap (λ rest. m ∷ rest) (with_member-swap a b ms)
+                ∙ sym (with_member-behind b m (with_member a ms) b_behind)
+                ∙ ap (with_member b) (sym (with_member-behind a m ms a_behind))
+          ] refl
     ] refl

@@ -2,6 +2,7 @@
 use Rattle.std.proofs.Common.{◌≡◌, ℕ, true, ◌&&◌, if◌then◌else◌, Option, Some, refl, ap, ◌∙◌, subst}
 use Rattle.std.proofs.lemmas.Bool.{cond-true}
 use Rattle.pager_model.specs.declared.call.Call.TheVariants.{Map, Unmap}
+use Rattle.pager_model.specs.declared.entry.Entry.{Entry}
 use Rattle.pager_model.specs.declared.region.Kind.{Kind}
 use Rattle.pager_model.specs.declared.region.Region.{Region}
 use Rattle.pager_model.specs.declared.region.Rights.{Rights}
@@ -11,15 +12,34 @@ use Rattle.pager_model.specs.SpaceStates.{SpaceState, SpaceAllows, IsClearedAt, 
 use Rattle.pager_laws.specs.NewPages.{IsNew, done}
 use Rattle.pager_model.specs.CallEntries.{answer_entry}
 
-module _ (st : SpaceState) (c d m n space page first len p : ℕ) (kind : Kind) (rights : Rights) (r : Region) (at : region_at st.flat.regions page ≡ Some r)
-    (unmaps : SpaceAllows st (answer_entry c m (Unmap space page) done))
-    (maps : SpaceAllows (space_after st (answer_entry c m (Unmap space page) done)) (answer_entry d n (Map space first len kind rights) done))
-    (was : in_range r.first r.length p ≡ true) (is : in_range first len p ≡ true) where
-  pub new_again : IsNew (space_after (space_after st (answer_entry c m (Unmap space page) done)) (answer_entry d n (Map space first len kind rights) done)) rights p
-  new_again =
-      let cleared = subst (λ (o : Option Region). IsClearedAt st c o) at (unmaps.1.reply.1 refl) in
-      record {
-        rights = ap (λ x. if is_lawful x && in_range first len p then rights else st.flat.rights p) maps.1.reply.0 ∙ cond-true _ _ _ is;
-        frame = cleared.none p was;
-        words = λ i. ap (λ o. if goes o p then 0 else st.flat.words p i) at ∙ cond-true _ _ _ was;
-      }
+-- an unmap of a region, and after it a map of one in its space
+pub record Remap : Type 0 where
+  pub unmapper : ℕ
+  pub unmap_number : ℕ
+  pub mapper : ℕ
+  pub map_number : ℕ
+  pub space : ℕ
+  pub page : ℕ
+  pub first : ℕ
+  pub length : ℕ
+  pub kind : Kind
+  pub rights : Rights
+
+abbrev pub unmap_entry : Remap → Entry
+unmap_entry k = answer_entry k.unmapper k.unmap_number (Unmap k.space k.page) done
+
+abbrev pub map_entry : Remap → Entry
+map_entry k = answer_entry k.mapper k.map_number (Map k.space k.first k.length k.kind k.rights) done
+
+pub new_again : (st : SpaceState) (k : Remap) (p : ℕ) (r : Region) → region_at st.flat.regions k.page ≡ Some r
+    → SpaceAllows st (unmap_entry k)
+    → SpaceAllows (space_after st (unmap_entry k)) (map_entry k) → in_range r.first r.length p ≡ true → in_range k.first k.length p ≡ true
+    → IsNew (space_after (space_after st (unmap_entry k)) (map_entry k)) k.rights p
+new_again st k p r at unmaps maps was is =
+    let cleared = subst (λ (o : Option Region). IsClearedAt st k.unmapper o) at (unmaps.1.reply.1 refl) in
+    record {
+      rights = ap (λ x. if is_lawful x && in_range k.first k.length p then k.rights else st.flat.rights p) maps.1.reply.0
+          ∙ cond-true _ _ _ is;
+      frame = cleared.none p was;
+      words = λ i. ap (λ o. if goes o p then 0 else st.flat.words p i) at ∙ cond-true _ _ _ was;
+    }

@@ -20,7 +20,7 @@ use Rattle.pager_model.specs.Headline.{is_taking, size_at, member_of, IsPreempte
 use Rattle.pager_model.specs.Layouts.{Layout, Found, Placing, break_layout, list_of, oldest_of, oldest_from, to_break, broken_at, chosen, extent_of, largest_extent, covering, stamped, populated, new_reservation, reserved, preferred_in, placing_in, placing, record_at}
 use Rattle.pager_model.specs.Legal.{IsLegal, MayFollow, frames_at}
 use Rattle.pager_model.specs.Records.{is_used, yield_in}
-use Rattle.pager_model.specs.SizeSets.{SizeSet, has_size}
+use Rattle.pager_model.specs.SizeSets.{has_size}
 use Rattle.pager_model.specs.Settings.{Given}
 use Rattle.pager_model.proofs.Histories.{frames_at-named}
 use Rattle.pager_model.specs.RecordPlaces.{ArePlaced}
@@ -60,24 +60,26 @@ first_before P new (m ∷ ms) id all other found = elim (cases_Bool (is_before n
 ]
 
 -- the first reservation of a list is before every other one of the list
-pub oldest_in-before : (z : SizeSet) (used : List Bool) (k : ℕ) (records : List (Option Reservation)) (id other : ℕ) (r q : Reservation)
-    → ArePlaced records → oldest_in (list_of z used k records) ≡ Some id → get_or records id None ≡ Some r
-    → get_or records other None ≡ Some q → yield_in z (is_used used) q ≡ Some k → other ≢ id → is_before (member_of r) (member_of q) ≡ true
-oldest_in-before z used k records id other r q placed found is stands yields apart =
-    let IsOf : Member → Type 0 = λ m. (s : Reservation) → get_or records m.frame None ≡ Some s → m ≡ member_of s in
-    let each : All IsOf (list_of z used k records) =
-    All-list_of z IsOf used k records (λ at s here _ t there.
-    ap member_of (same_Some s t (sym here ∙ ap (λ n. get_or records n None) (sym (placed at s here).named) ∙ there))) in
-    let rest = list_of z used k (set records other None) in
-    let whole = list_of-open z used k records other q stands ∙ with_listed-in z used k q rest yields in
-    let first = first_before IsOf (member_of q) rest id (subst (All IsOf) whole each) (λ same. apart (sym (placed other q stands).named ∙ same)) (sym (ap oldest_in whole) ∙ found) in
-    subst (λ m. is_before m (member_of q) ≡ true) (first.1 r (ap (λ n. get_or records n None) first.2 ∙ is)) first.3
+pub oldest_in-before : (l : Layout) (k id other : ℕ) (r q : Reservation) → ArePlaced l.records
+    → oldest_in (list_of l.sizes l.used k l.records) ≡ Some id → get_or l.records id None ≡ Some r → get_or l.records other None ≡ Some q
+    → yield_in l.sizes (is_used l.used) q ≡ Some k → other ≢ id → is_before (member_of r) (member_of q) ≡ true
+oldest_in-before l k id other r q placed found is stands yields apart =
+    let IsOf : Member → Type 0 = λ m. (s : Reservation) → get_or l.records m.frame None ≡ Some s → m ≡ member_of s in
+    let each : All IsOf (list_of l.sizes l.used k l.records) =
+    All-list_of l.sizes IsOf l.used k l.records (λ at s here _ t there.
+    ap member_of (same_Some s t (sym here ∙ ap (λ n. get_or l.records n None) (sym (placed at s here).named) ∙ there))) in
+    let rest = list_of l.sizes l.used k (set l.records other None) in
+    let whole = list_of-open l.sizes l.used k l.records other q stands ∙ with_listed-in l.sizes l.used k q rest yields in
+    let first = first_before IsOf (member_of q) rest id (subst (All IsOf) whole each)
+    (λ same. apart (sym (placed other q stands).named ∙ same)) (sym (ap oldest_in whole) ∙ found) in
+    subst (λ m. is_before m (member_of q) ≡ true) (first.1 r (ap (λ n. get_or l.records n None) first.2 ∙ is)) first.3
 
 -- what is found in some lists is the first of one of them
 oldest_from-in : (l : Layout) (k count id : ℕ) → oldest_from l k count ≡ Some id → (j : ℕ) × (oldest_of l j ≡ Some id)
 oldest_from-in l k zero id found = absurd (none-some id found)
 oldest_from-in l k (suc count) id found =
-    elim (oldest_of l k) as (λ o. oldest_of l k ≡ o → option_or o (oldest_from l (k + 1) count) ≡ Some id → (j : ℕ) × (oldest_of l j ≡ Some id)) [
+    elim (oldest_of l k) as (λ o. oldest_of l k ≡ o → option_or o (oldest_from l (k + 1) count) ≡ Some id
+    → (j : ℕ) × (oldest_of l j ≡ Some id)) [
       | None ↦ λ _ later. oldest_from-in l (k + 1) count id later
       | Some first ↦ λ is here. (k, is ∙ here)
     ] refl found
@@ -92,7 +94,8 @@ IsOldest-to_break st size id r laid breaks is =
     record {
       list = list.0;
       listed = ap (yield_in l.sizes (is_used l.used)) (same_Some r found.0 (sym is ∙ found.1)) ∙ found.2;
-      oldest = λ other q stands yields apart. oldest_in-before l.sizes l.used list.0 l.records id other r q laid.placed list.1 is stands yields (λ same. apart (same ∙ sym (laid.placed id r is).named));
+      oldest = λ other q stands yields apart. oldest_in-before l list.0 id other r q laid.placed list.1 is stands yields
+          (λ same. apart (same ∙ sym (laid.placed id r is).named));
     }
 
 -- The others stand.
@@ -107,7 +110,8 @@ stands_broken l id other k r q laid is yields stands apart =
     let beside : (other < r.frame) ⊎ (r.frame + 8 ^ r.size ≤ other) = elim (cases_lt other r.frame) [
       | inl before ↦ inl before
       | inr low ↦ elim (cases_lt other (r.frame + 8 ^ r.size)) [
-        | inl high ↦ absurd (apart (laid.apart other other id (ap (has_frame other) stands ∙ begins) (ap (has_frame other) is ∙ has_frame_from other r low high)))
+        | inl high ↦ absurd (apart (laid.apart other other id (ap (has_frame other) stands ∙ begins)
+            (ap (has_frame other) is ∙ has_frame_from other r low high)))
         | inr past ↦ inr past
       ]
     ] in
@@ -128,10 +132,12 @@ chosen_in l size broken found is =
 extent_in : (l : Layout) (size : ℕ) (found : Found) → extent_of size l ≡ Some found → IsFoundIn l found
 unfolding IsFoundIn
 extent_in l size found is =
-    elim (chosen size 0 l) as (λ o. chosen size 0 l ≡ o → option_or o (option_and_then (λ id. chosen size 1 (broken_at id l)) (to_break l size)) ≡ Some found → IsFoundIn l found) [
+    elim (chosen size 0 l) as (λ o. chosen size 0 l ≡ o → option_or o
+    (option_and_then (λ id. chosen size 1 (broken_at id l)) (to_break l size)) ≡ Some found → IsFoundIn l found) [
       | Some first ↦ λ here h. inl (chosen_in l size 0 found (here ∙ h))
       | None ↦ λ _ h.
-          elim (to_break l size) as (λ o. to_break l size ≡ o → option_and_then (λ id. chosen size 1 (broken_at id l)) o ≡ Some found → IsFoundIn l found) [
+          elim (to_break l size) as (λ o. to_break l size ≡ o → option_and_then (λ id. chosen size 1 (broken_at id l)) o ≡ Some found
+          → IsFoundIn l found) [
             | None ↦ λ _ e. absurd (none-some found e)
             | Some id ↦ λ breaks e. inr (size, id, breaks, chosen_in (broken_at id l) size 1 found e)
           ] refl h
@@ -140,11 +146,13 @@ extent_in l size found is =
 largest_in : (l : Layout) (size : ℕ) (found : Found) → largest_extent size l ≡ Some found → IsFoundIn l found
 largest_in l zero found is = extent_in l 0 found is
 largest_in l (suc size) found is =
-    elim (has_size l.sizes (suc size)) as (λ b. cond b (option_or (extent_of (suc size) l) (largest_extent size l)) (largest_extent size l) ≡ Some found → IsFoundIn l found) [
-      | true ↦ λ e. elim (extent_of (suc size) l) as (λ o. extent_of (suc size) l ≡ o → option_or o (largest_extent size l) ≡ Some found → IsFoundIn l found) [
-        | Some first ↦ λ here h. extent_in l (suc size) found (here ∙ h)
-        | None ↦ λ _ h. largest_in l size found h
-      ] refl e
+    elim (has_size l.sizes (suc size)) as (λ b. cond b (option_or (extent_of (suc size) l) (largest_extent size l)) (largest_extent size l)
+    ≡ Some found → IsFoundIn l found) [
+      | true ↦ λ e. elim (extent_of (suc size) l) as (λ o. extent_of (suc size) l ≡ o → option_or o (largest_extent size l) ≡ Some found
+          → IsFoundIn l found) [
+            | Some first ↦ λ here h. extent_in l (suc size) found (here ∙ h)
+            | None ↦ λ _ h. largest_in l size found h
+          ] refl e
       | false ↦ λ e. largest_in l size found e
     ] is
 
@@ -155,10 +163,12 @@ stands_reserved : (stamp space page id : ℕ) (found : Found) (q : Reservation) 
 stands_reserved stamp space page id found q laid is stands =
     let l = found.layout in
     let first = found.first in
-    let free = run_free_frames l.free first (8 ^ found.size) (run_free-choice l.free found.size first is) first (omega arith) (omega (arith, eight_pos found.size)) in
+    let free = run_free_frames l.free first (8 ^ found.size) (run_free-choice l.free found.size first is) first (omega arith)
+    (omega (arith, eight_pos found.size)) in
     let own = (laid.placed id q stands).named in
     let begins = has_frame_from id q (omega (arith, own)) (omega (arith, own, eight_pos q.size)) in
-    let apart : id ≢ first = λ same. laid.not_free first id free (ap (has_frame first) stands ∙ subst (λ n. has_frame n (Some q) ≡ true) same begins) in
+    let apart : id ≢ first = λ same. laid.not_free first id free (ap (has_frame first) stands
+    ∙ subst (λ n. has_frame n (Some q) ≡ true) same begins) in
     get_or-set_other l.records first id (Some (new_reservation stamp space page found)) None apart ∙ stands
 
 -- a reservation that gets one page more keeps its size, and the others stand
@@ -170,7 +180,8 @@ sized_populated l stamp page id c r laid is stood =
     elim (cases_eq r.frame c.frame) [
       | inl same ↦
           let one : c ≡ r = same_Some c r (sym at ∙ ap (record_at l) (sym same) ∙ stood) in
-          ap size_of (ap (λ n. get_or (set l.records c.frame (Some (stamped c stamp))) n None) same ∙ get_or-set_same l.records c.frame (Some (stamped c stamp)) None (get_or_within l.records c.frame c at))
+          ap size_of (ap (λ n. get_or (set l.records c.frame (Some (stamped c stamp))) n None) same
+          ∙ get_or-set_same l.records c.frame (Some (stamped c stamp)) None (get_or_within l.records c.frame c at))
           ∙ ap (λ (q : Reservation). Some q.size) one
       | inr other ↦ ap size_of (get_or-set_other l.records c.frame r.frame (Some (stamped c stamp)) None other ∙ stood)
     ]
@@ -185,19 +196,24 @@ unfolding IsFoundIn
 IsOldest-placing st stamp space page want place r laid is stood gone =
     let l = layout_of st in
     let size_in : Layout → Option ℕ = λ m. option_map (λ (q : Reservation). q.size) (record_at m r.frame) in
-    elim (covering space page l.records) as (λ o. covering space page l.records ≡ o → placing_in stamp space page want l o ≡ Some place → IsOldest st r) [
+    elim (covering space page l.records) as (λ o. covering space page l.records ≡ o → placing_in stamp space page want l o ≡ Some place
+    → IsOldest st r) [
       | Some c ↦ λ covers h.
           let at = covering-found space page l.records c covers in
-          absurd (gone (sym (ap (λ (p : Placing). size_in p.layout) (same_Some (populated stamp page l c) place h)) ∙ sized_populated l stamp page at.0 c r laid at.2 stood))
+          absurd (gone (sym (ap (λ (p : Placing). size_in p.layout) (same_Some (populated stamp page l c) place h))
+          ∙ sized_populated l stamp page at.0 c r laid at.2 stood))
       | None ↦ λ _ h.
-          elim (largest_extent (preferred_in l space page want) l) as (λ o. largest_extent (preferred_in l space page want) l ≡ o → option_map (reserved stamp space page) o ≡ Some place → IsOldest st r) [
+          elim (largest_extent (preferred_in l space page want) l) as
+          (λ o. largest_extent (preferred_in l space page want) l ≡ o → option_map (reserved stamp space page) o ≡ Some place
+          → IsOldest st r) [
             | None ↦ λ _ e. absurd (none-some place e)
             | Some found ↦ λ finds e.
                 let from = IsFound-largest_extent l (preferred_in l space page want) found laid finds in
                 let stays : record_at found.layout r.frame ≡ Some r → IsOldest st r =
                 λ stands. absurd (gone (
                 sym (ap (λ (p : Placing). size_in p.layout) (same_Some (reserved stamp space page found) place e))
-                ∙ ap (option_map (λ (q : Reservation). q.size)) (stands_reserved stamp space page r.frame found r from.settles.laid from.is stands))) in
+                ∙ ap (option_map (λ (q : Reservation). q.size))
+                (stands_reserved stamp space page r.frame found r from.settles.laid from.is stands))) in
                 elim (largest_in l (preferred_in l space page want) found finds) [
                   | inl same ↦ stays (ap (λ m. record_at m r.frame) same ∙ stood)
                   | inr broken ↦
@@ -207,7 +223,8 @@ IsOldest-placing st stamp space page want place r laid is stood gone =
                         | inl here ↦ IsOldest-to_break st size id r laid broken.2 (ap (record_at l) (sym here) ∙ stood)
                         | inr other ↦
                             let may = MayBreak-found l size id laid broken.2 in
-                            stays (ap (λ m. record_at m r.frame) (broken.3 ∙ may.broken) ∙ stands_broken l id r.frame may.yields may.reservation r laid may.is may.yield_is stood other)
+                            stays (ap (λ m. record_at m r.frame) (broken.3 ∙ may.broken)
+                            ∙ stands_broken l id r.frame may.yields may.reservation r laid may.is may.yield_is stood other)
                       ]
                 ]
           ] refl h
@@ -218,7 +235,8 @@ IsOldest-taken : (st : FrameState) (space page : ℕ) (want : Want) (P : Taking 
     → IsSomeAnd (take_frame st space page want) P → IsPreempted st (counted (state_taken st (take_frame st space page want))) r
     → IsOldest st r
 IsOldest-taken st space page want P r laid takes preempted =
-    elim (take_frame st space page want) as (λ o. take_frame st space page want ≡ o → IsSomeAnd o P → IsPreempted st (counted (state_taken st o)) r → IsOldest st r) [
+    elim (take_frame st space page want) as (λ o. take_frame st space page want ≡ o → IsSomeAnd o P
+    → IsPreempted st (counted (state_taken st o)) r → IsOldest st r) [
       | None ↦ λ _ no _. absurd no
       | Some t ↦ λ is _ preempts.
           let at = taking_from st want (placing st.entries space page want (layout_of st)) t is in
@@ -259,7 +277,8 @@ IsOldest-entry g h c space frames (UseHeld page frame want) r legal may taking p
     let sound = IsSound-dropped g.frames (length g.marks) st c (IsKept-legal g h legal).sound in
     let preempts = subst (λ after. IsPreempted st after r) (frames_at-named g h e may.parts.1) preempted in
     IsOldest-dropped st c r
-    (IsOldest-taken (dropped st c) (named_space space) page want (λ t. t.frame ≡ frame) r sound.laid allowed.2 (IsPreempted-dropped st _ c r preempts))
+    (IsOldest-taken (dropped st c) (named_space space) page want (λ t. t.frame ≡ frame) r sound.laid allowed.2
+    (IsPreempted-dropped st _ c r preempts))
 IsOldest-entry g h c space frames what r legal may taking preempted = absurd (false≢true taking)
 
 -- The law: each reservation that a legal history preempts is the oldest of its list.

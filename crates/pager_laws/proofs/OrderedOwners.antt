@@ -19,7 +19,8 @@ leads_to : (P : Doing → Type 0) (holds : Bool) (made : ℕ) (doing : Doing) (q
 leads_to P true made doing q is at = subst (λ (p : Progress). P p.doing) (same_Some (record { made = made; doing = doing }) q is) (at refl)
 leads_to P false made doing q is at = absurd (none-some q is)
 
-then_leads : (P : Type 0) (holds : Bool) (o : Option Progress) (q : Progress) → cond holds o None ≡ Some q → (holds ≡ true → o ≡ Some q → P) → P
+then_leads : (P : Type 0) (holds : Bool) (o : Option Progress) (q : Progress) → cond holds o None ≡ Some q
+    → (holds ≡ true → o ≡ Some q → P) → P
 then_leads P true o q is at = at refl is
 then_leads P false o q is at = absurd (none-some q is)
 
@@ -35,7 +36,8 @@ module _ (st after : FrameState) (c : ℕ) (keeps : Keeps st after c) where
   pub owns-answer : (p q : Progress) (number : ℕ) (call : Call) (reply : Reply) → after_answer p number call reply ≡ Some q
       → OwnsBy st c p.doing → OwnsBy after c q.doing
   owns-answer p q number call reply is owns =
-      leads_to (OwnsBy after c) (eqb number p.made && may_answer p.doing call reply) (p.made + 1) Idle q is (λ may. owns-idle p.doing call reply (and_parts _ _ may).1 owns)
+      leads_to (OwnsBy after c) (eqb number p.made && may_answer p.doing call reply) (p.made + 1) Idle q is
+      (λ may. owns-idle p.doing call reply (and_parts _ _ may).1 owns)
 
   pub owns-take : (made : ℕ) (doing : Doing) (q : Progress) (space page frame : ℕ) → after_take made doing space page frame ≡ Some q
       → OwnsBy st c doing → OwnsBy after c q.doing
@@ -49,22 +51,26 @@ module _ (st after : FrameState) (c : ℕ) (keeps : Keeps st after c) where
 
   pub owns-out : (made : ℕ) (doing : Doing) (q : Progress) (space page : ℕ) → after_out made doing space page ≡ Some q → OwnsBy st c doing
       → OwnsBy after c q.doing
-  owns-out made (Claiming purpose victim) q space page is owns = leads_to (OwnsBy after c) _ made _ q is (λ _. Keeps-owns st after c false (Some victim) keeps owns)
+  owns-out made (Claiming purpose victim) q space page is owns = leads_to (OwnsBy after c) _ made _ q is
+      (λ _. Keeps-owns st after c false (Some victim) keeps owns)
   owns-out made doing q space page is owns = absurd (none-some q is)
 
   pub owns-failure : (made : ℕ) (doing : Doing) (q : Progress) (space page : ℕ) (writing : Bool) (count : ℕ)
       → after_failure made doing space page writing count ≡ Some q → OwnsBy st c doing → OwnsBy after c q.doing
   owns-failure made Idle q space page writing count is owns = leads_to (OwnsBy after c) _ made _ q is (λ _. keeps.nothing owns)
-  owns-failure made (Claiming purpose victim) q space page writing count is owns = leads_to (OwnsBy after c) _ made _ q is (λ _. Keeps-owns st after c false (Some victim) keeps owns)
+  owns-failure made (Claiming purpose victim) q space page writing count is owns =
+      leads_to (OwnsBy after c) _ made _ q is (λ _. Keeps-owns st after c false (Some victim) keeps owns)
   owns-failure made (Filling a frame) q space page writing count is owns = leads_to (OwnsBy after c) _ made _ q is (λ _. keeps.nothing owns)
   owns-failure made doing q space page writing count is owns = absurd (none-some q is)
 
-  pub owns-refusal : (made : ℕ) (doing : Doing) (q : Progress) (wired claimed held : ℕ) → after_refusal made doing wired claimed held ≡ Some q
+  pub owns-refusal : (made : ℕ) (doing : Doing) (q : Progress) (wired claimed held : ℕ)
+      → after_refusal made doing wired claimed held ≡ Some q
       → OwnsBy st c doing → OwnsBy after c q.doing
   owns-refusal made Idle q wired claimed held is owns = leads_to (OwnsBy after c) true made _ q is (λ _. keeps.nothing owns)
   owns-refusal made doing q wired claimed held is owns = absurd (none-some q is)
 
-  pub owns-rest : (made : ℕ) (doing : Doing) (q : Progress) (short : Bool) → after_rest made doing short ≡ Some q → OwnsBy st c doing → OwnsBy after c q.doing
+  pub owns-rest : (made : ℕ) (doing : Doing) (q : Progress) (short : Bool) → after_rest made doing short ≡ Some q → OwnsBy st c doing
+      → OwnsBy after c q.doing
   owns-rest made (Looking mark evictions) q short is owns = leads_to (OwnsBy after c) _ (made + 1) _ q is (λ _. keeps.nothing owns)
   owns-rest made doing q short is owns = absurd (none-some q is)
 
@@ -79,25 +85,26 @@ module _ (st after : FrameState) (c : ℕ) (keeps : Keeps st after c) where
   owns-give made doing q space page frame is held owns = absurd (none-some q is)
 
 -- A processor claims its victim.
-pub owns-claim : (after : FrameState) (c made : ℕ) (doing : Doing) (q : Progress) (space : Option ℕ) (victim : Victim) (need : Option Need)
-    → after_claim made doing space victim need ≡ Some q → ClaimsOrHolds after c victim → OwnsBy after c q.doing
-owns-claim after c made Idle q (Some space) victim (Some need) is claims = leads_to (OwnsBy after c) true made _ q is (λ _. claims)
-owns-claim after c made (Looking mark evictions) q None victim None is claims = leads_to (OwnsBy after c) _ made _ q is (λ _. claims)
-owns-claim after c made doing q space victim need is claims = absurd (none-some q is)
+pub owns-claim : (after : FrameState) (c made : ℕ) (doing : Doing) (space : Option ℕ) (victim : Victim) (need : Option Need)
+    → ClaimsOrHolds after c victim → (q : Progress) → after_claim made doing space victim need ≡ Some q → OwnsBy after c q.doing
+owns-claim after c made Idle (Some space) victim (Some need) claims q is = leads_to (OwnsBy after c) true made _ q is (λ _. claims)
+owns-claim after c made (Looking mark evictions) None victim None claims q is = leads_to (OwnsBy after c) _ made _ q is (λ _. claims)
+owns-claim after c made doing space victim need claims q is = absurd (none-some q is)
 
 -- its victim's frame came to its hand
 pub owns-got : (after : FrameState) (c made : ℕ) (doing : Doing) (q : Progress) (frame : ℕ) → after_got made doing frame ≡ Some q
     → held_by after c ≡ Some frame → OwnsBy after c q.doing
 owns-got after c made (Claiming purpose victim) q frame is holds =
-    leads_to (OwnsBy after c) (eqb frame victim.frame) made (Holding purpose victim) q is (λ test. holds ∙ ap Some (eqb-true frame victim.frame test))
+    leads_to (OwnsBy after c) (eqb frame victim.frame) made (Holding purpose victim) q is
+    (λ test. holds ∙ ap Some (eqb-true frame victim.frame test))
 owns-got after c made doing q frame is holds = absurd (none-some q is)
 
 -- Entries after which the processor has nothing.
 
-pub owns-use : (after : FrameState) (c made : ℕ) (doing : Doing) (q : Progress) (space page frame : ℕ)
-    → after_use made doing space page frame ≡ Some q → HasNothing after c → OwnsBy after c q.doing
-owns-use after c made (Holding (ForAccess a) victim) q space page frame is nothing = leads_to (OwnsBy after c) _ made _ q is (λ _. nothing)
-owns-use after c made doing q space page frame is nothing = absurd (none-some q is)
+pub owns-use : (after : FrameState) (c made : ℕ) (doing : Doing) (space page frame : ℕ) → HasNothing after c
+    → (q : Progress) → after_use made doing space page frame ≡ Some q → OwnsBy after c q.doing
+owns-use after c made (Holding (ForAccess a) victim) space page frame nothing q is = leads_to (OwnsBy after c) _ made _ q is (λ _. nothing)
+owns-use after c made doing space page frame nothing q is = absurd (none-some q is)
 
 owns-dropped : (after : FrameState) (c made : ℕ) (purpose : Purpose) (q : Progress) → dropped_for made purpose ≡ Some q → HasNothing after c
     → OwnsBy after c q.doing
@@ -107,7 +114,8 @@ owns-dropped after c made (ForTurn mark evictions) q is nothing = leads_to (Owns
 pub owns-drop : (after : FrameState) (c made : ℕ) (doing : Doing) (q : Progress) (frame : ℕ) → after_drop made doing frame ≡ Some q
     → HasNothing after c → OwnsBy after c q.doing
 owns-drop after c made (Holding purpose victim) q frame is nothing =
-    then_leads (OwnsBy after c q.doing) (eqb frame victim.frame) (dropped_for made purpose) q is (λ _ goes. owns-dropped after c made purpose q goes nothing)
+    then_leads (OwnsBy after c q.doing) (eqb frame victim.frame) (dropped_for made purpose) q is
+    (λ _ goes. owns-dropped after c made purpose q goes nothing)
 owns-drop after c made doing q frame is nothing = absurd (none-some q is)
 
 owns-lacking : (after : FrameState) (c made : ℕ) (purpose : Purpose) (q : Progress) (space : ℕ) → lacking_for made purpose space ≡ Some q
@@ -118,7 +126,8 @@ owns-lacking after c made (ForTurn mark evictions) q space is nothing = leads_to
 owns-faulted : (after : FrameState) (c made : ℕ) (purpose : Purpose) (q : Progress) (space count : ℕ)
     → faulted_for made purpose space count ≡ Some q → HasNothing after c → OwnsBy after c q.doing
 owns-faulted after c made (ForAccess a) q space count is nothing = leads_to (OwnsBy after c) true made _ q is (λ _. nothing)
-owns-faulted after c made (ForTurn mark evictions) q space count is nothing = leads_to (OwnsBy after c) true (made + 1) _ q is (λ _. nothing)
+owns-faulted after c made (ForTurn mark evictions) q space count is nothing =
+    leads_to (OwnsBy after c) true (made + 1) _ q is (λ _. nothing)
 
 pub owns-unclaim : (after : FrameState) (c made : ℕ) (doing : Doing) (q : Progress) (space frame : ℕ)
     → after_unclaim made doing space frame ≡ Some q → HasNothing after c → OwnsBy after c q.doing

@@ -65,7 +65,8 @@ else-out : (made : ℕ) (doing : Doing) (space page : ℕ) → IsElse (after_out
 else-out made (Claiming purpose victim) space page = else-leads _ made (Emptied purpose victim) refl
 else-out made doing space page = tt
 
-else-failure : (made : ℕ) (doing : Doing) (space page : ℕ) (writing : Bool) (count : ℕ) → IsElse (after_failure made doing space page writing count)
+else-failure : (made : ℕ) (doing : Doing) (space page : ℕ) (writing : Bool) (count : ℕ)
+    → IsElse (after_failure made doing space page writing count)
 else-failure made Idle space page writing count = else-leads writing made (Uncopied space page count) refl
 else-failure made (Claiming purpose victim) space page writing count = else-leads _ made (Unwritten purpose victim count) refl
 else-failure made (Filling a frame) space page writing count = else-leads _ made (Unfilling a frame count) refl
@@ -76,7 +77,8 @@ else-give made (Unfilling a own count) space page frame = else-leads _ made (Fau
 else-give made (Emptied purpose victim) space page frame = else-leads _ made (Holding purpose victim) refl
 else-give made doing space page frame = tt
 
-else-claim : (made : ℕ) (doing : Doing) (space : Option ℕ) (victim : Victim) (need : Option Need) → IsElse (after_claim made doing space victim need)
+else-claim : (made : ℕ) (doing : Doing) (space : Option ℕ) (victim : Victim) (need : Option Need)
+    → IsElse (after_claim made doing space victim need)
 else-claim made Idle (Some space) victim (Some need) = refl
 else-claim made (Looking mark evictions) None victim None = else-leads _ made (Claiming (ForTurn mark evictions) victim) refl
 else-claim made doing space victim need = tt
@@ -95,7 +97,8 @@ else-faulted made (ForTurn mark evictions) space count = refl
 
 else-unclaim : (made : ℕ) (doing : Doing) (space frame : ℕ) → IsElse (after_unclaim made doing space frame)
 else-unclaim made (Claiming purpose victim) space frame = else-if _ (lacking_for made purpose space) (else-lacking made purpose space)
-else-unclaim made (Unwritten purpose victim count) space frame = else-if _ (faulted_for made purpose space count) (else-faulted made purpose space count)
+else-unclaim made (Unwritten purpose victim count) space frame = else-if _ (faulted_for made purpose space count)
+    (else-faulted made purpose space count)
 else-unclaim made doing space frame = tt
 
 else-dropped : (made : ℕ) (purpose : Purpose) → IsElse (dropped_for made purpose)
@@ -122,18 +125,25 @@ by_refusal made Idle wired claimed held q x goes is =
     same_Some (Refused wired claimed held) x (ap (λ (p : Progress). refusal_of p.doing) (same_Some to q goes) ∙ is)
 by_refusal made doing wired claimed held q x goes is = absurd (none-some q goes)
 
-refused_by : (p q : Progress) (space : Option ℕ) (what x : What) → progress_after p space what ≡ Some q → refusal_of q.doing ≡ Some x → what ≡ x
+refused_by : (p q : Progress) (space : Option ℕ) (what x : What) → progress_after p space what ≡ Some q → refusal_of q.doing ≡ Some x
+    → what ≡ x
 refused_by p q space (Answer number call answered) x goes is = absurd (not_else _ q x (else-leads _ (p.made + 1) Idle refl) goes is)
 refused_by p q space (Out page written) x goes is = absurd (not_else _ q x (else-on space _ (λ s. else-out p.made p.doing s page)) goes is)
-refused_by p q space (Failed page writing count) x goes is = absurd (not_else _ q x (else-on space _ (λ s. else-failure p.made p.doing s page writing count)) goes is)
-refused_by p q space (Take page frame want) x goes is = absurd (not_else _ q x (else-on space _ (λ s. else-take p.made p.doing s page frame)) goes is)
-refused_by p q space (Give page frame) x goes is = absurd (not_else _ q x (else-on space _ (λ s. else-give p.made p.doing s page frame)) goes is)
-refused_by p q space (Clear first len) x goes is = absurd (not_else _ q x (else-on space _ (λ s. else-clear p.made p.doing s first len)) goes is)
+refused_by p q space (Failed page writing count) x goes is = absurd (not_else _ q x
+    (else-on space _ (λ s. else-failure p.made p.doing s page writing count)) goes is)
+refused_by p q space (Take page frame want) x goes is = absurd (not_else _ q x
+    (else-on space _ (λ s. else-take p.made p.doing s page frame)) goes is)
+refused_by p q space (Give page frame) x goes is = absurd (not_else _ q x
+    (else-on space _ (λ s. else-give p.made p.doing s page frame)) goes is)
+refused_by p q space (Clear first len) x goes is = absurd (not_else _ q x
+    (else-on space _ (λ s. else-clear p.made p.doing s first len)) goes is)
 refused_by p q space (Claim victim page frame need) x goes is = absurd (not_else _ q x (else-claim p.made p.doing space _ need) goes is)
-refused_by p q space (UseHeld page frame want) x goes is = absurd (not_else _ q x (else-on space _ (λ s. else-use p.made p.doing s page frame)) goes is)
+refused_by p q space (UseHeld page frame want) x goes is = absurd (not_else _ q x
+    (else-on space _ (λ s. else-use p.made p.doing s page frame)) goes is)
 refused_by p q space (DropHeld frame) x goes is = absurd (not_else _ q x (else-drop p.made p.doing frame) goes is)
 refused_by p q space (Got frame) x goes is = absurd (not_else _ q x (else-got p.made p.doing frame) goes is)
-refused_by p q space (Unclaim frame) x goes is = absurd (not_else _ q x (else-on space _ (λ s. else-unclaim p.made p.doing s frame)) goes is)
+refused_by p q space (Unclaim frame) x goes is = absurd (not_else _ q x
+    (else-on space _ (λ s. else-unclaim p.made p.doing s frame)) goes is)
 refused_by p q space (Refused wired claimed held) x goes is = by_refusal p.made p.doing wired claimed held q x goes is
 refused_by p q space (Rest short) x goes is = absurd (not_else _ q x (else-rest p.made p.doing short) goes is)
 
@@ -145,7 +155,8 @@ not_alone (Sync s page) wired claimed held may = false≢true may
 not_alone (Evict s page) wired claimed held may = false≢true may
 not_alone call wired claimed held may = false≢true may
 
-same_refusal : (w c h wired claimed held : ℕ) → (eqb w wired && (eqb c claimed && eqb h held)) ≡ true → Refused wired claimed held ≡ Refused w c h
+same_refusal : (w c h wired claimed held : ℕ) → (eqb w wired && (eqb c claimed && eqb h held)) ≡ true
+    → Refused wired claimed held ≡ Refused w c h
 same_refusal w c h wired claimed held same =
     let first = and_parts _ _ same in
     let rest = and_parts _ _ first.1 in
@@ -155,7 +166,8 @@ same_refusal w c h wired claimed held same =
     ∙ ap (λ n. Refused wired claimed n) (eqb-true h held rest.1)
     )
 
-from_refusal : (doing : Doing) (call : Call) (w c h : ℕ) → may_answer doing call (NoFrames w c h) ≡ true → refusal_of doing ≡ Some (Refused w c h)
+from_refusal : (doing : Doing) (call : Call) (w c h : ℕ) → may_answer doing call (NoFrames w c h) ≡ true
+    → refusal_of doing ≡ Some (Refused w c h)
 from_refusal Idle call w c h may = absurd (not_alone call w c h may)
 from_refusal (Cleared space first len) call w c h may = absurd (false≢true (and_parts _ _ may).1)
 from_refusal (Uncopied space page count) call w c h may = absurd (false≢true (and_parts _ _ may).1)
@@ -170,9 +182,9 @@ leads_holds : (holds : Bool) (made : ℕ) (doing : Doing) (q : Progress) → lea
 leads_holds true made doing q goes = refl
 leads_holds false made doing q goes = absurd (none-some q goes)
 
-answered_from : (p q : Progress) (number : ℕ) (call : Call) (reply : Reply) (w c h : ℕ) → after_answer p number call reply ≡ Some q
-    → reply ≡ NoFrames w c h → refusal_of p.doing ≡ Some (Refused w c h)
-answered_from p q number call reply w c h goes same =
+answered_from : (p q : Progress) (number : ℕ) (call : Call) (reply : Reply) → after_answer p number call reply ≡ Some q
+    → (w c h : ℕ) → reply ≡ NoFrames w c h → refusal_of p.doing ≡ Some (Refused w c h)
+answered_from p q number call reply goes w c h same =
     let holds = leads_holds (eqb number p.made && may_answer p.doing call reply) (p.made + 1) Idle q goes in
     from_refusal p.doing call w c h (ap (may_answer p.doing call) (sym same) ∙ (and_parts _ _ holds).1)
 
@@ -189,7 +201,8 @@ allowed_refusal g h e wired claimed held may what =
 none_to_have : (g : Given) (h : List Entry) (e : Entry) (wired claimed held : ℕ) → IsLegal g h → MayFollow g h e
     → e.what ≡ Refused wired claimed held → NoneToHave g.frames (frames_at g h)
 none_to_have g h e wired claimed held legal may what =
-    NoneToHave-refused g.frames (length g.marks) (frames_at g h) wired claimed held (IsKept-legal g h legal).sound (allowed_refusal g h e wired claimed held may what).1
+    NoneToHave-refused g.frames (length g.marks) (frames_at g h) wired claimed held (IsKept-legal g h legal).sound
+    (allowed_refusal g h e wired claimed held may what).1
 
 -- and its numbers sum to all frames
 out_of_frames : (g : Given) (h : List Entry) (e : Entry) (wired claimed held : ℕ) → IsLegal g h → MayFollow g h e
@@ -200,7 +213,8 @@ out_of_frames g h e wired claimed held legal may what =
 
 -- whose place comes after a refusal, its last entry was this refusal, and no frame could be had then
 abbrev RefusedLast : Given → List Entry → Type 0
-RefusedLast g h = (c wired claimed held : ℕ) (p : Progress) → progress_at g h c ≡ Some p → refusal_of p.doing ≡ Some (Refused wired claimed held) → WasRefused g h c wired claimed held
+RefusedLast g h = (c wired claimed held : ℕ) (p : Progress) → progress_at g h c ≡ Some p
+    → refusal_of p.doing ≡ Some (Refused wired claimed held) → WasRefused g h c wired claimed held
 
 RefusedLast-more : (g : Given) (h : List Entry) (e : Entry) → IsLegal g h → RefusedLast g h → MayFollow g h e → RefusedLast g (h ++ e ∷ [])
 RefusedLast-more g h e legal refused may c wired claimed held p goes is =
@@ -241,12 +255,14 @@ none_between (suc n) = refl
 
 RefusedLast-start : (g : Given) → RefusedLast g []
 RefusedLast-start g c wired claimed held p goes is =
-    absurd (none-some _ (sym (none_between (mark_of g c)) ∙ ap (λ (q : Progress). refusal_of q.doing) (same_Some (at_rest (mark_of g c) 0) p goes) ∙ is))
+    absurd (none-some _ (sym (none_between (mark_of g c)) ∙ ap (λ (q : Progress). refusal_of q.doing)
+    (same_Some (at_rest (mark_of g c) 0) p goes) ∙ is))
 
 RefusedLast-legal : (g : Given) (history : List Entry) → IsLegal g history → RefusedLast g history
 RefusedLast-legal g history legal =
     let P : List Entry → Type 0 = λ h. IsLegal g h × RefusedLast g h in
-    (IsLegal-keeps g P (λ h e kept may. (IsLegal-push g h e kept.0 may, RefusedLast-more g h e kept.0 kept.1 may)) (tt, RefusedLast-start g) history legal).1
+    (IsLegal-keeps g P (λ h e kept may. (IsLegal-push g h e kept.0 may, RefusedLast-more g h e kept.0 kept.1 may))
+    (tt, RefusedLast-start g) history legal).1
 
 -- The law: each answer that says that no frame could be had comes after such a refusal.
 pub RefusesRightly-legal : (g : Given) (history : List Entry) → IsLegal g history → RefusesRightly g history
@@ -255,7 +271,7 @@ RefusesRightly-legal g history legal before after e number call answered wired c
     let from = progress_before (progress_at g before e.processor) e at.1.ordered.0 at.1.ordered.1 in
     let goes = ap (progress_after from.0 e.space) (sym what) ∙ from.2 in
     RefusedLast-legal g before at.0 e.processor wired claimed held from.0 from.1
-    (answered_from from.0 at.1.ordered.0 number call answered.reply wired claimed held goes reply)
+    (answered_from from.0 at.1.ordered.0 number call answered.reply goes wired claimed held reply)
 
 -- The law: no refusal comes while wired places and processors together are at most the frames.
 pub IsNeverShort-legal : (g : Given) (history : List Entry) → IsLegal g history → IsNeverShort g history

@@ -23,7 +23,8 @@ one_kept : (o : Option Used) → is_kept_place o ≡ true → ((c : ℕ) → cla
 one_kept None kept apart = absurd (false≢true kept)
 one_kept (Some u) kept apart = by_claim u.wired u.claim kept apart
   where
-    by_claim : (wired : Bool) (claim : Option ℕ) → (wired || is_some claim) ≡ true → ((c : ℕ) → claim ≡ Some c → wired ≡ false) → weight wired + weight (is_some claim) ≡ 1
+    by_claim : (wired : Bool) (claim : Option ℕ) → (wired || is_some claim) ≡ true → ((c : ℕ) → claim ≡ Some c → wired ≡ false)
+        → weight wired + weight (is_some claim) ≡ 1
     by_claim true None kept apart = refl
     by_claim true (Some c) kept apart = absurd (false≢true (sym (apart c refl)))
     by_claim false None kept apart = absurd (false≢true kept)
@@ -36,7 +37,8 @@ module _ (frames processors : ℕ) (st : FrameState) (sound : IsSound frames pro
     where
       at : (o : Option Used) → used_at st f ≡ o → used_at st f ≡ None
       at None none = none
-      at (Some u) is = absurd ((sound.held_apart c f holds).1 (inr (sound.laid.places f (used_if_noted st f (λ none. none-some u (sym none ∙ is))))))
+      at (Some u) is = absurd
+          ((sound.held_apart c f holds).1 (inr (sound.laid.places f (used_if_noted st f (λ none. none-some u (sym none ∙ is))))))
 
   -- where none can be had a frame is wired, claimed or held, in one way alone
   one_way : (f : ℕ) → f < frames → NoneToHave frames st
@@ -60,12 +62,25 @@ module _ (frames processors : ℕ) (st : FrameState) (sound : IsSound frames pro
       let wired : ℕ → ℕ = λ f. weight (is_wired_place (used_at st f)) in
       let claimed : ℕ → ℕ = λ f. weight (is_claimed_place (used_at st f)) in
       let held : ℕ → ℕ = λ f. count_by (is_that f) st.held in
-      let ones = sum_by-same_at (λ f. wired f + claimed f + held f) (λ f. 1) fs 0 (λ i within. one_way (get_or fs i 0) (below frames processors st sound i within) none) in
-      let all_wired : sum_by wired fs ≡ wired_count st = count-indexes is_wired_place st.used None frames (used_long frames processors st sound) in
-      let all_claimed : sum_by claimed fs ≡ claimed_count st = count-indexes is_claimed_place st.used None frames (used_long frames processors st sound) in
+      let ones = sum_by-same_at (λ f. wired f + claimed f + held f) (λ f. 1) fs 0
+      (λ i within. one_way (get_or fs i 0) (below frames processors st sound i within) none) in
+      let all_wired : sum_by wired fs ≡ wired_count st = count-indexes is_wired_place st.used None frames
+      (used_long frames processors st sound) in
+      let all_claimed : sum_by claimed fs ≡ claimed_count st = count-indexes is_claimed_place st.used None frames
+      (used_long frames processors st sound) in
       let parts = sum_by-plus (λ f. wired f + claimed f) held fs in
       let more_parts = sum_by-plus wired claimed fs in
-      omega (arith, ones, sum_by-ones fs, length-range_with_len 0 frames, all_wired, all_claimed, all_held frames processors st sound, parts, more_parts)
+      omega (
+        arith,
+        ones,
+        sum_by-ones fs,
+        length-range_with_len 0 frames,
+        all_wired,
+        all_claimed,
+        all_held frames processors st sound,
+        parts,
+        more_parts,
+      )
 
   -- how many frames a processor claims
   abbrev claims : ℕ → ℕ
@@ -75,12 +90,14 @@ module _ (frames processors : ℕ) (st : FrameState) (sound : IsSound frames pro
   all_claims : sum_by claims (range_with_len 0 processors) ≡ claimed_count st
   all_claims =
       exchange (λ c (o : Option Used). is_that c (claim_in o)) st.used (range_with_len 0 processors)
-      ∙ sum_by-same_at (λ (o : Option Used). count_by (λ c. is_that c (claim_in o)) (range_with_len 0 processors)) (λ (o : Option Used). weight (is_claimed_place o)) st.used None
+      ∙ sum_by-same_at (λ (o : Option Used). count_by (λ c. is_that c (claim_in o)) (range_with_len 0 processors))
+      (λ (o : Option Used). weight (is_claimed_place o)) st.used None
       (λ i _. count-held processors (claim_in (get_or st.used i None)) (λ c is. (sound.claims_known i c is).0))
 
   -- a processor that claims no frame, frame by frame, is counted none
   no_claims : (c : ℕ) → ((f : ℕ) → claim_in (used_at st f) ≡ Some c → ⊥) → claims c ≡ 0
-  no_claims c never = count-nowhere (λ o. is_that c (claim_in o)) st.used None (λ i is. never i (is_that-same c (claim_in (used_at st i)) is))
+  no_claims c never = count-nowhere (λ o. is_that c (claim_in o)) st.used None
+      (λ i is. never i (is_that-same c (claim_in (used_at st i)) is))
 
   -- a processor claims one frame or holds one, at most
   one_most : (c : ℕ) → claims c + weight (is_some (held_by st c)) ≤ 1
@@ -89,7 +106,10 @@ module _ (frames processors : ℕ) (st : FrameState) (sound : IsSound frames pro
       at : (o : Option ℕ) → held_by st c ≡ o → claims c + weight (is_some (held_by st c)) ≤ 1
       at None none =
           let holds : weight (is_some (held_by st c)) ≡ 0 = ap (λ o. weight (is_some o)) none in
-          let most = count-one_most (λ o. is_that c (claim_in o)) st.used None (λ i j one two. sound.claims_once i j c (is_that-same c (claim_in (used_at st i)) one) (is_that-same c (claim_in (used_at st j)) two)) in
+          let most =
+          count-one_most (λ o. is_that c (claim_in o)) st.used None
+          (λ i j one two. sound.claims_once i j c (is_that-same c (claim_in (used_at st i)) one)
+          (is_that-same c (claim_in (used_at st j)) two)) in
           omega (arith, holds, most)
       at (Some f) is =
           let holds : weight (is_some (held_by st c)) ≡ 1 = ap (λ o. weight (is_some o)) is in
@@ -126,7 +146,8 @@ module _ (frames processors : ℕ) (st : FrameState) (sound : IsSound frames pro
       let is_mine : ℕ → ℕ = λ c. weight (is_that c (Some mine)) in
       let each = sum_by-le_at (λ c. claims c + holds c + is_mine c) (λ c. 1) cs 0 (λ i _. beside (get_or cs i 0) mine nothing) in
       let all_holders : sum_by holds cs ≡ held_count st = count-indexes is_some st.held None processors sound.processors_known in
-      let own : sum_by is_mine cs ≡ 1 = count-held processors (Some mine) (λ c is. subst (λ n. n < processors) (same_Some mine c is) known) in
+      let own : sum_by is_mine cs ≡ 1 = count-held processors (Some mine)
+      (λ c is. subst (λ n. n < processors) (same_Some mine c is) known) in
       let parts = sum_by-plus (λ c. claims c + holds c) is_mine cs in
       let more_parts = sum_by-plus claims holds cs in
       omega (arith, each, sum_by-ones cs, length-range_with_len 0 processors, all_claims, all_holders, own, parts, more_parts)

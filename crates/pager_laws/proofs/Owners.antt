@@ -74,18 +74,20 @@ Keeps-taken st space page want place c none places = record {
       let apart : (eqb space s && eqb p page) ≡ false = elim (cases_Bool (eqb space s && eqb p page)) [
         | inl same ↦
             let parts = and_parts _ _ same in
-            let here : frame_of st s p ≡ None = subst (λ q. frame_of st s q ≡ None) (sym (eqb-true p page parts.1)) (subst (λ t. frame_of st t page ≡ None) (eqb-true space s parts.0) none) in
+            let here : frame_of st s p ≡ None = subst (λ q. frame_of st s q ≡ None) (sym (eqb-true p page parts.1))
+            (subst (λ t. frame_of st t page ≡ None) (eqb-true space s parts.0) none) in
             absurd (none-some f (sym here ∙ is))
         | inr apart ↦ apart
       ] in
       let still : frame_of (taken st want place) s p ≡ frame_of st s p =
-      ap (λ l. frame_in l s p) (layout_of-taken st space page want place places) ∙ places.pages s p ∙ cond-false _ (Some place.frame) (frame_of st s p) apart in
+      ap (λ l. frame_in l s p) (layout_of-taken st space page want place places) ∙ places.pages s p
+      ∙ cond-false _ (Some place.frame) (frame_of st s p) apart in
       inr (ap claim_in (get_or-set_other st.used place.frame f _ None other) ∙ claims, still ∙ is);
 }
 
-pub Keeps-take : (frames processors : ℕ) (st : FrameState) (space page : ℕ) (want : Want) (t : Taking) (c : ℕ)
-    → IsSound frames processors st → frame_of st space page ≡ None → take_frame st space page want ≡ Some t → Keeps st t.state c
-Keeps-take frames processors st space page want t c sound none takes =
+pub Keeps-take : (frames processors : ℕ) (st : FrameState) (space page : ℕ) (want : Want) (t : Taking) → IsSound frames processors st
+    → frame_of st space page ≡ None → take_frame st space page want ≡ Some t → (c : ℕ) → Keeps st t.state c
+Keeps-take frames processors st space page want t sound none takes c =
     let found = taking_from st want (placing st.entries space page want (layout_of st)) t takes in
     let places = WasPlaced-placing (layout_of st) st.entries space page want found.0 sound.laid none found.1 in
     subst (λ u. Keeps st u.state c) found.2 (Keeps-taken st space page want found.0 c none places)
@@ -95,16 +97,24 @@ Keeps-take frames processors st space page want t c sound none takes =
 -- who claimed the frame holds it, and nobody else's hand changes
 held_given-own : (o : Option ℕ) (frame : ℕ) (held : List (Option ℕ)) (c : ℕ) → o ≡ Some c → c < length held
     → get_or (held_given o frame held) c None ≡ Some frame
-held_given-own o frame held c is known = ap (λ p. get_or (held_given p frame held) c None) is ∙ get_or-set_same held c (Some frame) None known
+held_given-own o frame held c is known = ap (λ p. get_or (held_given p frame held) c None) is
+    ∙ get_or-set_same held c (Some frame) None known
 
-held_given-other : (o : Option ℕ) (frame : ℕ) (held : List (Option ℕ)) (c : ℕ) → (o ≡ Some c → ⊥) → get_or (held_given o frame held) c None ≡ get_or held c None
+held_given-other : (o : Option ℕ) (frame : ℕ) (held : List (Option ℕ)) (c : ℕ) → (o ≡ Some c → ⊥)
+    → get_or (held_given o frame held) c None ≡ get_or held c None
 held_given-other None frame held c other = refl
 held_given-other (Some d) frame held c other = get_or-set_other held d c (Some frame) None (λ same. other (ap Some (sym same)))
 
-module _ (frames processors : ℕ) (st : FrameState) (space page frame c : ℕ) (sound : IsSound frames processors st)
-    (is : frame_of st space page ≡ Some frame) where
+-- a page has the frame, in a state of the frames that is sound
+pub record HasItsFrame (st : FrameState) (space page frame : ℕ) : Type 0 where
+  pub frames : ℕ
+  pub processors : ℕ
+  pub sound : IsSound frames processors st
+  pub is : frame_of st space page ≡ Some frame
+
+module _ (st : FrameState) (space page frame c : ℕ) (has : HasItsFrame st space page frame) where
   gives : GivesPage st (give_page st space page) frame
-  gives = GivesPage-give_page st space page frame sound.laid is
+  gives = GivesPage-give_page st space page frame has.sound.laid has.is
 
   held_now : held_by (give_page st space page) c ≡ get_or (held_given (claim_in (used_at st frame)) frame st.held) c None
   held_now = ap (λ held. get_or held c None) gives.held
@@ -112,16 +122,20 @@ module _ (frames processors : ℕ) (st : FrameState) (space page frame c : ℕ) 
   -- who claims the frame holds it then
   holds_claimed : claim_in (used_at st frame) ≡ Some c → held_by (give_page st space page) c ≡ Some frame
   holds_claimed claims =
-      held_now ∙ held_given-own (claim_in (used_at st frame)) frame st.held c claims (omega (arith, (sound.claims_known frame c claims).0, sound.processors_known))
+      held_now ∙ held_given-own (claim_in (used_at st frame)) frame st.held c claims
+      (omega (arith, (has.sound.claims_known frame c claims).0, has.sound.processors_known))
 
   pub Keeps-give_page : Keeps st (give_page st space page) c
   Keeps-give_page = record {
     nothing = λ nothing. record {
-      holds_none = held_now ∙ held_given-other (claim_in (used_at st frame)) frame st.held c (nothing.claims_none frame) ∙ nothing.holds_none;
-      claims_none = λ f claims. nothing.claims_none f (claim_given st frame f c (ap (λ used. claim_in (get_or used f None)) (sym gives.used) ∙ claims)).1;
+      holds_none = held_now ∙ held_given-other (claim_in (used_at st frame)) frame st.held c (nothing.claims_none frame)
+          ∙ nothing.holds_none;
+      claims_none = λ f claims. nothing.claims_none f (claim_given st frame f c
+          (ap (λ used. claim_in (get_or used f None)) (sym gives.used) ∙ claims)).1;
     };
     holds = λ f holds.
-        let no_claim : claim_in (used_at st frame) ≡ Some c → ⊥ = λ claims. none-some f (sym (sound.claims_known frame c claims).1 ∙ holds) in
+        let no_claim : claim_in (used_at st frame) ≡ Some c → ⊥ =
+        λ claims. none-some f (sym (has.sound.claims_known frame c claims).1 ∙ holds) in
         held_now ∙ held_given-other (claim_in (used_at st frame)) frame st.held c no_claim ∙ holds;
     claims = λ f s p claims at. elim (cases_eq f frame) [
       | inl same ↦ inl (holds_claimed (ap (λ g. claim_in (used_at st g)) (sym same) ∙ claims) ∙ ap Some (sym same))
@@ -133,18 +147,24 @@ module _ (frames processors : ℕ) (st : FrameState) (space page frame c : ℕ) 
   }
 
   -- the victim's page gives its frame up, and its claimer holds it
-  pub holds-given : (victim : Victim) → frame ≡ victim.frame → ClaimsOrHolds st c victim → held_by (give_page st space page) c ≡ Some victim.frame
+  pub holds-given : (victim : Victim) → frame ≡ victim.frame → ClaimsOrHolds st c victim
+      → held_by (give_page st space page) c ≡ Some victim.frame
   holds-given victim same owns = elim owns.frame [
-    | inl holds ↦ absurd ((sound.held_apart c victim.frame holds).1 (place_in_layout (layout_of st) space page victim.frame (is ∙ ap Some same)))
+    | inl holds ↦
+        absurd ((has.sound.held_apart c victim.frame holds).1
+        (place_in_layout (layout_of st) space page victim.frame (has.is ∙ ap Some same)))
     | inr claims ↦ holds_claimed (ap (λ f. claim_in (used_at st f)) same ∙ claims.0) ∙ ap Some same
   ]
 
-Keeps-give_if_used : (frames processors : ℕ) (st : FrameState) (space page c : ℕ) → IsSound frames processors st → Keeps st (give_if_used space st page) c
+Keeps-give_if_used : (frames processors : ℕ) (st : FrameState) (space page c : ℕ) → IsSound frames processors st
+    → Keeps st (give_if_used space st page) c
 Keeps-give_if_used frames processors st space page c sound = by_place (frame_of st space page) refl
   where
     by_place : (o : Option ℕ) → frame_of st space page ≡ o → Keeps st (give_if_used space st page) c
     by_place None none = subst (λ o. Keeps st (cond (is_some o) (give_page st space page) st) c) (sym none) (Keeps-same st c)
-    by_place (Some frame) is = subst (λ o. Keeps st (cond (is_some o) (give_page st space page) st) c) (sym is) (Keeps-give_page frames processors st space page frame c sound is)
+    by_place (Some frame) is =
+        subst (λ o. Keeps st (cond (is_some o) (give_page st space page) st) c) (sym is)
+        (Keeps-give_page st space page frame c (record { frames = frames; processors = processors; sound = sound; is = is }))
 
 pub Keeps-give_each : (frames processors : ℕ) (space : ℕ) (pages : List ℕ) (st : FrameState) (c : ℕ) → IsSound frames processors st
     → Keeps st (fold (give_if_used space) st pages) c
@@ -162,7 +182,11 @@ Keeps-reclaimed : (st : FrameState) (frame : ℕ) (claim : Option ℕ) (c : ℕ)
 Keeps-reclaimed st frame claim c not_now not_before = record {
   nothing = λ nothing. record {
     holds_none = nothing.holds_none;
-    claims_none = λ f claims. elim (claim_claimed st frame claim f c claims) [ inl now ↦ not_now now.1 | inr before ↦ nothing.claims_none f before.1 ];
+    claims_none = λ f claims. elim (claim_claimed st frame claim f c claims) [
+      | inl now ↦ not_now now.1
+      | inr before ↦
+          nothing.claims_none f before.1
+    ];
   };
   holds = λ f holds. holds;
   claims = λ f s p claims is.
@@ -179,9 +203,11 @@ unclaimed_place None evictable = refl
 unclaimed_place (Some u) evictable = none_from_is_none u.claim (and_parts _ _ evictable).1
 
 -- another processor claims its victim
-pub Keeps-claimed : (st : FrameState) (space page frame d c : ℕ) → IsVictim st space page frame → c ≢ d → Keeps st (claimed st frame (Some d)) c
+pub Keeps-claimed : (st : FrameState) (space page frame d c : ℕ) → IsVictim st space page frame → c ≢ d
+    → Keeps st (claimed st frame (Some d)) c
 Keeps-claimed st space page frame d c victim other =
-    Keeps-reclaimed st frame (Some d) c (λ same. other (sym (same_Some d c same))) (λ claims. none-some c (sym (unclaimed_place (used_at st frame) victim.evictable) ∙ claims))
+    Keeps-reclaimed st frame (Some d) c (λ same. other (sym (same_Some d c same)))
+    (λ claims. none-some c (sym (unclaimed_place (used_at st frame) victim.evictable) ∙ claims))
 
 -- another processor's claim ends
 pub Keeps-unclaimed : (st : FrameState) (frame d c : ℕ) → claim_in (used_at st frame) ≡ Some d → c ≢ d → Keeps st (claimed st frame None) c
@@ -191,7 +217,14 @@ Keeps-unclaimed st frame d c claims other =
 -- a processor claims its victim
 pub claims-claimed : (st : FrameState) (space page frame c : ℕ) → IsVictim st space page frame
     → ClaimsOrHolds (claimed st frame (Some c)) c (record { space = space; page = page; frame = frame })
-claims-claimed st space page frame c victim = record { frame = inr (by_place (used_at st frame) refl, ap (λ l. frame_in l space page) (layout_of-claimed st frame (Some c)) ∙ victim.place) }
+claims-claimed st space page frame c victim =
+    record {
+      frame = inr (
+        by_place (used_at st frame) refl,
+        ap (λ l. frame_in l space page) (layout_of-claimed st frame (Some c))
+            ∙ victim.place,
+      );
+    }
   where
     by_place : (o : Option Used) → used_at st frame ≡ o → claim_in (used_at (claimed st frame (Some c)) frame) ≡ Some c
     by_place None none = absurd (false≢true (sym (ap is_evictable none) ∙ victim.evictable))
@@ -200,7 +233,8 @@ claims-claimed st space page frame c victim = record { frame = inr (by_place (us
           | inl known ↦ known
           | inr past ↦ absurd (none-some u (sym (get_or_past st.used frame None past) ∙ is))
         ] in
-        ap claim_in (get_or-set_same st.used frame (with_claim (Some c) (used_at st frame)) None known) ∙ ap (λ o. claim_in (with_claim (Some c) o)) is
+        ap claim_in (get_or-set_same st.used frame (with_claim (Some c) (used_at st frame)) None known)
+        ∙ ap (λ o. claim_in (with_claim (Some c) o)) is
 
 -- a processor whose claim ended has nothing
 pub nothing-unclaimed : (frames processors : ℕ) (st : FrameState) (frame c : ℕ) → IsSound frames processors st

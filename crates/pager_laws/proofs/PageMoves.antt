@@ -22,14 +22,17 @@ place_in_layout l space page frame is =
     inr (place.id, ap (has_frame frame) place.is ∙ ap (λ f. has_frame f (Some place.reservation)) place.frame ∙ mine)
 
 -- a place is that of one page
-pub one_page : (l : Layout) (space page s p frame : ℕ) → IsLaid l → frame_in l space page ≡ Some frame → frame_in l s p ≡ Some frame → (space ≡ s) × (page ≡ p)
+pub one_page : (l : Layout) (space page s p frame : ℕ) → IsLaid l → frame_in l space page ≡ Some frame → frame_in l s p ≡ Some frame
+    → (space ≡ s) × (page ≡ p)
 one_page l space page s p frame laid is also =
     let one = frame_in-found l space page frame is in
     let two = frame_in-found l s p frame also in
     let r = one.reservation in
     let has_one = ap (has_frame frame) one.is ∙ ap (λ f. has_frame f (Some r)) one.frame ∙ has_frame_for space page r one.covers_page in
-    let has_two = ap (has_frame frame) two.is ∙ ap (λ f. has_frame f (Some two.reservation)) two.frame ∙ has_frame_for s p two.reservation two.covers_page in
-    let same : two.reservation ≡ r = same_Some two.reservation r (sym two.is ∙ ap (record_at l) (laid.apart frame two.id one.id has_two has_one) ∙ one.is) in
+    let has_two = ap (has_frame frame) two.is ∙ ap (λ f. has_frame f (Some two.reservation)) two.frame
+    ∙ has_frame_for s p two.reservation two.covers_page in
+    let same : two.reservation ≡ r = same_Some two.reservation r (sym two.is
+    ∙ ap (record_at l) (laid.apart frame two.id one.id has_two has_one) ∙ one.is) in
     let first = CoversPageOf-covers space page r one.covers_page in
     let second = CoversPageOf-covers s p r (ap (covers s p) (sym same) ∙ two.covers_page) in
     let joined : frame_for page r ≡ frame_for p r = sym one.frame ∙ two.frame ∙ ap (frame_for p) same in
@@ -45,11 +48,24 @@ GivesPage-given : (st : FrameState) (id frame : ℕ) (r : Reservation) → IsLai
     → has_frame frame (Some r) ≡ true → is_used (layout_of st).used frame ≡ true → GivesPage st (given st frame r) frame
 GivesPage-given st id frame r laid is has used = record { pages = by_claim (claim_in (used_at st frame)); used = refl; held = refl }
   where
-    same : (in_after : ℕ → Type 0) (l : Layout) → Gives (layout_of st) l frame in_after → (s p f : ℕ) → (frame_in (record { sizes = l.sizes; free = l.free; records = l.records; used = map is_some (set st.used frame None) }) s p ≡ Some f) ↔ ((f ≢ frame) × (frame_of st s p ≡ Some f))
+    same : (in_after : ℕ → Type 0) (l : Layout) → Gives (layout_of st) l frame in_after → (s p f : ℕ)
+        → (frame_in (record {
+          sizes = l.sizes;
+          free = l.free;
+          records = l.records;
+          used = map is_some (set st.used frame None);
+        }) s p ≡ Some f) ↔ ((f ≢ frame) × (frame_of st s p ≡ Some f))
     same in_after l gives s p f =
-        subst (λ m. (frame_in m s p ≡ Some f) ↔ ((f ≢ frame) × (frame_of st s p ≡ Some f))) (sym (layout_of-given l st frame in_after gives)) (gives.pages s p f)
+        subst (λ m. (frame_in m s p ≡ Some f) ↔ ((f ≢ frame) × (frame_of st s p ≡ Some f)))
+        (sym (layout_of-given l st frame in_after gives)) (gives.pages s p f)
 
-    by_claim : (claim : Option ℕ) (s p f : ℕ) → (frame_in (record { sizes = (layout_given claim frame r (layout_of st)).sizes; free = (layout_given claim frame r (layout_of st)).free; records = (layout_given claim frame r (layout_of st)).records; used = map is_some (set st.used frame None) }) s p ≡ Some f) ↔ ((f ≢ frame) × (frame_of st s p ≡ Some f))
+    by_claim : (claim : Option ℕ) (s p f : ℕ)
+        → (frame_in (record {
+          sizes = (layout_given claim frame r (layout_of st)).sizes;
+          free = (layout_given claim frame r (layout_of st)).free;
+          records = (layout_given claim frame r (layout_of st)).records;
+          used = map is_some (set st.used frame None);
+        }) s p ≡ Some f) ↔ ((f ≢ frame) × (frame_of st s p ≡ Some f))
     by_claim None = same _ _ (Gives-vacate (layout_of st) id frame r laid is has used)
     by_claim (Some c) = same _ _ (Gives-carve (layout_of st) id frame r laid is has used)
 
@@ -72,7 +88,9 @@ frame_of-give_page st space page frame laid is s p =
     elim (cases_Bool (eqb space s && eqb p page)) [
       | inl here ↦
           let parts = and_parts _ _ here in
-          let was : frame_of st s p ≡ Some frame = subst (λ t. frame_of st t p ≡ Some frame) (eqb-true space s parts.0) (subst (λ q. frame_of st space q ≡ Some frame) (sym (eqb-true p page parts.1)) is) in
+          let was : frame_of st s p ≡ Some frame =
+          subst (λ t. frame_of st t p ≡ Some frame) (eqb-true space s parts.0)
+          (subst (λ q. frame_of st space q ≡ Some frame) (sym (eqb-true p page parts.1)) is) in
           same_option (frame_of (give_page st space page) s p) None
           (λ f now. absurd (let had = (gives.pages s p f).0 now in had.0 (same_Some f frame (sym had.1 ∙ was))))
           (λ f none. absurd (none-some f none))
@@ -94,16 +112,20 @@ pub frame_of-give_if_used : (st : FrameState) (space page : ℕ) → IsLaid (lay
     → frame_of (give_if_used space st page) s p ≡ cond (eqb space s && eqb p page) None (frame_of st s p)
 frame_of-give_if_used st space page laid s p = by_place (frame_of st space page) refl
   where
-    by_place : (o : Option ℕ) → frame_of st space page ≡ o → frame_of (give_if_used space st page) s p ≡ cond (eqb space s && eqb p page) None (frame_of st s p)
+    by_place : (o : Option ℕ) → frame_of st space page ≡ o → frame_of (give_if_used space st page) s p
+        ≡ cond (eqb space s && eqb p page) None (frame_of st s p)
     by_place (Some frame) is =
-        subst (λ o. frame_of (cond (is_some o) (give_page st space page) st) s p ≡ cond (eqb space s && eqb p page) None (frame_of st s p)) (sym is)
+        subst (λ o. frame_of (cond (is_some o) (give_page st space page) st) s p ≡ cond (eqb space s && eqb p page) None (frame_of st s p))
+        (sym is)
         (frame_of-give_page st space page frame laid is s p)
     by_place None none =
-        subst (λ o. frame_of (cond (is_some o) (give_page st space page) st) s p ≡ cond (eqb space s && eqb p page) None (frame_of st s p)) (sym none)
+        subst (λ o. frame_of (cond (is_some o) (give_page st space page) st) s p ≡ cond (eqb space s && eqb p page) None (frame_of st s p))
+        (sym none)
         (elim (cases_Bool (eqb space s && eqb p page)) [
           | inl here ↦
               let parts = and_parts _ _ here in
-              subst (λ t. frame_of st t p ≡ None) (eqb-true space s parts.0) (subst (λ q. frame_of st space q ≡ None) (sym (eqb-true p page parts.1)) none)
+              subst (λ t. frame_of st t p ≡ None) (eqb-true space s parts.0)
+              (subst (λ q. frame_of st space q ≡ None) (sym (eqb-true p page parts.1)) none)
               ∙ sym (cond-true _ _ _ here)
           | inr other ↦ sym (cond-false _ _ _ other)
         ])
@@ -120,7 +142,8 @@ in_range-first first len p same = and_from _ _ (le-leb first p (omega (arith, sa
 
 in_range-rest : (first len p : ℕ) → p ≢ first → in_range (first + 1) len p ≡ in_range first (suc len) p
 in_range-rest first len p other = elim (cases_lt p first) [
-  | inl before ↦ ap (λ b. b && ltb p (first + 1 + len)) (lt-leb (first + 1) p (omega (arith, before))) ∙ sym (ap (λ b. b && ltb p (first + suc len)) (lt-leb first p before))
+  | inl before ↦ ap (λ b. b && ltb p (first + 1 + len)) (lt-leb (first + 1) p (omega (arith, before)))
+      ∙ sym (ap (λ b. b && ltb p (first + suc len)) (lt-leb first p before))
   | inr past ↦
       let end : first + 1 + len ≡ first + suc len = omega arith in
       ap (λ b. b && ltb p (first + 1 + len)) (le-leb (first + 1) p (omega (arith, past, other)))
@@ -130,14 +153,16 @@ in_range-rest first len p other = elim (cases_lt p first) [
 
 -- each page of a range gives its place up, where it has one
 pub frame_of-give_each : (frames processors space first len : ℕ) (st : FrameState) → IsSound frames processors st → (s p : ℕ)
-    → frame_of (fold (give_if_used space) st (range_with_len first len)) s p ≡ cond (eqb space s && in_range first len p) None (frame_of st s p)
+    → frame_of (fold (give_if_used space) st (range_with_len first len)) s p
+    ≡ cond (eqb space s && in_range first len p) None (frame_of st s p)
 frame_of-give_each frames processors space first zero st sound s p = by_space (eqb space s)
   where
     by_space : (b : Bool) → frame_of st s p ≡ cond (b && in_range first 0 p) None (frame_of st s p)
     by_space true = sym (cond-false (in_range first 0 p) None (frame_of st s p) (in_range-none first p))
     by_space false = refl
 frame_of-give_each frames processors space first (suc len) st sound s p =
-    frame_of-give_each frames processors space (first + 1) len (give_if_used space st first) (IsSound-give_if_used frames processors st space first sound) s p
+    frame_of-give_each frames processors space (first + 1) len (give_if_used space st first)
+    (IsSound-give_if_used frames processors st space first sound) s p
     ∙ ap (cond (eqb space s && in_range (first + 1) len p) None) (frame_of-give_if_used st space first sound.laid s p)
     ∙ by_space (eqb space s)
   where
@@ -147,13 +172,15 @@ frame_of-give_each frames processors space first (suc len) st sound s p =
           ap (cond (in_range (first + 1) len p) None) (cond-true _ None o (eq-eqb p first same)) ∙ both (in_range (first + 1) len p) None
           ∙ sym (cond-true _ None o (in_range-first first len p same))
       | inr other ↦
-          ap (cond (in_range (first + 1) len p) None) (cond-false _ None o (ne_eqb p first other)) ∙ ap (λ b. cond b None o) (in_range-rest first len p other)
+          ap (cond (in_range (first + 1) len p) None) (cond-false _ None o (ne_eqb p first other))
+          ∙ ap (λ b. cond b None o) (in_range-rest first len p other)
     ]
       where
         both : (b : Bool) (n : Option ℕ) → cond b n n ≡ n
         both true n = refl
         both false n = refl
 
-    by_space : (b : Bool) → cond (b && in_range (first + 1) len p) None (cond (b && eqb p first) None (frame_of st s p)) ≡ cond (b && in_range first (suc len) p) None (frame_of st s p)
+    by_space : (b : Bool) → cond (b && in_range (first + 1) len p) None (cond (b && eqb p first) None (frame_of st s p))
+        ≡ cond (b && in_range first (suc len) p) None (frame_of st s p)
     by_space true = by_page (frame_of st s p)
     by_space false = refl

@@ -35,7 +35,8 @@ pub covering-found : (s p : ℕ) (rs : List (Option Reservation)) (r : Reservati
 covering-found s p [] r found = cc
 covering-found s p (None ∷ rs) r found = let w = covering-found s p rs r found in (suc w.0, omega (arith, w.1), w.2, w.3)
 covering-found s p (Some q ∷ rs) r found =
-    elim (covers s p q) as (λ b. covers s p q ≡ b → cond b (Some q) (covering s p rs) ≡ Some r → (k : ℕ) × (k < suc (length rs)) × (get_or (Some q ∷ rs) k None ≡ Some r) × (covers s p r ≡ true)) [
+    elim (covers s p q) as (λ b. covers s p q ≡ b → cond b (Some q) (covering s p rs) ≡ Some r
+    → (k : ℕ) × (k < suc (length rs)) × (get_or (Some q ∷ rs) k None ≡ Some r) × (covers s p r ≡ true)) [
       | true ↦ λ is h. (0, omega arith, h, cc)
       | false ↦ λ is h. let w = covering-found s p rs r h in (suc w.0, omega (arith, w.1), w.2, w.3)
     ] refl found
@@ -59,7 +60,8 @@ covering-none s p (Some q ∷ rs) none (suc k) r is =
     ] none
 
 -- in a sound layout the reservation that has the page is found
-pub covering-is : (l : Layout) (s p id : ℕ) (r : Reservation) → IsLaid l → record_at l id ≡ Some r → covers s p r ≡ true → covering s p l.records ≡ Some r
+pub covering-is : (l : Layout) (s p id : ℕ) (r : Reservation) → IsLaid l → record_at l id ≡ Some r → covers s p r ≡ true
+    → covering s p l.records ≡ Some r
 covering-is l s p id r laid is has =
     elim (covering s p l.records) as (λ o. covering s p l.records ≡ o → o ≡ Some r) [
       | None ↦ λ none. absurd (false≢true (sym (covering-none s p l.records none id r is) ∙ has))
@@ -91,7 +93,8 @@ pub record HasPlace (l : Layout) (s p f : ℕ) : Type 0 where
 
 -- the frame is a place of the reservation
 pub HasPlace-has : (l : Layout) (s p f : ℕ) (place : HasPlace l s p f) → has_frame f (Some place.reservation) ≡ true
-HasPlace-has l s p f place = ap (λ g. has_frame g (Some place.reservation)) place.frame ∙ has_frame_for s p place.reservation place.covers_page
+HasPlace-has l s p f place = ap (λ g. has_frame g (Some place.reservation)) place.frame
+    ∙ has_frame_for s p place.reservation place.covers_page
 
 -- a place stays its page's in a layout where the reservation stands and the frame is used
 pub HasPlace-kept : (l m : Layout) (s p f : ℕ) (place : HasPlace l s p f) → record_at m place.id ≡ Some place.reservation
@@ -105,7 +108,8 @@ frame_in-found l s p f found =
       | None ↦ λ none h. (let e : None ≡ Some f = h in cc)
       | Some r ↦ λ is h.
           let w = covering-found s p l.records r is in
-          elim (is_used l.used (frame_for p r)) as (λ b. is_used l.used (frame_for p r) ≡ b → cond b (Some (frame_for p r)) None ≡ Some f → HasPlace l s p f) [
+          elim (is_used l.used (frame_for p r)) as (λ b. is_used l.used (frame_for p r) ≡ b → cond b (Some (frame_for p r)) None ≡ Some f
+          → HasPlace l s p f) [
             | true ↦ λ used e.
                 let at : f ≡ frame_for p r = (let same : Some (frame_for p r) ≡ Some f = e in cc) in
                 record { id = w.0; reservation = r; is = w.2; covers_page = w.3; frame = at; used = ap (is_used l.used) at ∙ used }
@@ -124,7 +128,8 @@ pub frame_in-none : (l : Layout) (s p id : ℕ) (r : Reservation) → IsLaid l �
     → covers s p r ≡ true → is_used l.used (frame_for p r) ≡ false
 frame_in-none l s p id r laid none is has =
     elim (is_used l.used (frame_for p r)) as (λ b. is_used l.used (frame_for p r) ≡ b → b ≡ false) [
-      | true ↦ λ used. (let e : Some (frame_for p r) ≡ None = sym (used_in-used l p r used) ∙ sym (frame_in-is l s p id r laid is has) ∙ none in cc)
+      | true ↦ λ used. (let e : Some (frame_for p r) ≡ None = sym (used_in-used l p r used) ∙ sym (frame_in-is l s p id r laid is has)
+          ∙ none in cc)
       | false ↦ λ unused. refl
     ] refl
 

@@ -28,12 +28,15 @@ has_empty_some used r k has =
     (any.0, within, ap (λ i. none_used used (r.frame + i * 8 ^ k) (8 ^ k)) (sym at) ∙ any.4)
 
 -- a part of a range without a used place has none
-none_used_part : (used : ℕ → Bool) (first n from m : ℕ) → first ≤ from → from + m ≤ first + n → none_used used first n ≡ true → none_used used from m ≡ true
+none_used_part : (used : ℕ → Bool) (first n from m : ℕ) → first ≤ from → from + m ≤ first + n → none_used used first n ≡ true
+    → none_used used from m ≡ true
 none_used_part used first n from m low high none =
-    (list_all-range (λ f. not (used f)) from m).1 (λ f above below. not_from_false _ (unused_in used first n none f (omega arith) (omega arith)))
+    (list_all-range (λ f. not (used f)) from m).1 (λ f above below. not_from_false _
+    (unused_in used first n none f (omega arith) (omega arith)))
 
 -- where an extent has no used place, neither has a smaller one in it
-pub has_empty_smaller : (used : ℕ → Bool) (r : Reservation) (j k : ℕ) → j ≤ k → k ≤ r.size → has_empty used r k ≡ true → has_empty used r j ≡ true
+pub has_empty_smaller : (used : ℕ → Bool) (r : Reservation) (j k : ℕ) → j ≤ k → k ≤ r.size → has_empty used r k ≡ true
+    → has_empty used r j ≡ true
 has_empty_smaller used r j k le low has =
     let found = has_empty_some used r k has in
     let u = 8 ^ (k - j) in
@@ -44,10 +47,12 @@ has_empty_smaller used r j k le low has =
     let positive : 0 < 8 = omega arith in
     let smaller : 8 ^ j ≤ 8 ^ k = pow-le-pow_right positive le in
     has_empty-yes used r j (found.0 * u) (omega (arith, inside, whole, eight_pos (k - j)))
-    (none_used_part used (r.frame + found.0 * 8 ^ k) (8 ^ k) (r.frame + found.0 * u * 8 ^ j) (8 ^ j) (omega (arith, at)) (omega (arith, at, smaller)) found.2)
+    (none_used_part used (r.frame + found.0 * 8 ^ k) (8 ^ k) (r.frame + found.0 * u * 8 ^ j) (8 ^ j) (omega (arith, at))
+    (omega (arith, at, smaller)) found.2)
 
 -- a reservation with a used place isn't empty
-pub whole_not_empty : (used : ℕ → Bool) (r : Reservation) (frame : ℕ) → has_frame frame (Some r) ≡ true → used frame ≡ true → has_empty used r r.size ≡ false
+pub whole_not_empty : (used : ℕ → Bool) (r : Reservation) (frame : ℕ) → has_frame frame (Some r) ≡ true → used frame ≡ true
+    → has_empty used r r.size ≡ false
 whole_not_empty used r frame has is = elim (cases_Bool (has_empty used r r.size)) [
   | inr none ↦ none
   | inl all ↦
@@ -56,7 +61,8 @@ whole_not_empty used r frame has is = elim (cases_Bool (has_empty used r r.size)
       let only : found.0 ≡ 0 = omega (arith, found.1, ap (λ m. 8 ^ m) none) in
       let start : r.frame + found.0 * 8 ^ r.size ≡ r.frame = ap (λ m. r.frame + m * 8 ^ r.size) only ∙ omega arith in
       let bounds = has_frame_bounds frame r has in
-      let unused = unused_in used (r.frame + found.0 * 8 ^ r.size) (8 ^ r.size) found.2 frame (omega (arith, bounds.0, start)) (omega (arith, bounds.1, start)) in
+      let unused = unused_in used (r.frame + found.0 * 8 ^ r.size) (8 ^ r.size) found.2 frame (omega (arith, bounds.0, start))
+      (omega (arith, bounds.1, start)) in
       absurd (false≢true (sym unused ∙ is))
 ]
 
@@ -76,7 +82,13 @@ pub IsWidest-from : (z : SizeSet) (used : ℕ → Bool) (r : Reservation) (n k :
 IsWidest-from z used r zero k is = elim (cases_Bool (has_empty used r 0)) [
   | inl here ↦
       let same : 0 ≡ k = same_Some 0 k (sym (cond-true _ _ _ here) ∙ is) in
-      record { low = omega arith; size = ap (has_size z) (sym same); has = ap (has_empty used r) (sym same) ∙ here; wider = λ j above below _. absurd (omega arith) }
+      record {
+        low = omega arith;
+        size = ap (has_size z) (sym same);
+        has = ap (has_empty used r) (sym same)
+            ∙ here;
+        wider = λ j above below _. absurd (omega arith);
+      }
   | inr missed ↦ absurd (none-some k (sym (cond-false _ _ _ missed) ∙ is))
 ]
 IsWidest-from z used r (suc m) k is = elim (cases_Bool (has_size z (suc m) && has_empty used r (suc m))) [
@@ -107,10 +119,18 @@ from_widest z used r zero k widest =
     let same : k ≡ 0 = omega (arith, widest.low) in
     cond-true _ _ _ (ap (has_empty used r) (sym same) ∙ widest.has) ∙ ap Some (sym same)
 from_widest z used r (suc m) k widest = elim (cases_eq k (suc m)) [
-  | inl here ↦ cond-true _ _ _ (and_from _ _ (ap (has_size z) (sym here) ∙ widest.size) (ap (has_empty used r) (sym here) ∙ widest.has)) ∙ ap Some (sym here)
+  | inl here ↦ cond-true _ _ _ (and_from _ _ (ap (has_size z) (sym here) ∙ widest.size) (ap (has_empty used r) (sym here) ∙ widest.has))
+      ∙ ap Some (sym here)
   | inr other ↦
-      cond-false _ _ _ (no_larger (has_size z (suc m)) (has_empty used r (suc m)) (λ one. widest.wider (suc m) (omega (arith, widest.low)) (omega arith) one))
-      ∙ from_widest z used r m k (record { low = omega (arith, widest.low); size = widest.size; has = widest.has; wider = λ j above below one. widest.wider j above (omega arith) one })
+      cond-false _ _ _ (no_larger (has_size z (suc m)) (has_empty used r (suc m))
+      (λ one. widest.wider (suc m) (omega (arith, widest.low)) (omega arith) one))
+      ∙ from_widest z used r m k
+      (record {
+        low = omega (arith, widest.low);
+        size = widest.size;
+        has = widest.has;
+        wider = λ j above below one. widest.wider j above (omega arith) one;
+      })
 ]
   where
     no_larger : (a b : Bool) → (a ≡ true → b ≡ false) → (a && b) ≡ false
@@ -126,7 +146,11 @@ yield_in-within z used r = at r.size (omega arith)
     right_false false b fails = refl
 
     at : (n : ℕ) → n ≤ r.size → largest_empty z used r n ≡ option_map (size_within z) (yield_up_to used r n)
-    at zero low = elim (has_empty used r 0) as (λ b. cond b (Some 0) None ≡ option_map (size_within z) (cond b (Some 0) None)) [ true ↦ refl | false ↦ refl ]
+    at zero low = elim (has_empty used r 0) as (λ b. cond b (Some 0) None ≡ option_map (size_within z) (cond b (Some 0) None)) [
+      | true ↦
+          refl
+      | false ↦ refl
+    ]
     at (suc m) low = elim (cases_Bool (has_empty used r (suc m))) [
       | inl here ↦
           let k = size_within z (suc m) in
@@ -166,7 +190,8 @@ yield_less z used r k frame has is yields =
           let start : r.frame + found.0 * 8 ^ k ≡ r.frame = ap (λ m. r.frame + m * 8 ^ k) only ∙ omega arith in
           let width : 8 ^ k ≡ 8 ^ r.size = ap (λ m. 8 ^ m) same in
           let bounds = has_frame_bounds frame r has in
-          let unused = unused_in used (r.frame + found.0 * 8 ^ k) (8 ^ k) found.2 frame (omega (arith, bounds.0, start)) (omega (arith, bounds.1, start, width)) in
+          let unused = unused_in used (r.frame + found.0 * 8 ^ k) (8 ^ k) found.2 frame (omega (arith, bounds.0, start))
+          (omega (arith, bounds.1, start, width)) in
           absurd (false≢true (sym unused ∙ is))
     ]
 
@@ -201,7 +226,8 @@ module _ (used : ℕ → Bool) (r : Reservation) (k m : ℕ) (splits : m ≤ r.s
       let j = found.0 % u in
       let whole : i * u + j ≡ found.0 = div-add-mod' found.0 u in
       let one : i < 8 ^ (r.size - m) = div_below found.0 u (8 ^ (r.size - m)) pos (omega (arith, found.1, parts)) in
-      let at : (part_at m r i).frame + j * 8 ^ k ≡ r.frame + found.0 * 8 ^ k = sym (place_in_part i j) ∙ ap (λ n. r.frame + n * 8 ^ k) whole in
+      let at : (part_at m r i).frame + j * 8 ^ k ≡ r.frame + found.0 * 8 ^ k = sym (place_in_part i j)
+      ∙ ap (λ n. r.frame + n * 8 ^ k) whole in
       (i, one, has_empty-yes used (part_at m r i) k j (mod_below found.0 u pos) (ap (λ a. none_used used a (8 ^ k)) at ∙ found.2))
 
 -- some part of size m has the yield of the whole, where that is smaller
@@ -212,14 +238,16 @@ part_as_wide z used r k m splits widest narrow =
     let part = part_at m r found.0 in
     let wider : (j : ℕ) → k < j → j ≤ m → has_size z j ≡ true → has_empty used part j ≡ false =
     λ j above below one. elim (cases_Bool (has_empty used part j)) [
-      | inl is ↦ absurd (false≢true (sym (widest.wider j above (omega arith) one) ∙ has_empty_of_part used r j m splits below found.0 found.1 is))
+      | inl is ↦ absurd (false≢true (sym (widest.wider j above (omega arith) one)
+          ∙ has_empty_of_part used r j m splits below found.0 found.1 is))
       | inr none ↦ none
     ] in
     (found.0, found.1, from_widest z used part m k (record { low = narrow; size = widest.size; has = found.2; wider = wider }))
 
 -- The search for the lowest such part.
 
-pub find_range : (p : ℕ → Bool) (a n i : ℕ) → a ≤ i → i < a + n → p i ≡ true → (j : ℕ) × (find p (range_with_len a n) ≡ Some j) × (j < a + n) × (p j ≡ true)
+pub find_range : (p : ℕ → Bool) (a n i : ℕ) → a ≤ i → i < a + n → p i ≡ true
+    → (j : ℕ) × (find p (range_with_len a n) ≡ Some j) × (j < a + n) × (p j ≡ true)
 find_range p a zero i low high is = absurd (omega arith)
 find_range p a (suc n) i low high is = elim (cases_Bool (p a)) [
   | inl here ↦ (a, cond-true _ _ _ here, omega arith, here)
@@ -240,7 +268,8 @@ lowest_found z used r k m i is one part =
     let test : ℕ → Bool = λ n. same_size (yield_in z used (part_at m r n)) (yield_in z used r) in
     let passes : test i ≡ true = rw (part, is) (eq-eqb k k refl) in
     let found = find_range test 0 (part_count m r) i (omega arith) (omega arith) passes in
-    let same : same_size (yield_in z used (part_at m r found.0)) (Some k) ≡ true = ap (same_size (yield_in z used (part_at m r found.0))) (sym is) ∙ found.3 in
+    let same : same_size (yield_in z used (part_at m r found.0)) (Some k) ≡ true =
+    ap (same_size (yield_in z used (part_at m r found.0))) (sym is) ∙ found.3 in
     (found.0, found.1, omega (arith, found.2), same_size_from _ k same)
 
 -- the part at which a breaking goes on

@@ -64,14 +64,16 @@ module _ (frames processors : ℕ) (st : FrameState) (sound : IsSound frames pro
           let not_held = none_holds (inl free) in
           omega (arith, free_one, no_place, not_held)
       | inr place ↦
-          let not_free : weight (is_free (layout_of st) f) ≡ 0 = ap weight (false_from_ne_true (is_free (layout_of st) f) (λ free. sound.laid.not_free f place.0 free place.1)) in
+          let not_free : weight (is_free (layout_of st) f) ≡ 0 = ap weight
+          (false_from_ne_true (is_free (layout_of st) f) (λ free. sound.laid.not_free f place.0 free place.1)) in
           let places = one_place place.0 place.1 in
           let not_held = none_holds (inr place) in
           omega (arith, not_free, places, not_held)
     ]
     | inr held ↦
         let out = (sound.held_apart held.0 f held.1).1 in
-        let not_free : weight (is_free (layout_of st) f) ≡ 0 = ap weight (false_from_ne_true (is_free (layout_of st) f) (λ free. out (inl free))) in
+        let not_free : weight (is_free (layout_of st) f) ≡ 0 = ap weight
+        (false_from_ne_true (is_free (layout_of st) f) (λ free. out (inl free))) in
         let no_place = count-nowhere (has_frame f) st.records None (λ id has. out (inr (id, has))) in
         let holds = one_holds held.0 held.1 in
         omega (arith, not_free, no_place, holds)

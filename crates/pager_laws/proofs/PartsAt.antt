@@ -29,7 +29,8 @@ part_at-placed frames k i r placed le one = record {
 }
 
 pub kept_at-cases : (k : ℕ) (used : ℕ → Bool) (r : Reservation) (i : ℕ)
-    → ((kept_at k used r i ≡ None) × (is_empty_at k used r i ≡ true)) ⊎ ((kept_at k used r i ≡ Some (part_at k r i)) × (is_empty_at k used r i ≡ false))
+    → ((kept_at k used r i ≡ None) × (is_empty_at k used r i ≡ true))
+    ⊎ ((kept_at k used r i ≡ Some (part_at k r i)) × (is_empty_at k used r i ≡ false))
 kept_at-cases k used r i = elim (cases_Bool (is_empty_at k used r i)) [
   | inl empty ↦ inl (cond-true _ _ _ empty, empty)
   | inr filled ↦ inr (cond-false _ _ _ filled, filled)
@@ -46,13 +47,15 @@ pub parted_suc : (n k : ℕ) (used : ℕ → Bool) (r : Reservation) (records : 
 parted_suc n k used r records =
     let step : List (Option Reservation) → ℕ → List (Option Reservation) = λ rs i. set rs (part_at k r i).frame (kept_at k used r i) in
     let more : range_with_len 0 (n + 1) ≡ range_with_len 0 n ++ n ∷ [] = range_with_len-more n in
-    ap (λ m. parted_up_to m k used r records) (sym (add-one n)) ∙ ap (fold step records) more ∙ fold_push step records (range_with_len 0 n) n
+    ap (λ m. parted_up_to m k used r records) (sym (add-one n)) ∙ ap (fold step records) more
+    ∙ fold_push step records (range_with_len 0 n) n
 
 module _ (k : ℕ) (used : ℕ → Bool) (r : Reservation) (records : List (Option Reservation)) (le : k ≤ r.size)
     (placed : IsPlaced (length records) r.frame r) where
   pub length-parted : (n : ℕ) → length (parted_up_to n k used r records) ≡ length records
   length-parted zero = refl
-  length-parted (suc n) = ap length (parted_suc n k used r records) ∙ length-set (parted_up_to n k used r records) (part_at k r n).frame (kept_at k used r n) ∙ length-parted n
+  length-parted (suc n) = ap length (parted_suc n k used r records) ∙ length-set (parted_up_to n k used r records) (part_at k r n).frame
+      (kept_at k used r n) ∙ length-parted n
 
   pub parts_apart : (i j : ℕ) → (part_at k r i).frame ≡ (part_at k r j).frame → i ≡ j
   parts_apart i j same =
@@ -63,7 +66,8 @@ module _ (k : ℕ) (used : ℕ → Bool) (r : Reservation) (records : List (Opti
   pub part_known : (i : ℕ) → i < part_count k r → (part_at k r i).frame < length records
   part_known i one = omega (arith, part_ends k i r le one, placed.within, eight_pos k)
 
-  pub parted_at : (n i : ℕ) → i < n → n ≤ part_count k r → get_or (parted_up_to n k used r records) (part_at k r i).frame None ≡ kept_at k used r i
+  pub parted_at : (n i : ℕ) → i < n → n ≤ part_count k r → get_or (parted_up_to n k used r records) (part_at k r i).frame None
+      ≡ kept_at k used r i
   parted_at zero i lt most = absurd (omega arith)
   parted_at (suc n) i lt most =
       let rs = parted_up_to n k used r records in
@@ -71,14 +75,16 @@ module _ (k : ℕ) (used : ℕ → Bool) (r : Reservation) (records : List (Opti
       ∙ elim (cases_eq i n) [
         | inl here ↦
             ap (λ m. get_or (set rs (part_at k r n).frame (kept_at k used r n)) (part_at k r m).frame None) here
-            ∙ get_or-set_same rs (part_at k r n).frame (kept_at k used r n) None (omega (arith, part_known n (omega arith), length-parted n))
+            ∙ get_or-set_same rs (part_at k r n).frame (kept_at k used r n) None
+            (omega (arith, part_known n (omega arith), length-parted n))
             ∙ ap (kept_at k used r) (sym here)
         | inr other ↦
             get_or-set_other rs (part_at k r n).frame (part_at k r i).frame (kept_at k used r n) None (λ same. other (parts_apart i n same))
             ∙ parted_at n i (omega arith) (omega arith)
       ]
 
-  pub parted_other : (n id : ℕ) → ((i : ℕ) → i < n → id ≡ (part_at k r i).frame → ⊥) → get_or (parted_up_to n k used r records) id None ≡ get_or records id None
+  pub parted_other : (n id : ℕ) → ((i : ℕ) → i < n → id ≡ (part_at k r i).frame → ⊥)
+      → get_or (parted_up_to n k used r records) id None ≡ get_or records id None
   parted_other zero id none = refl
   parted_other (suc n) id none =
       ap (λ l. get_or l id None) (parted_suc n k used r records)
@@ -101,7 +107,8 @@ module _ (k : ℕ) (r : Reservation) where
     ]
   ]
 
-  pub part_in_whole : k ≤ r.size → (i : ℕ) → i < part_count k r → (f : ℕ) → has_frame f (Some (part_at k r i)) ≡ true → has_frame f (Some r) ≡ true
+  pub part_in_whole : k ≤ r.size → (i : ℕ) → i < part_count k r → (f : ℕ) → has_frame f (Some (part_at k r i)) ≡ true
+      → has_frame f (Some r) ≡ true
   part_in_whole le i one f has =
       let bounds = has_frame_bounds f (part_at k r i) has in
       has_frame_from f r (omega (arith, bounds.0)) (omega (arith, bounds.1, part_ends k i r le one))
@@ -114,7 +121,8 @@ module _ (k : ℕ) (r : Reservation) where
       sym (extent_of_frame i w (f - r.frame) (omega (arith, by_i.0)) (omega (arith, by_i.0, by_i.1)))
       ∙ extent_of_frame j w (f - r.frame) (omega (arith, by_j.0)) (omega (arith, by_j.0, by_j.1))
 
-  pub which_part : k ≤ r.size → (f : ℕ) → has_frame f (Some r) ≡ true → (j : ℕ) × (j < part_count k r) × (has_frame f (Some (part_at k r j)) ≡ true)
+  pub which_part : k ≤ r.size → (f : ℕ) → has_frame f (Some r) ≡ true
+      → (j : ℕ) × (j < part_count k r) × (has_frame f (Some (part_at k r j)) ≡ true)
   which_part le f has =
       let w = 8 ^ k in
       let pos = eight_pos k in
@@ -135,7 +143,8 @@ module _ (k : ℕ) (r : Reservation) where
     | inr kept ↦ kept.0
   ]
 
-  pub outside_parts : k ≤ r.size → (id : ℕ) → (id < r.frame) ⊎ (r.frame + 8 ^ r.size ≤ id) → (i : ℕ) → i < part_count k r → id ≡ (part_at k r i).frame → ⊥
+  pub outside_parts : k ≤ r.size → (id : ℕ) → (id < r.frame) ⊎ (r.frame + 8 ^ r.size ≤ id) → (i : ℕ) → i < part_count k r
+      → id ≡ (part_at k r i).frame → ⊥
   outside_parts le id out i one same = elim out [
     | inl before ↦ omega (arith, same)
     | inr past ↦ omega (arith, same, part_ends k i r le one, eight_pos k)

@@ -17,7 +17,8 @@ use Rattle.pager_laws.proofs.PagePlaces.{CoversPageOf-covers, covering-none}
 -- no reservation of the space has a page of the extent of the size round the page
 abbrev pub Misses : Layout → ℕ → ℕ → ℕ → Type 0
 Misses l space page size =
-    (id p : ℕ) (r : Reservation) → record_at l id ≡ Some r → covers space p r ≡ true → extent_start size page ≤ p → p < extent_start size page + 8 ^ size → ⊥
+    (id p : ℕ) (r : Reservation) → record_at l id ≡ Some r → covers space p r ≡ true → extent_start size page ≤ p
+    → p < extent_start size page + 8 ^ size → ⊥
 
 -- the extent round a page has the page
 pub extent_low : (size page : ℕ) → extent_start size page ≤ page
@@ -43,12 +44,17 @@ extent_inside k size page le =
     (omega (arith, start, mul-le-mul_right w low), omega (arith, start, split, end, next, mul-le-mul_right w high))
 
 -- no reservation meets an extent that meets none by the test
-Misses-test : (l : Layout) (space page size : ℕ) → meets_any space l.records size (extent_start size page) ≡ false → Misses l space page size
+Misses-test : (l : Layout) (space page size : ℕ) → meets_any space l.records size (extent_start size page) ≡ false
+    → Misses l space page size
 Misses-test l space page size none id p r is has low high =
     let at = CoversPageOf-covers space p r has in
     let start = extent_start size page in
-    let here : meets space size start (Some r) ≡ true = and_from _ _ (eq-eqb r.space space at.space_is) (and_from _ _ (lt-ltb r.first (start + 8 ^ size) (omega (arith, at.low))) (lt-ltb start (r.first + 8 ^ r.size) (omega (arith, at.high)))) in
-    let any : meets_any space l.records size start ≡ true = list_any_at (meets space size start) l.records id None (get_or_within l.records id r is) (ap (meets space size start) is ∙ here) in
+    let here : meets space size start (Some r) ≡ true =
+    and_from _ _ (eq-eqb r.space space at.space_is)
+    (and_from _ _ (lt-ltb r.first (start + 8 ^ size) (omega (arith, at.low)))
+    (lt-ltb start (r.first + 8 ^ r.size) (omega (arith, at.high)))) in
+    let any : meets_any space l.records size start ≡ true = list_any_at (meets space size start) l.records id None
+    (get_or_within l.records id r is) (ap (meets space size start) is ∙ here) in
     false≢true (sym none ∙ any)
 
 -- nor does any meet the page alone, where none has it
@@ -71,7 +77,8 @@ Misses-fitting z l space page want none (suc k) =
     (λ both. Misses-test l space page (suc k) (meets_none test page want (suc k) (and_parts _ _ both).1))
     (λ _. Misses-fitting z l space page want none k)
 
-pub Misses-preferred : (l : Layout) (space page : ℕ) (want : Want) → covering space page l.records ≡ None → Misses l space page (preferred_in l space page want)
+pub Misses-preferred : (l : Layout) (space page : ℕ) (want : Want) → covering space page l.records ≡ None
+    → Misses l space page (preferred_in l space page want)
 Misses-preferred l space page want none = Misses-fitting l.sizes l space page want none 3
 
 -- nor does a smaller one
@@ -92,7 +99,9 @@ meets_smaller space j k page (Some r) le none = false_from_ne_true _ (λ is.
     let ends = and_parts _ _ parts.1 in
     let low = ltb-true r.first (extent_start j page + 8 ^ j) ends.0 in
     let high = ltb-true (extent_start j page) (r.first + 8 ^ r.size) ends.1 in
-    false≢true (sym none ∙ and_from _ _ parts.0 (and_from _ _ (lt-ltb r.first (extent_start k page + 8 ^ k) (omega (arith, low, within.1))) (lt-ltb (extent_start k page) (r.first + 8 ^ r.size) (omega (arith, high, within.0))))))
+    false≢true (sym none ∙ and_from _ _ parts.0
+    (and_from _ _ (lt-ltb r.first (extent_start k page + 8 ^ k) (omega (arith, low, within.1)))
+    (lt-ltb (extent_start k page) (r.first + 8 ^ r.size) (omega (arith, high, within.0))))))
 
 any_smaller : (space j k page : ℕ) (records : List (Option Reservation)) → j ≤ k → meets_any space records k (extent_start k page) ≡ false
     → meets_any space records j (extent_start j page) ≡ false
@@ -117,8 +126,10 @@ fits_smaller space j k page records want le passes =
     let cap = leb-true (8 ^ k) want.cap rest.0 in
     let positive : 0 < 8 = omega arith in
     let smaller : 8 ^ j ≤ 8 ^ k = pow-le-pow_right positive le in
-    and_from _ _ (and_from _ _ (le-leb want.low (extent_start j page) (omega (arith, low, within.0))) (le-leb (extent_start j page + 8 ^ j) want.high (omega (arith, high, within.1))))
-    (and_from _ _ (le-leb (8 ^ j) want.cap (omega (arith, cap, smaller))) (not_from_false _ (any_smaller space j k page records le (not-true _ rest.1))))
+    and_from _ _ (and_from _ _ (le-leb want.low (extent_start j page) (omega (arith, low, within.0)))
+    (le-leb (extent_start j page + 8 ^ j) want.high (omega (arith, high, within.1))))
+    (and_from _ _ (le-leb (8 ^ j) want.cap (omega (arith, cap, smaller)))
+    (not_from_false _ (any_smaller space j k page records le (not-true _ rest.1))))
 
 module _ (z : SizeSet) (space page : ℕ) (records : List (Option Reservation)) (want : Want) where
   abbrev fit : ℕ → Bool
@@ -146,13 +157,15 @@ module _ (z : SizeSet) (space page : ℕ) (records : List (Option Reservation)) 
       right_false false b fails = refl
 
   -- the preferred size of some sizes is the largest of them that is at most the one of all four
-  pub preferred_among-within : preferred_among z (meets_any space records) page want ≡ size_within z (preferred_size (meets_any space records) page want)
+  pub preferred_among-within : preferred_among z (meets_any space records) page want
+      ≡ size_within z (preferred_size (meets_any space records) page want)
   preferred_among-within = elim (cases_Bool (fit 3)) [
     | inl three ↦ fitting_all 3 (λ _. three) ∙ ap (size_within z) (sym (cond-true _ _ _ three))
     | inr not_three ↦ fitting_less 2 not_three ∙ elim (cases_Bool (fit 2)) [
       | inl two ↦ fitting_all 2 (λ _. two) ∙ ap (size_within z) (sym (cond-false _ _ _ not_three ∙ cond-true _ _ _ two))
       | inr not_two ↦ fitting_less 1 not_two ∙ elim (cases_Bool (fit 1)) [
-        | inl one ↦ fitting_all 1 (λ _. one) ∙ ap (size_within z) (sym (cond-false _ _ _ not_three ∙ cond-false _ _ _ not_two ∙ cond-true _ _ _ one))
+        | inl one ↦ fitting_all 1 (λ _. one) ∙ ap (size_within z) (sym
+            (cond-false _ _ _ not_three ∙ cond-false _ _ _ not_two ∙ cond-true _ _ _ one))
         | inr not_one ↦
             fitting_less 0 not_one
             ∙ ap (size_within z) (sym (cond-false _ _ _ not_three ∙ cond-false _ _ _ not_two ∙ cond-false _ _ _ not_one))

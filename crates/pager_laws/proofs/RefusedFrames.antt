@@ -43,7 +43,8 @@ known_evictable used at may = elim (cases_lt at (length used)) [
 -- where none may be claimed no place is evictable
 not_evictable : (st : FrameState) (wired claimed held frame : ℕ) → IsRefused st wired claimed held → is_evictable (used_at st frame) ≡ false
 not_evictable st wired claimed held frame refused =
-    false_from_ne_true _ (λ may. false≢true (sym refused.no_victim ∙ list_any_at is_evictable st.used frame None (known_evictable st.used frame may) may))
+    false_from_ne_true _ (λ may. false≢true (sym refused.no_victim ∙ list_any_at is_evictable st.used frame None
+    (known_evictable st.used frame may) may))
 
 pub NoneToHave-refused : (frames processors : ℕ) (st : FrameState) (wired claimed held : ℕ) → IsSound frames processors st
     → IsRefused st wired claimed held → NoneToHave frames st

@@ -12,7 +12,8 @@ done_tests true x y n h = absurd (n h)
 done_tests false x y n h = (refl, h)
 
 -- no region has a page of the new one
-pub none_meets : (regions : List Region) (page len : ℕ) → map_reply regions page len ≡ Done → list_any (meets_range page len) regions ≡ false
+pub none_meets : (regions : List Region) (page len : ℕ) → map_reply regions page len ≡ Done
+    → list_any (meets_range page len) regions ≡ false
 none_meets regions page len h = (done_tests _ Overlap _ (λ e. cc) (done_tests _ OutOfSpace _ (λ e. cc) h).1).0
 
 -- a region has the page, and none has a page of those behind it that it grows by

@@ -20,7 +20,8 @@ use Rattle.pager_laws.proofs.PagePlaces.{CoversPageOf-covers, covers-CoversPageO
 -- The pages of a reservation and of its parts.
 
 -- a page of a part is a page of the whole
-pub covers_whole : (k s p i : ℕ) (r : Reservation) → k ≤ r.size → i < part_count k r → covers s p (part_at k r i) ≡ true → covers s p r ≡ true
+pub covers_whole : (k s p i : ℕ) (r : Reservation) → k ≤ r.size → i < part_count k r → covers s p (part_at k r i) ≡ true
+    → covers s p r ≡ true
 covers_whole k s p i r le one has =
     let at = CoversPageOf-covers s p (part_at k r i) has in
     let ends = part_ends k i r le one in
@@ -45,7 +46,8 @@ pub part_covers : (k s p i : ℕ) (r : Reservation) → covers s p r ≡ true �
 part_covers k s p i r has in_part =
     let at = CoversPageOf-covers s p r has in
     let within = has_frame_bounds (frame_for p r) (part_at k r i) in_part in
-    covers-CoversPageOf s p (part_at k r i) (record { space_is = at.space_is; low = omega (arith, at.low, within.0); high = omega (arith, at.low, within.1) })
+    covers-CoversPageOf s p (part_at k r i)
+    (record { space_is = at.space_is; low = omega (arith, at.low, within.0); high = omega (arith, at.low, within.1) })
 
 -- some frame is a used place, where not none of them is
 pub some_used_in : (p : ℕ → Bool) (first n : ℕ) → none_used p first n ≡ false → (f : ℕ) × (first ≤ f) × (f < first + n) × (p f ≡ true)
@@ -69,7 +71,8 @@ pub free_up_to-suc : (n k : ℕ) (used : ℕ → Bool) (r : Reservation) (free :
     → free_up_to (suc n) k used r free ≡ freed_part k used r (free_up_to n k used r free) n
 free_up_to-suc n k used r free =
     let more : range_with_len 0 (n + 1) ≡ range_with_len 0 n ++ n ∷ [] = range_with_len-more n in
-    ap (λ m. free_up_to m k used r free) (sym (add-one n)) ∙ ap (fold (freed_part k used r) free) more ∙ fold_push (freed_part k used r) free (range_with_len 0 n) n
+    ap (λ m. free_up_to m k used r free) (sym (add-one n)) ∙ ap (fold (freed_part k used r) free) more
+    ∙ fold_push (freed_part k used r) free (range_with_len 0 n) n
 
 -- the frame is one of an empty part, of the first n parts
 pub record IsEmptied (k : ℕ) (used : ℕ → Bool) (r : Reservation) (n f : ℕ) : Type 0 where
@@ -80,7 +83,8 @@ pub record IsEmptied (k : ℕ) (used : ℕ → Bool) (r : Reservation) (n f : �
 
 module _ (k : ℕ) (used : ℕ → Bool) (r : Reservation) (free : List Bool) (le : k ≤ r.size) (within : r.frame + 8 ^ r.size ≤ length free) where
   -- one part changes no length
-  pub length-freed_part : (fs : List Bool) (i : ℕ) → length fs ≡ length free → i < part_count k r → length (freed_part k used r fs i) ≡ length free
+  pub length-freed_part : (fs : List Bool) (i : ℕ) → length fs ≡ length free → i < part_count k r
+      → length (freed_part k used r fs i) ≡ length free
   length-freed_part fs i long one = elim (cases_Bool (is_empty_at k used r i)) [
     | inl empty ↦
         ap length (cond-true _ _ _ empty)
@@ -90,7 +94,10 @@ module _ (k : ℕ) (used : ℕ → Bool) (r : Reservation) (free : List Bool) (l
 
   -- what one part does to a frame: it becomes free as a frame of an empty part, or it stays as it was
   pub freed_part_at : (fs : List Bool) (i f : ℕ) → length fs ≡ length free → i < part_count k r
-      → ((is_empty_at k used r i ≡ true) × (has_frame f (Some (part_at k r i)) ≡ true) × (get_or (freed_part k used r fs i) f false ≡ true)) ⊎ ((get_or (freed_part k used r fs i) f false ≡ get_or fs f false) × (is_empty_at k used r i ≡ true → has_frame f (Some (part_at k r i)) ≡ true → ⊥))
+      → ((is_empty_at k used r i ≡ true) × (has_frame f (Some (part_at k r i)) ≡ true) ×
+      (get_or (freed_part k used r fs i) f false ≡ true)) ⊎
+      ((get_or (freed_part k used r fs i) f false ≡ get_or fs f false) ×
+      (is_empty_at k used r i ≡ true → has_frame f (Some (part_at k r i)) ≡ true → ⊥))
   freed_part_at fs i f long one = elim (cases_Bool (is_empty_at k used r i)) [
     | inl empty ↦
         let w = 8 ^ k in
@@ -102,7 +109,12 @@ module _ (k : ℕ) (used : ℕ → Bool) (r : Reservation) (free : List Bool) (l
             λ _ has. let bounds = has_frame_bounds f (part_at k r i) has in omega (arith, bounds.0, before),
           )
           | inr low ↦ elim (cases_lt f ((part_at k r i).frame + w)) [
-            | inl high ↦ inl (empty, has_frame_from f (part_at k r i) low high, is ∙ with_range_inside fs (part_at k r i).frame w true fits f low high)
+            | inl high ↦ inl (
+              empty,
+              has_frame_from f (part_at k r i) low high,
+              is
+                  ∙ with_range_inside fs (part_at k r i).frame w true fits f low high,
+            )
             | inr past ↦ inr (
               is ∙ with_range_outside fs (part_at k r i).frame w true fits f (inr past),
               λ _ has. let bounds = has_frame_bounds f (part_at k r i) has in omega (arith, bounds.1, past),
@@ -127,7 +139,8 @@ module _ (k : ℕ) (used : ℕ → Bool) (r : Reservation) (free : List Bool) (l
       elim (freed_part_at (free_up_to n k used r free) n f (length-free_up_to n (omega arith)) (omega arith)) [
         | inl here ↦ inr (record { part = n; below = omega arith; empty = here.0; has = here.1 })
         | inr other ↦
-            elim (free_up_to-cases n f (omega arith) (sym other.0 ∙ sym (ap (λ xs. get_or xs f false) (free_up_to-suc n k used r free)) ∙ is)) [
+            elim (free_up_to-cases n f (omega arith) (sym other.0 ∙ sym (ap (λ xs. get_or xs f false) (free_up_to-suc n k used r free))
+            ∙ is)) [
               | inl before ↦ inl before
               | inr part ↦ inr (record { part = part.part; below = omega (arith, part.below); empty = part.empty; has = part.has })
             ]
@@ -155,7 +168,8 @@ module _ (k : ℕ) (used : ℕ → Bool) (r : Reservation) (free : List Bool) (l
           | inl before ↦ free_up_to-part n i f (omega arith) before empty has
           | inr last ↦
               let at : i ≡ n = omega arith in
-              absurd (other.1 (subst (λ m. is_empty_at k used r m ≡ true) at empty) (subst (λ m. has_frame f (Some (part_at k r m)) ≡ true) at has))
+              absurd (other.1 (subst (λ m. is_empty_at k used r m ≡ true) at empty)
+              (subst (λ m. has_frame f (Some (part_at k r m)) ≡ true) at has))
         ]
       ]
 

@@ -34,7 +34,8 @@ pub IsSound-start : (z : SizeSet) (frames processors : ℕ) → IsSound frames p
 IsSound-start z frames processors = record {
   known = length-replicate frames true;
   processors_known = length-replicate processors None;
-  laid = subst (λ used. IsLaid (record { sizes = z; free = replicate frames true; records = replicate frames None; used = used })) (sym (nothing_used frames)) (IsLaid-start z frames);
+  laid = subst (λ used. IsLaid (record { sizes = z; free = replicate frames true; records = replicate frames None; used = used }))
+      (sym (nothing_used frames)) (IsLaid-start z frames);
   accounted = λ f known. inl (inl (get_or-replicate frames f true false known));
   held_apart = λ c f holds. absurd (none-some f (sym (get_or-alike processors c None) ∙ holds));
   held_once = λ c other f holds _. absurd (none-some f (sym (get_or-alike processors c None) ∙ holds));

@@ -44,7 +44,8 @@ pub noted_if_used : (st : FrameState) (f : ℕ) → is_used (layout_of st).used 
 noted_if_used st f used none = false≢true (sym (is_used-layout_of st f ∙ ap is_some none) ∙ used)
 
 -- a layout with other used places is the same where these are the same
-same_used : (l : Layout) (used : List Bool) → used ≡ l.used → record { sizes = l.sizes; free = l.free; records = l.records; used = used } ≡ l
+same_used : (l : Layout) (used : List Bool) → used ≡ l.used → record { sizes = l.sizes; free = l.free; records = l.records; used = used }
+    ≡ l
 same_used l used same = ap (λ u. record { sizes = l.sizes; free = l.free; records = l.records; used = u }) same
 
 -- a claim is noted of a used place
@@ -55,7 +56,8 @@ claim_from (Some u) c claims = (u, refl, claims)
 -- What stands in a list of options after one was written.
 
 -- after None was written a value that stands somewhere stood there before, and None was written elsewhere
-unset_cases : {A : Type 0} (xs : List (Option A)) (i j : ℕ) (x : A) → get_or (set xs i None) j None ≡ Some x → (j ≢ i) × (get_or xs j None ≡ Some x)
+unset_cases : {A : Type 0} (xs : List (Option A)) (i j : ℕ) (x : A) → get_or (set xs i None) j None ≡ Some x
+    → (j ≢ i) × (get_or xs j None ≡ Some x)
 unset_cases xs i j x is = unset_before xs i j None (Some x) (none-some x) is
 
 -- Taking.
@@ -86,7 +88,8 @@ Takes-take_frame frames processors st space page want t sound none takes =
     let found = taking_from st want (placing st.entries space page want (layout_of st)) t takes in
     let place = found.0 in
     let places = WasPlaced-placing (layout_of st) st.entries space page want place sound.laid none found.1 in
-    subst (Takes st space page) found.2 (record { place = place; layout = layout_of-taken st space page want place places; places = places; entries = refl })
+    subst (Takes st space page) found.2
+    (record { place = place; layout = layout_of-taken st space page want place places; places = places; entries = refl })
 
 -- each move keeps the state sound, with the entry counted
 
@@ -143,13 +146,16 @@ IsSound-taken frames processors st space page want place sound places =
           | inr older ↦ let age = age_of u here.1 in let below = sound.ages_past other v older.1 in absurd (omega (arith, age, below, same))
         ]
         | inr there ↦ elim (set_cases st.used place.frame other (Some note) v also) [
-          | inl younger ↦ let age = age_of v younger.1 in let below = sound.ages_past f u there.1 in absurd (omega (arith, age, below, same))
+          | inl younger ↦ let age = age_of v younger.1 in let below = sound.ages_past f u there.1 in
+              absurd (omega (arith, age, below, same))
           | inr both ↦ sound.ages_differ f other u v there.1 both.1 same
         ]
       ];
-      claims_once = λ f other c one two. sound.claims_once f other c (claim_taken st want place f c one) (claim_taken st want place other c two);
+      claims_once = λ f other c one two. sound.claims_once f other c (claim_taken st want place f c one)
+          (claim_taken st want place other c two);
       claims_known = λ f c claims. sound.claims_known f c (claim_taken st want place f c claims);
-      claims_unwired = λ f c claims. ap is_wired_place (still_noted st want place f c claims) ∙ sound.claims_unwired f c (claim_taken st want place f c claims);
+      claims_unwired = λ f c claims. ap is_wired_place (still_noted st want place f c claims)
+          ∙ sound.claims_unwired f c (claim_taken st want place f c claims);
     }
 
 pub IsSound-take : (frames processors : ℕ) (st : FrameState) (space page : ℕ) (want : Want) (t : Taking) → IsSound frames processors st
@@ -157,7 +163,8 @@ pub IsSound-take : (frames processors : ℕ) (st : FrameState) (space page : ℕ
 IsSound-take frames processors st space page want t sound none takes =
     let found = taking_from st want (placing st.entries space page want (layout_of st)) t takes in
     let places = WasPlaced-placing (layout_of st) st.entries space page want found.0 sound.laid none found.1 in
-    subst (λ u. IsSound frames processors (counted u.state)) found.2 (IsSound-taken frames processors st space page want found.0 sound places)
+    subst (λ u. IsSound frames processors (counted u.state)) found.2
+    (IsSound-taken frames processors st space page want found.0 sound places)
 
 -- Giving.
 
@@ -197,53 +204,65 @@ unwired_given frames processors st frame f c sound claims =
 -- the layout after a frame was given up is the one that the giving makes
 pub layout_of-given : (l : Layout) (st : FrameState) (frame : ℕ) (in_after : ℕ → Type 0) → Gives (layout_of st) l frame in_after
     → record { sizes = l.sizes; free = l.free; records = l.records; used = map is_some (set st.used frame None) } ≡ l
-layout_of-given l st frame in_after gives = same_used l (map is_some (set st.used frame None)) (map-set is_some st.used frame None ∙ sym gives.used)
+layout_of-given l st frame in_after gives = same_used l (map is_some (set st.used frame None))
+    (map-set is_some st.used frame None ∙ sym gives.used)
 
-module _ (frames processors : ℕ) (st : FrameState) (id frame : ℕ) (r : Reservation) (sound : IsSound frames processors st)
-    (is : record_at (layout_of st) id ≡ Some r) (has : has_frame frame (Some r) ≡ true) (noted : used_at st frame ≢ None) where
+-- a used place of a reservation, with its note, in a state of the frames that is sound
+pub record IsNotedPlace (frames processors : ℕ) (st : FrameState) (id frame : ℕ) (r : Reservation) : Type 0 where
+  pub sound : IsSound frames processors st
+  pub is : record_at (layout_of st) id ≡ Some r
+  pub has : has_frame frame (Some r) ≡ true
+  pub noted : used_at st frame ≢ None
+
+module _ (frames processors : ℕ) (st : FrameState) (id frame : ℕ) (r : Reservation)
+    (place : IsNotedPlace frames processors st id frame r) where
   -- the frame is in the layout
   frame_in_layout : IsIn (layout_of st) frame
-  frame_in_layout = inr (id, ap (has_frame frame) is ∙ has)
+  frame_in_layout = inr (id, ap (has_frame frame) place.is ∙ place.has)
 
   -- nobody holds it
   frame_not_held : (c : ℕ) → held_by st c ≡ Some frame → ⊥
-  frame_not_held c holds = (sound.held_apart c frame holds).1 frame_in_layout
+  frame_not_held c holds = (place.sound.held_apart c frame holds).1 frame_in_layout
 
   frame_known : frame < frames
   frame_known =
-      let bounds = has_frame_bounds frame r has in
-      let placed = sound.laid.placed id r is in
-      omega (arith, bounds.1, placed.within, sound.laid.records_long, sound.known)
+      let bounds = has_frame_bounds frame r place.has in
+      let placed = place.sound.laid.placed id r place.is in
+      omega (arith, bounds.1, placed.within, place.sound.laid.records_long, place.sound.known)
 
   IsSound-vacated : IsSound frames processors (given_by None st frame r)
   IsSound-vacated =
-      let gives = Gives-vacate (layout_of st) id frame r sound.laid is has (used_if_noted st frame noted) in
+      let gives = Gives-vacate (layout_of st) id frame r place.sound.laid place.is place.has (used_if_noted st frame place.noted) in
       record {
-        known = gives.long ∙ sound.known;
-        processors_known = sound.processors_known;
+        known = gives.long ∙ place.sound.known;
+        processors_known = place.sound.processors_known;
         laid = subst IsLaid (sym (layout_of-given _ st frame _ gives)) gives.laid;
-        accounted = λ f known. elim (sound.accounted f known) [ inl within ↦ inl ((gives.within f).1 within) | inr holds ↦ inr holds ];
-        held_apart = λ c f holds. let apart = sound.held_apart c f holds in (apart.0, λ within. apart.1 ((gives.within f).0 within));
-        held_once = sound.held_once;
-        ages_past = λ f u at. sound.ages_past f u (unset_cases st.used frame f u at).1;
-        ages_differ = λ f other u v at also. sound.ages_differ f other u v (unset_cases st.used frame f u at).1 (unset_cases st.used frame other v also).1;
-        claims_once = λ f other c one two. sound.claims_once f other c (claim_given st frame f c one).1 (claim_given st frame other c two).1;
-        claims_known = λ f c claims. sound.claims_known f c (claim_given st frame f c claims).1;
-        claims_unwired = λ f c claims. unwired_given frames processors st frame f c sound claims;
+        accounted = λ f known. elim (place.sound.accounted f known)
+            [ inl within ↦ inl ((gives.within f).1 within) | inr holds ↦ inr holds ];
+        held_apart = λ c f holds. let apart = place.sound.held_apart c f holds in (apart.0, λ within. apart.1 ((gives.within f).0 within));
+        held_once = place.sound.held_once;
+        ages_past = λ f u at. place.sound.ages_past f u (unset_cases st.used frame f u at).1;
+        ages_differ = λ f other u v at also. place.sound.ages_differ f other u v (unset_cases st.used frame f u at).1
+            (unset_cases st.used frame other v also).1;
+        claims_once = λ f other c one two. place.sound.claims_once f other c (claim_given st frame f c one).1
+            (claim_given st frame other c two).1;
+        claims_known = λ f c claims. place.sound.claims_known f c (claim_given st frame f c claims).1;
+        claims_unwired = λ f c claims. unwired_given frames processors st frame f c place.sound claims;
       }
 
   IsSound-carved : (c : ℕ) → claim_in (used_at st frame) ≡ Some c → IsSound frames processors (given_by (Some c) st frame r)
   IsSound-carved c claims =
-      let gives = Gives-carve (layout_of st) id frame r sound.laid is has (used_if_noted st frame noted) in
-      let had = sound.claims_known frame c claims in
-      let holds_it : held_by (given_by (Some c) st frame r) c ≡ Some frame = get_or-set_same st.held c (Some frame) None (omega (arith, had.0, sound.processors_known)) in
+      let gives = Gives-carve (layout_of st) id frame r place.sound.laid place.is place.has (used_if_noted st frame place.noted) in
+      let had = place.sound.claims_known frame c claims in
+      let holds_it : held_by (given_by (Some c) st frame r) c ≡ Some frame =
+      get_or-set_same st.held c (Some frame) None (omega (arith, had.0, place.sound.processors_known)) in
       record {
-        known = gives.long ∙ sound.known;
-        processors_known = length-set st.held c (Some frame) ∙ sound.processors_known;
+        known = gives.long ∙ place.sound.known;
+        processors_known = length-set st.held c (Some frame) ∙ place.sound.processors_known;
         laid = subst IsLaid (sym (layout_of-given _ st frame _ gives)) gives.laid;
         accounted = λ f known. elim (cases_eq f frame) [
           | inl here ↦ inr (c, holds_it ∙ ap Some (sym here))
-          | inr other ↦ elim (sound.accounted f known) [
+          | inr other ↦ elim (place.sound.accounted f known) [
             | inl within ↦ inl ((gives.within f).1 (within, other))
             | inr holds ↦
                 let another : holds.0 ≢ c = λ same. none-some f (sym had.1 ∙ ap (held_by st) (sym same) ∙ holds.1) in
@@ -254,7 +273,7 @@ module _ (frames processors : ℕ) (st : FrameState) (id frame : ℕ) (r : Reser
           | inl now ↦
               let same : frame ≡ f = same_Some frame f now.1 in
               (subst (λ g. g < frames) same frame_known, λ within. ((gives.within f).0 within).1 (sym same))
-          | inr before ↦ let apart = sound.held_apart d f before.1 in (apart.0, λ within. apart.1 ((gives.within f).0 within).0)
+          | inr before ↦ let apart = place.sound.held_apart d f before.1 in (apart.0, λ within. apart.1 ((gives.within f).0 within).0)
         ];
         held_once = λ d e f holds also. elim (set_cases st.held c d (Some frame) f holds) [
           | inl now ↦ elim (set_cases st.held c e (Some frame) f also) [
@@ -263,27 +282,30 @@ module _ (frames processors : ℕ) (st : FrameState) (id frame : ℕ) (r : Reser
           ]
           | inr before ↦ elim (set_cases st.held c e (Some frame) f also) [
             | inl now ↦ absurd (frame_not_held d (before.1 ∙ sym now.1))
-            | inr both ↦ sound.held_once d e f before.1 both.1
+            | inr both ↦ place.sound.held_once d e f before.1 both.1
           ]
         ];
-        ages_past = λ f u at. sound.ages_past f u (unset_cases st.used frame f u at).1;
-        ages_differ = λ f other u v at also. sound.ages_differ f other u v (unset_cases st.used frame f u at).1 (unset_cases st.used frame other v also).1;
-        claims_once = λ f other d one two. sound.claims_once f other d (claim_given st frame f d one).1 (claim_given st frame other d two).1;
+        ages_past = λ f u at. place.sound.ages_past f u (unset_cases st.used frame f u at).1;
+        ages_differ = λ f other u v at also. place.sound.ages_differ f other u v (unset_cases st.used frame f u at).1
+            (unset_cases st.used frame other v also).1;
+        claims_once = λ f other d one two. place.sound.claims_once f other d (claim_given st frame f d one).1
+            (claim_given st frame other d two).1;
         claims_known = λ f d still.
             let before = claim_given st frame f d still in
-            let known = sound.claims_known f d before.1 in
-            let another : d ≢ c = λ same. before.0 (sound.claims_once f frame c (before.1 ∙ ap Some same) claims) in
+            let known = place.sound.claims_known f d before.1 in
+            let another : d ≢ c = λ same. before.0 (place.sound.claims_once f frame c (before.1 ∙ ap Some same) claims) in
             (known.0, get_or-set_other st.held c d (Some frame) None another ∙ known.1);
-        claims_unwired = λ f d still. unwired_given frames processors st frame f d sound still;
+        claims_unwired = λ f d still. unwired_given frames processors st frame f d place.sound still;
       }
 
 pub IsSound-given : (frames processors : ℕ) (st : FrameState) (id frame : ℕ) (r : Reservation) → IsSound frames processors st
     → record_at (layout_of st) id ≡ Some r → has_frame frame (Some r) ≡ true → used_at st frame ≢ None
     → IsSound frames processors (given st frame r)
 IsSound-given frames processors st id frame r sound is has used =
+    let place : IsNotedPlace frames processors st id frame r = record { sound = sound; is = is; has = has; noted = used } in
     elim (claim_in (used_at st frame)) as (λ o. claim_in (used_at st frame) ≡ o → IsSound frames processors (given_by o st frame r)) [
-      | None ↦ λ unclaimed. IsSound-vacated frames processors st id frame r sound is has used
-      | Some c ↦ λ claims. IsSound-carved frames processors st id frame r sound is has used c claims
+      | None ↦ λ unclaimed. IsSound-vacated frames processors st id frame r place
+      | Some c ↦ λ claims. IsSound-carved frames processors st id frame r place c claims
     ] refl
 
 pub IsSound-give_page : (frames processors : ℕ) (st : FrameState) (space page frame : ℕ) → IsSound frames processors st
@@ -294,7 +316,8 @@ IsSound-give_page frames processors st space page frame sound is =
     let used : is_used (layout_of st).used (frame_for page r) ≡ true = ap (is_used (layout_of st).used) (sym place.frame) ∙ place.used in
     let covered = covering-is (layout_of st) space page place.id r sound.laid place.is place.covers_page in
     subst (λ o. IsSound frames processors (given_in st page o)) (sym covered)
-    (IsSound-given frames processors st place.id (frame_for page r) r sound place.is (has_frame_for space page r place.covers_page) (noted_if_used st (frame_for page r) used))
+    (IsSound-given frames processors st place.id (frame_for page r) r sound place.is (has_frame_for space page r place.covers_page)
+    (noted_if_used st (frame_for page r) used))
 
 -- Claiming.
 
@@ -343,7 +366,8 @@ wired_with_claim claim (Some u) = refl
 
 -- what is claimed then is the frame, with this claim and wired as it was, or the same is noted of it as before
 claim_renoted : (st : FrameState) (frame : ℕ) (claim : Option ℕ) (f c : ℕ) → claim_in (used_at (claimed st frame claim) f) ≡ Some c
-    → ((claim ≡ Some c) × (is_wired_place (used_at (claimed st frame claim) f) ≡ is_wired_place (used_at st frame))) ⊎ (used_at (claimed st frame claim) f ≡ used_at st f)
+    → ((claim ≡ Some c) × (is_wired_place (used_at (claimed st frame claim) f) ≡ is_wired_place (used_at st frame)))
+    ⊎ (used_at (claimed st frame claim) f ≡ used_at st f)
 claim_renoted st frame claim f c claims =
     let noted = claim_from (used_at (claimed st frame claim) f) c claims in
     elim (set_cases st.used frame f (with_claim claim (used_at st frame)) noted.0 noted.1) [
@@ -406,9 +430,11 @@ pub IsSound-claimed : (frames processors : ℕ) (st : FrameState) (frame c : ℕ
     → HasNothing st c → is_evictable (used_at st frame) ≡ true → IsSound frames processors (claimed st frame (Some c))
 IsSound-claimed frames processors st frame c sound known nothing may =
     IsSound-reclaimed frames processors st frame (Some c) sound
-    (λ d is. subst (λ e. (e < processors) × HasNothing st e × (is_wired_place (used_at st frame) ≡ false)) (same_Some c d is) (known, nothing, unwired_evictable (used_at st frame) may))
+    (λ d is. subst (λ e. (e < processors) × HasNothing st e × (is_wired_place (used_at st frame) ≡ false)) (same_Some c d is)
+    (known, nothing, unwired_evictable (used_at st frame) may))
 
-pub IsSound-unclaimed : (frames processors : ℕ) (st : FrameState) (frame : ℕ) → IsSound frames processors st → IsSound frames processors (claimed st frame None)
+pub IsSound-unclaimed : (frames processors : ℕ) (st : FrameState) (frame : ℕ) → IsSound frames processors st
+    → IsSound frames processors (claimed st frame None)
 IsSound-unclaimed frames processors st frame sound =
     IsSound-reclaimed frames processors st frame None sound (λ c is. absurd (none-some c is))
 
@@ -455,7 +481,8 @@ IsSound-dropped_in frames processors st c frame sound holds =
       claims_unwired = sound.claims_unwired;
     }
 
-pub IsSound-dropped : (frames processors : ℕ) (st : FrameState) (c : ℕ) → IsSound frames processors st → IsSound frames processors (dropped st c)
+pub IsSound-dropped : (frames processors : ℕ) (st : FrameState) (c : ℕ) → IsSound frames processors st
+    → IsSound frames processors (dropped st c)
 IsSound-dropped frames processors st c sound =
     elim (held_by st c) as (λ o. held_by st c ≡ o → IsSound frames processors (dropped_in st c o)) [
       | None ↦ λ none. sound
@@ -477,21 +504,24 @@ IsSound-give_if_used frames processors st space page sound = by_place (frame_of 
   where
     by_place : (o : Option ℕ) → frame_of st space page ≡ o → IsSound frames processors (give_if_used space st page)
     by_place None none = subst (λ o. IsSound frames processors (cond (is_some o) (give_page st space page) st)) (sym none) sound
-    by_place (Some frame) is = subst (λ o. IsSound frames processors (cond (is_some o) (give_page st space page) st)) (sym is) (IsSound-give_page frames processors st space page frame sound is)
+    by_place (Some frame) is = subst (λ o. IsSound frames processors (cond (is_some o) (give_page st space page) st)) (sym is)
+        (IsSound-give_page frames processors st space page frame sound is)
 
 -- and so does each of a list of pages
 pub IsSound-give_each : (frames processors : ℕ) (space : ℕ) (pages : List ℕ) (st : FrameState) → IsSound frames processors st
     → IsSound frames processors (fold (give_if_used space) st pages)
 IsSound-give_each frames processors space [] st sound = sound
 IsSound-give_each frames processors space (page ∷ pages) st sound =
-    IsSound-give_each frames processors space pages (give_if_used space st page) (IsSound-give_if_used frames processors st space page sound)
+    IsSound-give_each frames processors space pages (give_if_used space st page)
+    (IsSound-give_if_used frames processors st space page sound)
 
 -- a taking of some frame
 IsSound-take_some : (frames processors : ℕ) (st : FrameState) (space page : ℕ) (want : Want) (P : Taking → Type 0)
     → IsSound frames processors st → frame_of st space page ≡ None → IsSomeAnd (take_frame st space page want) P
     → IsSound frames processors (counted (state_taken st (take_frame st space page want)))
 IsSound-take_some frames processors st space page want P sound none takes =
-    elim (take_frame st space page want) as (λ o. take_frame st space page want ≡ o → IsSomeAnd o P → IsSound frames processors (counted (state_taken st o))) [
+    elim (take_frame st space page want) as (λ o. take_frame st space page want ≡ o → IsSomeAnd o P
+    → IsSound frames processors (counted (state_taken st o))) [
       | None ↦ λ _ no. absurd no
       | Some t ↦ λ is _. IsSound-take frames processors st space page want t sound none is
     ] refl takes
@@ -499,7 +529,8 @@ IsSound-take_some frames processors st space page want P sound none takes =
 -- an answer that the frames allow is of an evict
 IsSound-answer : (frames processors : ℕ) (st : FrameState) (space : ℕ) (call : Call) → IsSound frames processors st
     → AllowsAnswer st space call → IsSound frames processors (counted (moved_by_answer st space call))
-IsSound-answer frames processors st space (Evict s page) sound allowed = IsSound-counted frames processors _ (IsSound-give_page frames processors st space page allowed.0 sound allowed.1)
+IsSound-answer frames processors st space (Evict s page) sound allowed =
+    IsSound-counted frames processors _ (IsSound-give_page frames processors st space page allowed.0 sound allowed.1)
 IsSound-answer frames processors st space (Map s page len kind rights) sound allowed = absurd allowed
 IsSound-answer frames processors st space (Grow s page by) sound allowed = absurd allowed
 IsSound-answer frames processors st space (Unmap s page) sound allowed = absurd allowed
@@ -511,7 +542,8 @@ IsSound-answer frames processors st space (Sync s page) sound allowed = absurd a
 -- Whatever the frames allow keeps them sound.
 pub IsSound-moved : (frames processors : ℕ) (st : FrameState) (mark c : ℕ) (space : Option ℕ) (what : What) → IsSound frames processors st
     → c < processors → FramesAllow st mark c space what → IsSound frames processors (counted (moved st c space what))
-IsSound-moved frames processors st mark c space (Answer number call answered) sound known allowed = IsSound-answer frames processors st (named_space space) call sound allowed
+IsSound-moved frames processors st mark c space (Answer number call answered) sound known allowed =
+    IsSound-answer frames processors st (named_space space) call sound allowed
 IsSound-moved frames processors st mark c space (Out page written) sound known allowed = absurd allowed
 IsSound-moved frames processors st mark c space (Failed page writing count) sound known allowed = absurd allowed
 IsSound-moved frames processors st mark c space (Take page frame want) sound known allowed =
@@ -524,7 +556,8 @@ IsSound-moved frames processors st mark c space (Claim victim page frame need) s
     IsSound-counted frames processors _ (IsSound-claimed frames processors st frame c sound known allowed.0 allowed.1.evictable)
 IsSound-moved frames processors st mark c space (UseHeld page frame want) sound known allowed =
     let none = frame_of-dropped frames processors st c (named_space space) page sound ∙ allowed.0 in
-    IsSound-take_some frames processors (dropped st c) (named_space space) page want (λ t. t.frame ≡ frame) (IsSound-dropped frames processors st c sound) none allowed.2
+    IsSound-take_some frames processors (dropped st c) (named_space space) page want (λ t. t.frame ≡ frame)
+    (IsSound-dropped frames processors st c sound) none allowed.2
 IsSound-moved frames processors st mark c space (DropHeld frame) sound known allowed =
     IsSound-counted frames processors _ (IsSound-dropped frames processors st c sound)
 IsSound-moved frames processors st mark c space (Got frame) sound known allowed = IsSound-counted frames processors st sound

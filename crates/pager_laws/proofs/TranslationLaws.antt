@@ -41,7 +41,8 @@ HaveTiles st = (c : ℕ) → still_tiles st.sizes (pages_of st) (st.images c) �
 HaveTiles-after : (st : SpaceState) (e : Entry) → HaveTiles (space_after st e)
 HaveTiles-after st e c =
     let pages = pages_after st e.frames e.what in
-    touched_if st.sizes pages (c == e.processor) (used_tile st.sizes pages e.what) (still_tiles st.sizes pages (st.images c)) (used_by st.sizes pages e.what) (still_again st.sizes pages (st.images c))
+    touched_if st.sizes pages (c == e.processor) (used_tile st.sizes pages e.what) (still_tiles st.sizes pages (st.images c))
+    (used_by st.sizes pages e.what) (still_again st.sizes pages (st.images c))
 
 pub HaveTiles-legal : (g : Given) (history : List Entry) (s : ℕ) → IsLegal g history → HaveTiles (space_at g history s)
 HaveTiles-legal g history s legal =
@@ -55,7 +56,8 @@ HaveTiles-legal g history s legal =
 
 -- Hits.
 
-hit_of : (st : SpaceState) (c : ℕ) (served : Option ℕ) → is_in_image (st.images c) (tile_at st.sizes (pages_of st) served) ≡ true → HasHit st c served
+hit_of : (st : SpaceState) (c : ℕ) (served : Option ℕ) → is_in_image (st.images c) (tile_at st.sizes (pages_of st) served) ≡ true
+    → HasHit st c served
 hit_of st c None hit = absurd (false≢true hit)
 hit_of st c (Some page) hit = of_tile (tile_in st.sizes (pages_of st) page) refl hit
   where
@@ -76,12 +78,15 @@ module _ (st : SpaceState) (images : ℕ → List Tile) (promotions demotions : 
   same_cleared c None is = is
   same_cleared c (Some r) is = record { next = is.next; none = is.none }
 
-  pub same_replies : (c : ℕ) (call : Call) (reply : Reply) → ReplyAllowed st c call reply → ReplyAllowed (retiled st images promotions demotions) c call reply
+  pub same_replies : (c : ℕ) (call : Call) (reply : Reply) → ReplyAllowed st c call reply
+      → ReplyAllowed (retiled st images promotions demotions) c call reply
   same_replies c (Unmap space page) (NoFrames wired claimed held) allowed = allowed
   same_replies c (Unmap space page) (StoreFault at count) allowed = allowed
   same_replies c (Unmap space page) NoMemory allowed = allowed
-  same_replies c (Unmap space page) (Value word) allowed = (allowed.0, λ lawful. same_cleared c (region_at st.flat.regions page) (allowed.1 lawful))
-  same_replies c (Unmap space page) reply allowed = (allowed.0, λ lawful. same_cleared c (region_at st.flat.regions page) (allowed.1 lawful))
+  same_replies c (Unmap space page) (Value word) allowed =
+      (allowed.0, λ lawful. same_cleared c (region_at st.flat.regions page) (allowed.1 lawful))
+  same_replies c (Unmap space page) reply allowed =
+      (allowed.0, λ lawful. same_cleared c (region_at st.flat.regions page) (allowed.1 lawful))
   same_replies c (Map space page len kind rights) NoMemory allowed = allowed
   same_replies c (Map space page len kind rights) reply allowed = allowed
   same_replies c (Grow space page by) NoMemory allowed = allowed

@@ -14,5 +14,6 @@ unnamed_past (Some t) n s below past = ne_eqb t s (λ is. absurd (omega (arith, 
 
 pub base-unknown : (g : Given) (h : List Entry) → IsLegal g h → (s page : ℕ) → length g.told ≤ s → (space_at g h s).base page ≡ None
 base-unknown g h legal = IsLegal-keeps g (λ h. (s page : ℕ) → length g.told ≤ s → (space_at g h s).base page ≡ None)
-    (λ h e before may s page past. ap (λ (st : SpaceState). st.base page) (space_at-other g h e s (unnamed_past e.space (length g.told) s may.space past)) ∙ before s page past)
+    (λ h e before may s page past. ap (λ (st : SpaceState). st.base page)
+    (space_at-other g h e s (unnamed_past e.space (length g.told) s may.space past)) ∙ before s page past)
     (λ s page past. refl) h legal

@@ -24,7 +24,8 @@ pub record IsLaid (l : Layout) : Type 0 where
   -- a used place is a place of a reservation
   pub places : (frame : ℕ) → is_used l.used frame ≡ true → (id : ℕ) × (has_frame frame (record_at l id) ≡ true)
   -- every reservation has a used place
-  pub some_used : (id : ℕ) (r : Reservation) → record_at l id ≡ Some r → (frame : ℕ) × (has_frame frame (Some r) ≡ true) × (is_used l.used frame ≡ true)
+  pub some_used : (id : ℕ) (r : Reservation) → record_at l id ≡ Some r
+      → (frame : ℕ) × (has_frame frame (Some r) ≡ true) × (is_used l.used frame ≡ true)
   -- no page of a space is in two reservations
   pub one_cover : (id other space page : ℕ) (r q : Reservation) → record_at l id ≡ Some r → record_at l other ≡ Some q
       → covers space page r ≡ true → covers space page q ≡ true → id ≡ other

@@ -41,13 +41,12 @@ all_at P xs i x all at = elim (slice_get_cases xs i).1 [
 ]
 
 -- the next space is one more
-pub AreParts-more : (j : JournalName) (k : ℕ) (spaces more : List Kept) (authors grown : List AuthorState) (kept : Kept) (a : AuthorState)
-    → AreParts j k spaces authors → IsLockedSpace j k kept (Some a)
-    → more ≡ spaces ++ kept ∷ [] → grown ≡ authors ++ a ∷ [] → AreParts j (k + 1) more grown
-AreParts-more j k spaces more authors grown kept a parts locked are are_authors =
+pub AreParts-more : (j : JournalName) (k : ℕ) (spaces : List Kept) (authors : List AuthorState) (kept : Kept) (a : AuthorState)
+    → AreParts j k spaces authors → IsLockedSpace j k kept (Some a) → AreParts j (k + 1) (spaces ++ kept ∷ []) (authors ++ a ∷ [])
+AreParts-more j k spaces authors kept a parts locked =
     let below : k < length j.setting.told = subst (λ n. n < length j.setting.told) locked.part_is locked.stands.within in
-    let long : length more ≡ length spaces + 1 = ap length are ∙ length_push spaces kept in
-    let long_authors : length grown ≡ length authors + 1 = ap length are_authors ∙ length_push authors a in
+    let long : length (spaces ++ kept ∷ []) ≡ length spaces + 1 = length_push spaces kept in
+    let long_authors : length (authors ++ a ∷ []) ≡ length authors + 1 = length_push authors a in
     let same = parts.same_count in
     let most = parts.no_more in
     let full : length spaces ≡ k = parts.all (omega (arith, most, below)) in
@@ -58,28 +57,33 @@ AreParts-more j k spaces more authors grown kept a parts locked are are_authors 
       no_more = omega (arith, long, full);
       known = omega (arith, long, full, below);
       all = λ _. omega (arith, long, full);
-      journals = All-same (λ (b : AuthorState). b.journal ≡ j) grown (authors ++ a ∷ []) are_authors (All-push (λ (b : AuthorState). b.journal ≡ j) authors a parts.journals (ap (λ (b : AuthorState). b.journal) is_own ∙ locked.stands.journal));
-      each = λ s other at. elim (slice_get-push spaces kept s other (subst (λ l. slice_get l s ≡ Some other) are at)) [
+      journals = All-push (λ (b : AuthorState). b.journal ≡ j) authors a parts.journals
+          (ap (λ (b : AuthorState). b.journal) is_own ∙ locked.stands.journal);
+      each = λ s other at. elim (slice_get-push spaces kept s other at) [
         | inl before ↦
             let part = parts.each s other before in
-            record { author = part.author; at = subst (λ l. slice_get l s ≡ Some part.author) (sym are_authors) (slice_get-kept authors a s part.author part.at); locked = part.locked }
+            record { author = part.author; at = slice_get-kept authors a s part.author part.at; locked = part.locked }
         | inr last ↦
             let at_end : s ≡ length authors = last.0 ∙ sym same in
             record {
               author = a;
-              at = subst (λ n. slice_get grown n ≡ Some a) (sym at_end) (subst (λ l. slice_get l (length authors) ≡ Some a) (sym are_authors) (slice_get-last authors a));
-              locked = subst (λ n. IsLockedSpace j n other (Some a)) (sym (last.0 ∙ full)) (subst (λ x. IsLockedSpace j k x (Some a)) last.1 locked);
+              at = subst (λ n. slice_get (authors ++ a ∷ []) n ≡ Some a) (sym at_end) (slice_get-last authors a);
+              locked = subst (λ n. IsLockedSpace j n other (Some a)) (sym (last.0 ∙ full))
+                  (subst (λ x. IsLockedSpace j k x (Some a)) last.1 locked);
             }
       ];
     }
 
-pub journals_all : (j : JournalName) (k : ℕ) (spaces : List Kept) (authors all : List AuthorState) (pool : FrameState) (frames : AuthorState)
+pub journals_all : (j : JournalName) (k : ℕ) (spaces : List Kept) (authors all : List AuthorState) (pool : FrameState)
+    (frames : AuthorState)
     → AreParts j k spaces authors → IsPoolAt j pool frames → all ≡ authors ++ frames ∷ [] → All (λ (a : AuthorState). a.journal ≡ j) all
 journals_all j k spaces authors all pool frames parts pool_at are =
-    All-same (λ (a : AuthorState). a.journal ≡ j) all (authors ++ frames ∷ []) are (All-push (λ (a : AuthorState). a.journal ≡ j) authors frames parts.journals pool_at.journal)
+    All-same (λ (a : AuthorState). a.journal ≡ j) all (authors ++ frames ∷ []) are
+    (All-push (λ (a : AuthorState). a.journal ≡ j) authors frames parts.journals pool_at.journal)
 
 -- With all spaces back and the one history, each is at rest after its part.
-pub AreAtRest-closed : (j : JournalName) (spaces : List Kept) (authors all : List AuthorState) (pool : FrameState) (frames : AuthorState) (h : List Entry)
+pub AreAtRest-closed : (j : JournalName) (spaces : List Kept) (authors all : List AuthorState) (pool : FrameState) (frames : AuthorState)
+    (h : List Entry)
     → AreParts j 16 spaces authors → length j.setting.told ≤ 16 → IsPoolAt j pool frames → all ≡ authors ++ frames ∷ []
     → All (λ (a : AuthorState). IsPartOf a h) all → AreAtRest j.setting h spaces pool
 AreAtRest-closed j spaces authors all pool frames h parts few pool_at are of =
@@ -95,43 +99,56 @@ AreAtRest-closed j spaces authors all pool frames h parts few pool_at are of =
           let own : AuthorState = part.locked.author in
           let is_own : part.author ≡ own = same_Some part.author own part.locked.there in
           let stands = part.locked.stands in
-          let in_all : slice_get all s ≡ Some own = subst (λ l. slice_get l s ≡ Some own) (sym are) (slice_get-kept authors frames s own (part.at ∙ ap Some is_own)) in
-          let entries : own.entries ≡ part_list (length own.journal.setting.told) own.part h = all_at (λ (a : AuthorState). IsPartOf a h) all s own of in_all in
+          let in_all : slice_get all s ≡ Some own = subst (λ l. slice_get l s ≡ Some own) (sym are)
+          (slice_get-kept authors frames s own (part.at ∙ ap Some is_own)) in
+          let entries : own.entries ≡ part_list (length own.journal.setting.told) own.part h =
+          all_at (λ (a : AuthorState). IsPartOf a h) all s own of in_all in
           let listed : own.entries ≡ space_part own.part h =
           entries ∙ ap (λ (x : JournalName). part_list (length x.setting.told) own.part h) stands.journal
-          ∙ ap (λ b. cond b (frames_part h) (space_part own.part h)) (ne_eqb own.part (length j.setting.told) (λ same. (let within = stands.within in absurd (omega (arith, within, same))))) in
+          ∙ ap (λ b. cond b (frames_part h) (space_part own.part h)) (ne_eqb own.part (length j.setting.told)
+          (λ same. (let within = stands.within in absurd (omega (arith, within, same))))) in
           let state : state_of_space own.journal.setting own.part own.entries ≡ space_at j.setting h s =
-          ap (λ (x : JournalName). state_of_space x.setting own.part own.entries) stands.journal ∙ ap (state_of_space j.setting own.part) listed ∙ ap (space_at j.setting h) part.locked.part_is in
+          ap (λ (x : JournalName). state_of_space x.setting own.part own.entries) stands.journal
+          ∙ ap (state_of_space j.setting own.part) listed ∙ ap (space_at j.setting h) part.locked.part_is in
           subst (IsAtRest kept) state part.locked.rest;
       pool_is =
-          let at_end : slice_get all (length authors) ≡ Some frames = subst (λ l. slice_get l (length authors) ≡ Some frames) (sym are) (slice_get-last authors frames) in
-          let entries : frames.entries ≡ part_list (length frames.journal.setting.told) frames.part h = all_at (λ (a : AuthorState). IsPartOf a h) all (length authors) frames of at_end in
+          let at_end : slice_get all (length authors) ≡ Some frames =
+          subst (λ l. slice_get l (length authors) ≡ Some frames) (sym are) (slice_get-last authors frames) in
+          let entries : frames.entries ≡ part_list (length frames.journal.setting.told) frames.part h =
+          all_at (λ (a : AuthorState). IsPartOf a h) all (length authors) frames of at_end in
           let listed : frames.entries ≡ frames_part h =
           entries ∙ ap (λ (x : JournalName). part_list (length x.setting.told) frames.part h) pool_at.journal
           ∙ ap (λ b. cond b (frames_part h) (space_part frames.part h)) (eq-eqb frames.part (length j.setting.told) pool_at.part) in
-          pool_at.state ∙ ap (λ (x : JournalName). frames_state x.setting frames.entries) pool_at.journal ∙ ap (frames_state j.setting) listed;
+          pool_at.state ∙ ap (λ (x : JournalName). frames_state x.setting frames.entries) pool_at.journal
+          ∙ ap (frames_state j.setting) listed;
     }
 
 -- The numbers of a history are its places.
 
 numbers_from : (place : ℕ) (es : List Entry) → map (λ (n : Numbered). n.number) (numbered_from place es) ≡ range_with_len place (length es)
 numbers_from place [] = refl
-numbers_from place (e ∷ es) = ap (λ l. place ∷ l) (numbers_from (suc place) es ∙ ap (λ k. range_with_len k (length es)) (let next : suc place ≡ place + 1 = omega arith in next))
+numbers_from place (e ∷ es) = ap (λ l. place ∷ l) (numbers_from (suc place) es
+    ∙ ap (λ k. range_with_len k (length es)) (let next : suc place ≡ place + 1 = omega arith in next))
 
 pub IsNumbered-closed : (history : List Numbered) → history ≡ numbered (entries_in history) → IsNumbered history
 IsNumbered-closed history are =
-    ap (λ l. map (λ (n : Numbered). n.number) l) are ∙ numbers_from 0 (entries_in history) ∙ ap (range_with_len 0) (length-map history (λ (n : Numbered). n.entry))
+    ap (λ l. map (λ (n : Numbered). n.number) l) are ∙ numbers_from 0 (entries_in history)
+    ∙ ap (range_with_len 0) (length-map history (λ (n : Numbered). n.entry))
 
 -- Each processor's list is whole where the passes' lists are.
 pub whole_at : (j : JournalName) (passes : List PassState) (h : List Entry)
     → map (λ (p : PassState). p.processor) passes ≡ range_with_len 0 (length j.setting.marks)
-    → All (λ (p : PassState). IsWhole (mark_of j.setting p.processor) (entries_in p.entries)) passes → All (λ (p : PassState). IsOwnOf p h) passes
+    → All (λ (p : PassState). IsWhole (mark_of j.setting p.processor) (entries_in p.entries)) passes
+    → All (λ (p : PassState). IsOwnOf p h) passes
     → (c : ℕ) → c < length j.setting.marks → IsWhole (mark_of j.setting c) (entries_of c h)
 whole_at j passes h processors whole own c below =
     let d : PassState = new_pass j 0 0 in
     let p : PassState = get_or passes c d in
-    let count : length passes ≡ length j.setting.marks = sym (length-map passes (λ (p : PassState). p.processor)) ∙ ap length processors ∙ length-range_with_len 0 (length j.setting.marks) in
+    let count : length passes ≡ length j.setting.marks = sym (length-map passes (λ (p : PassState). p.processor)) ∙ ap length processors
+    ∙ length-range_with_len 0 (length j.setting.marks) in
     let within : c < length passes = omega (arith, below, count) in
     let number : p.processor ≡ c =
-    sym (get_or-map (λ (p : PassState). p.processor) passes c d 0 within) ∙ ap (λ l. get_or l c 0) processors ∙ get_or-range_with_len 0 (length j.setting.marks) c 0 below ∙ (let e : 0 + c ≡ c = omega arith in e) in
-    subst (λ n. IsWhole (mark_of j.setting n) (entries_of n h)) number (subst (IsWhole (mark_of j.setting p.processor)) (own c d within).1 (whole c d within))
+    sym (get_or-map (λ (p : PassState). p.processor) passes c d 0 within) ∙ ap (λ l. get_or l c 0) processors
+    ∙ get_or-range_with_len 0 (length j.setting.marks) c 0 below ∙ (let e : 0 + c ≡ c = omega arith in e) in
+    subst (λ n. IsWhole (mark_of j.setting n) (entries_of n h)) number
+    (subst (IsWhole (mark_of j.setting p.processor)) (own c d within).1 (whole c d within))

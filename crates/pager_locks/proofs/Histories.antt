@@ -1,11 +1,11 @@
 -- What meeting tells of a space, the frames and a processor whose lists are of one legal history.
-use Rattle.std.proofs.Common.{◌≡◌, cond, suc, ◌+◌, ◌^◌, ◌<◌, ◌≤◌, not, List, [], ◌∷◌, length, fold, Some, refl, ap, sym, subst, ◌∙◌, inl, inr, arith}
+use Rattle.std.proofs.Common.{◌≡◌, cond, ◌^◌, ◌<◌, ◌≤◌, List, length, Some, ap, sym, subst, ◌∙◌, inl, inr, arith}
 use Rattle.std.proofs.lemmas.Bool.{cases_lt, eq-eqb}
-use Rattle.std.proofs.lemmas.List.Filters.{length-filter_both}
 use Rattle.std.proofs.lemmas.Option.{none-some}
 use Rattle.std.proofs.Math.ListN.{length-map}
 use Rattle.pager_model.specs.declared.entry.Victim.{Victim}
 use Rattle.pager_laws.specs.Laid.{IsSound}
+use Rattle.pager_laws.proofs.HistoryLists.{entries-few}
 use Rattle.pager_laws.proofs.LegalHistories.{IsKept-legal, OwnsBy-legal}
 use Rattle.journal_core.specs.Clauses.{IsHistory, IsOwnOf, AreOf, AreOfTwo}
 use Rattle.journal_core.specs.Journals.{JournalName, AuthorState, PassState}
@@ -14,12 +14,11 @@ use Rattle.journal_core.proofs.HistoryLength.{length_bound}
 use Rattle.pager_model.specs.declared.entry.Entry.{Entry}
 use Rattle.pager_model.specs.declared.entry.Numbered.{Numbered}
 use Rattle.pager_model.specs.Agreement.{OwnsBy}
-use Rattle.pager_model.specs.Entries.{names_frames, frames_part, space_part, entries_of}
-use Rattle.pager_model.specs.FrameStates.{FrameState, start_frames, frames_after, frame_of}
+use Rattle.pager_model.specs.Entries.{frames_part, space_part, entries_of}
+use Rattle.pager_model.specs.FrameStates.{FrameState, frame_of}
 use Rattle.pager_model.specs.Legal.{IsLegal, space_at, frames_at, frames_state, state_of_space, progress_in, progress_at, entries_in}
 use Rattle.pager_model.specs.Settings.{Given}
 use Rattle.pager_model.specs.SpaceStates.{SpaceState}
-use Rattle.pager_model.proofs.FrameEntries.{frames_after-entries}
 use Rattle.space_core.specs.Standing.{Kept}
 use Rattle.pager_core.specs.declared.flight.Flight.{Flight}
 use Rattle.pager_core.specs.declared.flight.Phase.TheVariants.{Out as OutPhase}
@@ -31,17 +30,6 @@ use Rattle.pager_laws.proofs.UnknownSpaces.{base-unknown}
 use Rattle.pager_core.proofs.LegalSteps.{victim_placed}
 use Rattle.pager_locks.specs.Locked.{Departure, StandsAt, IsPoolAt, IsFlying, later, state_by}
 
--- each entry on the frames is counted once
-fold-entries : (es : List Entry) (st : FrameState) → (fold frames_after st es).entries ≡ st.entries + length es
-fold-entries [] st = (let e : st.entries ≡ st.entries + 0 = omega arith in e)
-fold-entries (e ∷ es) st = fold-entries es (frames_after st e) ∙ (let one = frames_after-entries st e in let x : (frames_after st e).entries + length es ≡ st.entries + suc (length es) = omega (arith, one) in x)
-
-entries-few : (g : Given) (h : List Entry) → (frames_at g h).entries ≤ length h
-entries-few g h =
-    let all : (frames_at g h).entries ≡ 0 + length (frames_part h) = fold-entries (frames_part h) (start_frames g.sizes g.frames (length g.marks)) in
-    let both = length-filter_both names_frames (λ e. not (names_frames e)) (λ e. refl) h in
-    omega (arith, all, both)
-
 few_entries : (g : Given) (h : List Entry) → IsHistory g h → length h ≤ most_in_history
 few_entries g h met =
     let bound = length_bound g h (2 ^ 31) met.legal met.entries in
@@ -49,7 +37,8 @@ few_entries g h met =
     omega (arith, bound, few)
 
 pub few_numbered : (g : Given) (history : List Numbered) → IsHistory g (entries_in history) → length history ≤ most_in_history
-few_numbered g history met = subst (λ n. n ≤ most_in_history) (length-map history (λ (n : Numbered). n.entry)) (few_entries g (entries_in history) met)
+few_numbered g history met = subst (λ n. n ≤ most_in_history) (length-map history (λ (n : Numbered). n.entry))
+    (few_entries g (entries_in history) met)
 
 -- The lists of the frames and of a processor are of this history.
 abbrev pub AreOfFrames : JournalName → AuthorState → PassState → List Entry → Type 0
@@ -75,7 +64,8 @@ module _ (j : JournalName) (frames : AuthorState) (p : PassState) (h : List Entr
   legal = met.0.legal
 
   frames_are : pool ≡ frames_at j.setting h
-  frames_are = pool_at.state ∙ ap (λ (x : JournalName). frames_state x.setting frames.entries) pool_at.journal ∙ ap (frames_state j.setting) met.1
+  frames_are = pool_at.state ∙ ap (λ (x : JournalName). frames_state x.setting frames.entries) pool_at.journal
+      ∙ ap (frames_state j.setting) met.1
 
   sound : IsSound j.setting.frames (length j.setting.marks) pool
   sound = subst (IsSound j.setting.frames (length j.setting.marks)) (sym frames_are) (IsKept-legal j.setting h legal).sound
@@ -91,7 +81,8 @@ module _ (j : JournalName) (frames : AuthorState) (p : PassState) (h : List Entr
   pub victim-met : (f f' : Flight) (after : FrameState) (e : Entry) → MakesEntry f f' pool after e → (v : Victim) → f'.phase ≡ OutPhase v
       → v.space < length j.setting.told
   victim-met f f' after e makes v is =
-      let resident = (IsKept-legal j.setting h legal).agrees v.space v.page ∙ ap (λ st. frame_of st v.space v.page) (sym frames_are) ∙ victim_placed f f' pool after e v makes is in
+      let resident = (IsKept-legal j.setting h legal).agrees v.space v.page ∙ ap (λ st. frame_of st v.space v.page) (sym frames_are)
+      ∙ victim_placed f f' pool after e v makes is in
       elim (cases_lt v.space (length j.setting.told)) [
         | inl below ↦ below
         | inr past ↦ absurd (none-some v.frame (sym (base-unknown j.setting h legal v.space v.page past) ∙ resident))
@@ -115,7 +106,8 @@ module _ (j : JournalName) (frames : AuthorState) (p : PassState) (h : List Entr
   -- A space whose list is of the history too.
   module _ (space : AuthorState) (kept : Kept) (stands : StandsAt j kept space) (listed : space.entries ≡ space_part space.part h) where
     state_is : state_by space ≡ space_at j.setting h space.part
-    state_is = ap (λ (x : JournalName). state_of_space x.setting space.part space.entries) stands.journal ∙ ap (state_of_space j.setting space.part) listed
+    state_is = ap (λ (x : JournalName). state_of_space x.setting space.part space.entries) stands.journal
+        ∙ ap (state_of_space j.setting space.part) listed
 
     pub AreAgreed-met : (f : Flight) → IsReady f kept (state_by space) → AreAgreed kept pool
     AreAgreed-met f ready =
@@ -127,5 +119,6 @@ module _ (j : JournalName) (frames : AuthorState) (p : PassState) (h : List Entr
               ∙ (IsKept-legal j.setting h legal).agrees space.part page
               ∙ ap (λ st. frame_of st space.part page) (sym frames_are)
               ∙ ap (λ n. frame_of pool n page) (sym stands.number);
-          sound = subst (λ n. IsSound n (length pool.held) pool) (sym stands.frames) (subst (λ n. IsSound j.setting.frames n pool) (sym sound.processors_known) sound);
+          sound = subst (λ n. IsSound n (length pool.held) pool) (sym stands.frames)
+              (subst (λ n. IsSound j.setting.frames n pool) (sym sound.processors_known) sound);
         }

@@ -27,7 +27,8 @@ module _ (k : ℕ) where
   either true o o' moves = moves
   either false o o' moves = refl
 
-  named : (space : Option ℕ) (F F' : ℕ → Option Progress) → ((s : ℕ) → Moves (F s) (F' s)) → Moves (option_and_then F space) (option_and_then F' space)
+  named : (space : Option ℕ) (F F' : ℕ → Option Progress) → ((s : ℕ) → Moves (F s) (F' s))
+      → Moves (option_and_then F space) (option_and_then F' space)
   named None F F' moves = refl
   named (Some s) F F' moves = moves s
 
@@ -60,7 +61,8 @@ module _ (k : ℕ) where
   gives m (Emptied purpose victim) s page frame = lead _ m (Holding purpose victim)
   gives m d s page frame = refl
 
-  claims : (m : ℕ) (d : Doing) (space : Option ℕ) (v : Victim) (need : Option Need) → Moves (after_claim m d space v need) (after_claim (k + m) d space v need)
+  claims : (m : ℕ) (d : Doing) (space : Option ℕ) (v : Victim) (need : Option Need)
+      → Moves (after_claim m d space v need) (after_claim (k + m) d space v need)
   claims m Idle (Some s) v (Some need) = refl
   claims m Idle (Some s) v None = refl
   claims m Idle None v need = refl
@@ -82,8 +84,11 @@ module _ (k : ℕ) where
   faults m (ForTurn mark evictions) s count = lead_more true m (Looking mark 0)
 
   unclaims : (m : ℕ) (d : Doing) (s frame : ℕ) → Moves (after_unclaim m d s frame) (after_unclaim (k + m) d s frame)
-  unclaims m (Claiming purpose victim) s frame = either (eqb s victim.space && eqb frame victim.frame) (lacking_for m purpose s) (lacking_for (k + m) purpose s) (lacks m purpose s)
-  unclaims m (Unwritten purpose victim count) s frame = either (eqb s victim.space && eqb frame victim.frame) (faulted_for m purpose s count) (faulted_for (k + m) purpose s count) (faults m purpose s count)
+  unclaims m (Claiming purpose victim) s frame = either (eqb s victim.space && eqb frame victim.frame) (lacking_for m purpose s)
+      (lacking_for (k + m) purpose s) (lacks m purpose s)
+  unclaims m (Unwritten purpose victim count) s frame =
+      either (eqb s victim.space && eqb frame victim.frame) (faulted_for m purpose s count) (faulted_for (k + m) purpose s count)
+      (faults m purpose s count)
   unclaims m d s frame = refl
 
   drops_for : (m : ℕ) (purpose : Purpose) → Moves (dropped_for m purpose) (dropped_for (k + m) purpose)
@@ -91,10 +96,12 @@ module _ (k : ℕ) where
   drops_for m (ForTurn mark evictions) = refl
 
   drops : (m : ℕ) (d : Doing) (frame : ℕ) → Moves (after_drop m d frame) (after_drop (k + m) d frame)
-  drops m (Holding purpose victim) frame = either (eqb frame victim.frame) (dropped_for m purpose) (dropped_for (k + m) purpose) (drops_for m purpose)
+  drops m (Holding purpose victim) frame = either (eqb frame victim.frame) (dropped_for m purpose) (dropped_for (k + m) purpose)
+      (drops_for m purpose)
   drops m d frame = refl
 
-  refuses : (m : ℕ) (d : Doing) (wired claimed held : ℕ) → Moves (after_refusal m d wired claimed held) (after_refusal (k + m) d wired claimed held)
+  refuses : (m : ℕ) (d : Doing) (wired claimed held : ℕ) → Moves (after_refusal m d wired claimed held)
+      (after_refusal (k + m) d wired claimed held)
   refuses m Idle wired claimed held = refl
   refuses m d wired claimed held = refl
 
@@ -102,18 +109,28 @@ module _ (k : ℕ) where
   rests m (Looking mark evictions) short = lead_more _ m (Looking mark 0)
   rests m d short = refl
 
-  moves : (p : Progress) (space : Option ℕ) (what : What) → is_answer what ≡ false → Moves (progress_after p space what) (progress_after (later k p) space what)
+  moves : (p : Progress) (space : Option ℕ) (what : What) → is_answer what ≡ false
+      → Moves (progress_after p space what) (progress_after (later k p) space what)
   moves p space (Answer number call answered) none = absurd (false≢true (sym none))
-  moves p space (Out page written) none = named space (λ s. after_out p.made p.doing s page) (λ s. after_out (k + p.made) p.doing s page) (λ s. outs p.made p.doing s page)
-  moves p space (Failed page writing count) none = named space (λ s. after_failure p.made p.doing s page writing count) (λ s. after_failure (k + p.made) p.doing s page writing count) (λ s. fails p.made p.doing s page writing count)
-  moves p space (Take page frame want) none = named space (λ s. after_take p.made p.doing s page frame) (λ s. after_take (k + p.made) p.doing s page frame) (λ s. takes p.made p.doing s page frame)
-  moves p space (Give page frame) none = named space (λ s. after_give p.made p.doing s page frame) (λ s. after_give (k + p.made) p.doing s page frame) (λ s. gives p.made p.doing s page frame)
-  moves p space (Clear first len) none = named space (λ s. after_clear p.made p.doing s first len) (λ s. after_clear (k + p.made) p.doing s first len) (λ s. clears p.made p.doing s first len)
-  moves p space (Claim victim page frame need) none = claims p.made p.doing space (record { space = victim; page = page; frame = frame }) need
-  moves p space (UseHeld page frame want) none = named space (λ s. after_use p.made p.doing s page frame) (λ s. after_use (k + p.made) p.doing s page frame) (λ s. uses p.made p.doing s page frame)
+  moves p space (Out page written) none = named space (λ s. after_out p.made p.doing s page) (λ s. after_out (k + p.made) p.doing s page)
+      (λ s. outs p.made p.doing s page)
+  moves p space (Failed page writing count) none =
+      named space (λ s. after_failure p.made p.doing s page writing count)
+      (λ s. after_failure (k + p.made) p.doing s page writing count) (λ s. fails p.made p.doing s page writing count)
+  moves p space (Take page frame want) none = named space (λ s. after_take p.made p.doing s page frame)
+      (λ s. after_take (k + p.made) p.doing s page frame) (λ s. takes p.made p.doing s page frame)
+  moves p space (Give page frame) none = named space (λ s. after_give p.made p.doing s page frame)
+      (λ s. after_give (k + p.made) p.doing s page frame) (λ s. gives p.made p.doing s page frame)
+  moves p space (Clear first len) none = named space (λ s. after_clear p.made p.doing s first len)
+      (λ s. after_clear (k + p.made) p.doing s first len) (λ s. clears p.made p.doing s first len)
+  moves p space (Claim victim page frame need) none = claims p.made p.doing space
+      (record { space = victim; page = page; frame = frame }) need
+  moves p space (UseHeld page frame want) none = named space (λ s. after_use p.made p.doing s page frame)
+      (λ s. after_use (k + p.made) p.doing s page frame) (λ s. uses p.made p.doing s page frame)
   moves p space (DropHeld frame) none = drops p.made p.doing frame
   moves p space (Got frame) none = gots p.made p.doing frame
-  moves p space (Unclaim frame) none = named space (λ s. after_unclaim p.made p.doing s frame) (λ s. after_unclaim (k + p.made) p.doing s frame) (λ s. unclaims p.made p.doing s frame)
+  moves p space (Unclaim frame) none = named space (λ s. after_unclaim p.made p.doing s frame)
+      (λ s. after_unclaim (k + p.made) p.doing s frame) (λ s. unclaims p.made p.doing s frame)
   moves p space (Refused wired claimed held) none = refuses p.made p.doing wired claimed held
   moves p space (Rest short) none = rests p.made p.doing short
 
@@ -124,6 +141,7 @@ later_none p = ap (λ n. record { made = n; doing = p.doing }) (let e : 0 + p.ma
 pub leads_later : (k : ℕ) (p q : Progress) (space : Option ℕ) (what : What) → (is_answer what ≡ true → k ≡ 0)
     → progress_after p space what ≡ Some q → progress_after (later k p) space what ≡ Some (later k q)
 leads_later k p q space what none is = elim (cases_Bool (is_answer what)) [
-  | inl answer ↦ subst (λ n. progress_after (later n p) space what ≡ Some (later n q)) (sym (none answer)) (ap (λ x. progress_after x space what) (later_none p) ∙ is ∙ ap Some (sym (later_none q)))
+  | inl answer ↦ subst (λ n. progress_after (later n p) space what ≡ Some (later n q)) (sym (none answer))
+      (ap (λ x. progress_after x space what) (later_none p) ∙ is ∙ ap Some (sym (later_none q)))
   | inr other ↦ moves k p space what other ∙ ap (option_map (later k)) is
 ]

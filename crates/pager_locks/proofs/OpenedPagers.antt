@@ -9,9 +9,6 @@ use Rattle.std.proofs.Math.ListN.{length-map}
 use Rattle.journal_core.specs.Journals.{JournalName, AuthorState, new_author}
 use Rattle.pager_model.specs.FrameStates.{FrameState, start_frames}
 use Rattle.pager_model.specs.Settings.{Given, is_told, faults_at_entry}
-use Rattle.pager_model.specs.SizeSets.{SizeSet}
-use Rattle.pager_model.specs.Stores.{given_over}
-use Rattle.pager_model.specs.Stored.{Stored}
 use Rattle.space_core.specs.Standing.{Kept}
 use Rattle.pager_core.specs.RunParts.{IsNew}
 use Rattle.pager_core.specs.RunParts.{AreNewSpaces}
@@ -23,8 +20,10 @@ use Rattle.pager_locks.proofs.ClosedPagers.{slice_get-kept, slice_get-last}
 -- two lists of one length that end so
 pub same_ends : {X : Type 0} (xs ys : List X) (x y : X) → xs ++ x ∷ [] ≡ ys ++ y ∷ [] → (xs ≡ ys) × (x ≡ y)
 same_ends [] [] x y same = (refl, same_Some x y (ap (λ l. slice_get l 0) same))
-same_ends [] (z ∷ ys) x y same = (let long = length_push ys y in let e : 1 ≡ suc (length (ys ++ y ∷ [])) = ap length same in absurd (omega (arith, long, e)))
-same_ends (z ∷ xs) [] x y same = (let long = length_push xs x in let e : suc (length (xs ++ x ∷ [])) ≡ 1 = ap length same in absurd (omega (arith, long, e)))
+same_ends [] (z ∷ ys) x y same =
+    (let long = length_push ys y in let e : 1 ≡ suc (length (ys ++ y ∷ [])) = ap length same in absurd (omega (arith, long, e)))
+same_ends (z ∷ xs) [] x y same =
+    (let long = length_push xs x in let e : suc (length (xs ++ x ∷ [])) ≡ 1 = ap length same in absurd (omega (arith, long, e)))
 same_ends (z ∷ xs) (w ∷ ys) x y same =
     let rest = same_ends xs ys x y (ap (λ l. drop 1 l) same) in
     (ap₂ (λ a b. a ∷ b) (same_Some z w (ap (λ l. slice_get l 0) same)) rest.0, rest.1)
@@ -39,7 +38,8 @@ authors_split j authors rest last are split =
 
 pub as_many : (j : JournalName) (spaces : List Kept) (authors : List AuthorState) (pool : FrameState) → AreNewParts j spaces authors pool
     → length authors ≡ length j.setting.told + 1
-as_many j spaces authors pool parts = ap length parts.authors_are ∙ length-map (range_with_len 0 (length j.setting.told + 1)) (new_author j) ∙ length-range_with_len 0 (length j.setting.told + 1)
+as_many j spaces authors pool parts = ap length parts.authors_are ∙ length-map (range_with_len 0 (length j.setting.told + 1))
+    (new_author j) ∙ length-range_with_len 0 (length j.setting.told + 1)
 
 pub IsPoolAt-new : (j : JournalName) (spaces : List Kept) (authors rest : List AuthorState) (last : AuthorState) (pool : FrameState)
     → AreNewParts j spaces authors pool → authors ≡ rest ++ last ∷ [] → IsPoolAt j pool last
@@ -62,7 +62,8 @@ locked_new j s kept a below new is =
     })
 
 -- what stands at a place of a list, from its end
-reverse_at : {X : Type 0} (xs : List X) (i s : ℕ) (x : X) → i + s + 1 ≡ length xs → slice_get (reverse xs) i ≡ Some x → slice_get xs s ≡ Some x
+reverse_at : {X : Type 0} (xs : List X) (i s : ℕ) (x : X) → i + s + 1 ≡ length xs → slice_get (reverse xs) i ≡ Some x
+    → slice_get xs s ≡ Some x
 reverse_at xs i s x both at =
     elim (slice_get_cases (reverse xs) i).1 [
       | inl there ↦
@@ -78,59 +79,60 @@ map_at : {X : Type 0} (f : ℕ → X) (n s : ℕ) (x : X) → s < n → slice_ge
 map_at f n s x below at =
     sym (get_or_from_slice_get (map f (range_with_len 0 n)) s x x at) ∙ get_or-map-range_with_len f 0 n s s x below (omega arith)
 
-pub AreLeft-new : (j : JournalName) (spaces turned : List Kept) (authors rest turned_authors : List AuthorState) (last : AuthorState) (pool : FrameState)
-    → AreNewParts j spaces authors pool → authors ≡ rest ++ last ∷ [] → turned ≡ reverse spaces → turned_authors ≡ reverse rest
-    → AreLeft j 0 turned turned_authors
-AreLeft-new j spaces turned authors rest turned_authors last pool parts split is is_authors =
+pub AreLeft-new : (j : JournalName) (spaces : List Kept) (authors rest : List AuthorState) (last : AuthorState) (pool : FrameState)
+    → AreNewParts j spaces authors pool → authors ≡ rest ++ last ∷ [] → AreLeft j 0 (reverse spaces) (reverse rest)
+AreLeft-new j spaces authors rest last pool parts split =
     let new = parts.spaces_are in
     let own = (authors_split j authors rest last parts.authors_are split).0 in
-    let count : length turned ≡ length j.setting.told = ap length is ∙ length-reverse spaces ∙ new.count in
-    let many : length rest ≡ length j.setting.told = ap length own ∙ length-map (range_with_len 0 (length j.setting.told)) (new_author j) ∙ length-range_with_len 0 (length j.setting.told) in
-    let count_authors : length turned_authors ≡ length j.setting.told = ap length is_authors ∙ length-reverse rest ∙ many in
+    let count : length (reverse spaces) ≡ length j.setting.told = length-reverse spaces ∙ new.count in
+    let many : length rest ≡ length j.setting.told = ap length own ∙ length-map (range_with_len 0 (length j.setting.told)) (new_author j)
+    ∙ length-range_with_len 0 (length j.setting.told) in
+    let count_authors : length (reverse rest) ≡ length j.setting.told = length-reverse rest ∙ many in
     record {
       same_count = count_authors ∙ sym count;
       all = λ some. omega (arith, count);
-      none = λ none. nil_from_length turned (omega (arith, count, none));
+      none = λ none. nil_from_length (reverse spaces) (omega (arith, count, none));
       each = λ i s kept a both at at_author.
           let number = new.count in
           let below : s < length j.setting.told = omega (arith, both) in
-          let here = reverse_at spaces i s kept (both ∙ sym new.count) (subst (λ l. slice_get l i ≡ Some kept) is at) in
-          let author = reverse_at rest i s a (both ∙ sym many) (subst (λ l. slice_get l i ≡ Some a) is_authors at_author) in
-          locked_new j s kept a below (new.new s kept here) (map_at (new_author j) (length j.setting.told) s a below (subst (λ l. slice_get l s ≡ Some a) own author));
+          let here = reverse_at spaces i s kept (both ∙ sym new.count) at in
+          let author = reverse_at rest i s a (both ∙ sym many) at_author in
+          locked_new j s kept a below (new.new s kept here) (map_at (new_author j) (length j.setting.told) s a below
+          (subst (λ l. slice_get l s ≡ Some a) own author));
     }
 
 -- the next space is the last of those that are left
-pub IsLockedSpace-next : (j : JournalName) (k : ℕ) (spaces fewer : List Kept) (authors less : List AuthorState) (kept : Kept) (a : AuthorState)
-    → AreLeft j k spaces authors → spaces ≡ fewer ++ kept ∷ [] → authors ≡ less ++ a ∷ [] → IsLockedSpace j k kept (Some a)
-IsLockedSpace-next j k spaces fewer authors less kept a left are are_authors =
-    let long : length spaces ≡ length fewer + 1 = ap length are ∙ length_push fewer kept in
-    let long_authors : length authors ≡ length less + 1 = ap length are_authors ∙ length_push less a in
+pub IsLockedSpace-next : (j : JournalName) (k : ℕ) (fewer : List Kept) (less : List AuthorState) (kept : Kept) (a : AuthorState)
+    → AreLeft j k (fewer ++ kept ∷ []) (less ++ a ∷ []) → IsLockedSpace j k kept (Some a)
+IsLockedSpace-next j k fewer less kept a left =
+    let long : length (fewer ++ kept ∷ []) ≡ length fewer + 1 = length_push fewer kept in
+    let long_authors : length (less ++ a ∷ []) ≡ length less + 1 = length_push less a in
     let same = left.same_count in
     let all = left.all in
     elim (cases_lt k (length j.setting.told)) [
       | inl below ↦
           let both = all below in
-          left.each (length fewer) k kept a (omega (arith, both, long)) (subst (λ l. slice_get l (length fewer) ≡ Some kept) (sym are) (slice_get-last fewer kept))
-          (subst (λ n. slice_get authors n ≡ Some a) (let e : length less ≡ length fewer = omega (arith, long, long_authors, same) in e) (subst (λ l. slice_get l (length less) ≡ Some a) (sym are_authors) (slice_get-last less a)))
-      | inr past ↦ (let none : length spaces ≡ 0 = ap length (left.none past) in absurd (omega (arith, none, long)))
+          left.each (length fewer) k kept a (omega (arith, both, long)) (slice_get-last fewer kept)
+          (subst (λ n. slice_get (less ++ a ∷ []) n ≡ Some a)
+          (let e : length less ≡ length fewer = omega (arith, long, long_authors, same) in e) (slice_get-last less a))
+      | inr past ↦ (let none : length (fewer ++ kept ∷ []) ≡ 0 = ap length (left.none past) in absurd (omega (arith, none, long)))
     ]
 
-pub AreLeft-next : (j : JournalName) (k : ℕ) (spaces fewer : List Kept) (authors less : List AuthorState) (kept : Kept) (a : AuthorState)
-    → AreLeft j k spaces authors → spaces ≡ fewer ++ kept ∷ [] → authors ≡ less ++ a ∷ [] → AreLeft j (k + 1) fewer less
-AreLeft-next j k spaces fewer authors less kept a left are are_authors =
-    let long : length spaces ≡ length fewer + 1 = ap length are ∙ length_push fewer kept in
-    let long_authors : length authors ≡ length less + 1 = ap length are_authors ∙ length_push less a in
+pub AreLeft-next : (j : JournalName) (k : ℕ) (fewer : List Kept) (less : List AuthorState) (kept : Kept) (a : AuthorState)
+    → AreLeft j k (fewer ++ kept ∷ []) (less ++ a ∷ []) → AreLeft j (k + 1) fewer less
+AreLeft-next j k fewer less kept a left =
+    let long : length (fewer ++ kept ∷ []) ≡ length fewer + 1 = length_push fewer kept in
+    let long_authors : length (less ++ a ∷ []) ≡ length less + 1 = length_push less a in
     let same = left.same_count in
     record {
       same_count = omega (arith, long, long_authors, same);
       all = λ below. (let both = left.all (omega (arith, below)) in omega (arith, both, long));
       none = λ past. elim (cases_lt k (length j.setting.told)) [
         | inl below ↦ (let both = left.all below in nil_from_length fewer (omega (arith, both, long, past)))
-        | inr before ↦ (let none : length spaces ≡ 0 = ap length (left.none before) in absurd (omega (arith, none, long)))
+        | inr before ↦ (let none : length (fewer ++ kept ∷ []) ≡ 0 = ap length (left.none before) in absurd (omega (arith, none, long)))
       ];
       each = λ i s other b both at at_author.
-          left.each i s other b both (subst (λ l. slice_get l i ≡ Some other) (sym are) (slice_get-kept fewer kept i other at))
-          (subst (λ l. slice_get l i ≡ Some b) (sym are_authors) (slice_get-kept less a i b at_author));
+          left.each i s other b both (slice_get-kept fewer kept i other at) (slice_get-kept less a i b at_author);
     }
 
 -- past the last space none is left
@@ -143,13 +145,15 @@ none_left j k spaces authors left past =
     (none, nil_from_length authors (omega (arith, short, same)))
 
 -- The parts of a run and all authors of the journal that was made for its setting are a pager's.
-pub AreNewParts-made : (j : JournalName) (given : Given) (frames : ℕ) (z : SizeSet) (marks : List ℕ) (stores : List Stored) (spaces : List Kept) (authors : List AuthorState) (pool : FrameState)
-    → j.setting ≡ given → given ≡ given_over frames z marks stores → length spaces ≤ 16 → AreNewSpaces given spaces
-    → authors ≡ map (new_author j) (range_with_len 0 (length given.told + 1)) → pool ≡ start_frames z frames (length marks) → AreNewParts j spaces authors pool
-AreNewParts-made j given frames z marks stores spaces authors pool setting over few new are_authors start =
+pub AreNewParts-made : (j : JournalName) (given : Given) (spaces : List Kept) (authors : List AuthorState) (pool : FrameState)
+    → j.setting ≡ given → length spaces ≤ 16 → AreNewSpaces given spaces
+    → authors ≡ map (new_author j) (range_with_len 0 (length given.told + 1))
+    → pool ≡ start_frames given.sizes given.frames (length given.marks) → AreNewParts j spaces authors pool
+AreNewParts-made j given spaces authors pool setting few new are_authors start =
     record {
-      few = (let count = new.count in let same : length j.setting.told ≡ length given.told = ap (λ (g : Given). length g.told) setting in omega (arith, count, same, few));
+      few = (let count = new.count in let same : length j.setting.told ≡ length given.told = ap (λ (g : Given). length g.told) setting in
+          omega (arith, count, same, few));
       spaces_are = subst (λ (g : Given). AreNewSpaces g spaces) (sym setting) new;
       authors_are = are_authors ∙ ap (λ (g : Given). map (new_author j) (range_with_len 0 (length g.told + 1))) (sym setting);
-      pool_is = start ∙ sym (ap (λ (g : Given). start_frames g.sizes g.frames (length g.marks)) (setting ∙ over));
+      pool_is = start ∙ sym (ap (λ (g : Given). start_frames g.sizes g.frames (length g.marks)) setting);
     }

@@ -55,14 +55,16 @@ unanswered f mark is kind = by (row_of f).outcome refl
 -- a pass's processor is one of its journal's
 pub known_here : (j : JournalName) (p : PassState) (c : ℕ) → p.journal ≡ j → c ≡ p.processor → c < length p.journal.setting.marks
     → p.processor < length j.setting.marks
-known_here j p c journal number known = subst (λ (x : JournalName). p.processor < length x.setting.marks) journal (subst (λ n. n < length p.journal.setting.marks) number known)
+known_here j p c journal number known = subst (λ (x : JournalName). p.processor < length x.setting.marks) journal
+    (subst (λ n. n < length p.journal.setting.marks) number known)
 
 -- The flight of a pass's next call, from its start to its end.
 module _ (j : JournalName) (p : PassState) (f : Flight) (may : MayCall j p) (next : IsNextFlight p f)
     (can : CanFly (length j.setting.told) (call_in f.purpose)) (known : p.processor < length j.setting.marks) where
   made : may.whole.0 ≡ f.number
   made = (
-      let count : may.whole.0 ≡ 0 + count_by is_numbered_answer p.entries = counted p.entries (at_rest 0 0) (at_rest 0 may.whole.0) refl may.whole.1 in
+      let count : may.whole.0 ≡ 0 + count_by is_numbered_answer p.entries =
+      counted p.entries (at_rest 0 0) (at_rest 0 may.whole.0) refl may.whole.1 in
       let number = next.number in
       omega (arith, count, number))
 
@@ -88,7 +90,8 @@ module _ (j : JournalName) (p : PassState) (f : Flight) (may : MayCall j p) (nex
     none_before = λ _. refl;
     known = subst (λ k. k < length j.setting.marks) (sym next.processor) known;
     mark = own_mark;
-    progress = ap (λ m. progress_of m (entries_in p.entries)) own_mark ∙ may.whole.1 ∙ ap (λ k. Some (at_rest 0 k)) made ∙ ap Some (sym (later_none (at_rest 0 f.number)));
+    progress = ap (λ m. progress_of m (entries_in p.entries)) own_mark ∙ may.whole.1 ∙ ap (λ k. Some (at_rest 0 k)) made
+        ∙ ap Some (sym (later_none (at_rest 0 f.number)));
     room = may.room;
     fits = record { kind = refl; can = can.can; phase = refl };
     on = can.on;
@@ -112,11 +115,15 @@ module _ (j : JournalName) (p : PassState) (f : Flight) (may : MayCall j p) (nex
       let phase = ended_by g r answered in
       let own : g.processor ≡ f.processor = sym flying.processor ∙ flying.same_processor ∙ sym next.processor in
       let called : call_in g.purpose ≡ call_in f.purpose = (of_call_job g.purpose (call_in f.purpose) flying.job).1 in
-      let ended : (row_of g).progress ≡ at_rest 0 (f.number + 1) = ap (λ x. (row_in g.processor g.number (own_space g.purpose) g.purpose x).progress) phase ∙ ap (λ k. at_rest 0 (k + 1)) flying.number in
+      let ended : (row_of g).progress ≡ at_rest 0 (f.number + 1) =
+      ap (λ x. (row_in g.processor g.number (own_space g.purpose) g.purpose x).progress) phase
+      ∙ ap (λ k. at_rest 0 (k + 1)) flying.number in
       let all : progress_of 0 (entries_in q.entries) ≡ Some (at_rest 0 (f.number + 1)) =
-      ap (λ m. progress_of m (entries_in q.entries)) (sym (ap (mark_of j.setting) own ∙ own_mark)) ∙ flying.progress ∙ ap Some (later_none (row_of g).progress ∙ ended) in
+      ap (λ m. progress_of m (entries_in q.entries)) (sym (ap (mark_of j.setting) own ∙ own_mark)) ∙ flying.progress
+      ∙ ap Some (later_none (row_of g).progress ∙ ended) in
       let before : progress_of 0 (entries_in p.entries) ≡ Some (at_rest 0 f.number) = may.whole.1 ∙ ap (λ k. Some (at_rest 0 k)) made in
-      let split : entries_in q.entries ≡ entries_in p.entries ++ entries_in flying.piece = ap entries_in flying.entries ∙ map-append (λ (x : Numbered). x.entry) p.entries flying.piece in
+      let split : entries_in q.entries ≡ entries_in p.entries ++ entries_in flying.piece = ap entries_in flying.entries
+      ∙ map-append (λ (x : Numbered). x.entry) p.entries flying.piece in
       record {
         journal = flying.journal ∙ sym may.journal;
         processor = flying.same_processor;
@@ -125,14 +132,16 @@ module _ (j : JournalName) (p : PassState) (f : Flight) (may : MayCall j p) (nex
         entries = flying.entries;
         few = (let spent = flying.spent in omega (arith, spent));
         sequence = record {
-          own = subst (λ k. AllByRecursion (λ (e : Entry). e.processor ≡ k) (entries_in flying.piece)) (sym flying.processor ∙ flying.same_processor) flying.own;
+          own = subst (λ k. AllByRecursion (λ (e : Entry). e.processor ≡ k) (entries_in flying.piece))
+              (sym flying.processor ∙ flying.same_processor) flying.own;
           made = f.number;
           leads =
               sym (ap (λ o. progress_from o (entries_in flying.piece)) before)
               ∙ sym (progress_from-append (Some (at_rest 0 0)) (entries_in p.entries) (entries_in flying.piece))
               ∙ sym (ap (progress_of 0) split)
               ∙ all;
-          answer = flying.answers ∙ ap (λ o. option_to_list (answer_made g (reply_in o))) answered ∙ ap (λ k. (k, (call_in g.purpose)) ∷ []) flying.number ∙ ap (λ k. (f.number, k) ∷ []) called;
+          answer = flying.answers ∙ ap (λ o. option_to_list (answer_made g (reply_in o))) answered
+              ∙ ap (λ k. (k, (call_in g.purpose)) ∷ []) flying.number ∙ ap (λ k. (f.number, k) ∷ []) called;
         };
         before = before;
         replies = flying.replies ∙ ap (λ o. option_to_list (reply_in o)) answered;
@@ -143,7 +152,8 @@ module _ (j : JournalName) (p : PassState) (f : Flight) (may : MayCall j p) (nex
       → IsSomeAnd (reply_in (row_of g).outcome) (MakesCall j.setting p q (call_in f.purpose))
   MakesCall-ended g q flying ended = by (row_of g).outcome refl ended
     where
-      by : (o : Outcome) → (row_of g).outcome ≡ o → has_ended o ≡ true → IsSomeAnd (reply_in o) (MakesCall j.setting p q (call_in f.purpose))
+      by : (o : Outcome) → (row_of g).outcome ≡ o → has_ended o ≡ true
+          → IsSomeAnd (reply_in o) (MakesCall j.setting p q (call_in f.purpose))
       by Going is some = absurd (false≢true some)
       by TurnEnded is some = absurd (turn_goes_on g (of_calls g (of_call_job g.purpose (call_in f.purpose) flying.job).0 flying.fits) is)
       by (Answered r) is some = MakesCall-made g q r flying is
@@ -197,10 +207,13 @@ module _ (j : JournalName) (p : PassState) (c mark : ℕ) (may : MayTurn j p mar
   MakesTurn-ended g q flying ended =
       let own_g : g.processor ≡ c = sym flying.processor ∙ flying.same_processor ∙ sym own in
       let fits : FitsMark mark (job_in g.purpose) = subst (FitsMark mark) (sym flying.job) (refl, may.some) in
-      let at_end : (row_of g).progress ≡ at_rest mark 1 = ended_progress g mark ended fits flying.fits ∙ ap (λ n. at_rest mark (n + 1)) flying.number in
+      let at_end : (row_of g).progress ≡ at_rest mark 1 = ended_progress g mark ended fits flying.fits
+      ∙ ap (λ n. at_rest mark (n + 1)) flying.number in
       let all : progress_of mark (entries_in q.entries) ≡ Some (at_rest mark (made_before + 1)) =
-      ap (λ m. progress_of m (entries_in q.entries)) (sym (ap (mark_of j.setting) own_g ∙ turn_mark)) ∙ flying.progress ∙ ap (λ x. Some (later made_before x)) at_end in
-      let split : entries_in q.entries ≡ entries_in p.entries ++ entries_in flying.piece = ap entries_in flying.entries ∙ map-append (λ (x : Numbered). x.entry) p.entries flying.piece in
+      ap (λ m. progress_of m (entries_in q.entries)) (sym (ap (mark_of j.setting) own_g ∙ turn_mark)) ∙ flying.progress
+      ∙ ap (λ x. Some (later made_before x)) at_end in
+      let split : entries_in q.entries ≡ entries_in p.entries ++ entries_in flying.piece = ap entries_in flying.entries
+      ∙ map-append (λ (x : Numbered). x.entry) p.entries flying.piece in
       record {
         journal = flying.journal ∙ sym may.journal;
         processor = flying.same_processor;
@@ -209,7 +222,8 @@ module _ (j : JournalName) (p : PassState) (c mark : ℕ) (may : MayTurn j p mar
         entries = flying.entries;
         few = (let spent = flying.spent in omega (arith, spent));
         turn = record {
-          own = subst (λ k. AllByRecursion (λ (e : Entry). e.processor ≡ k) (entries_in flying.piece)) (sym flying.processor ∙ flying.same_processor) flying.own;
+          own = subst (λ k. AllByRecursion (λ (e : Entry). e.processor ≡ k) (entries_in flying.piece))
+              (sym flying.processor ∙ flying.same_processor) flying.own;
           made = made_before;
           leads =
               sym (ap (λ o. progress_from o (entries_in flying.piece)) may.whole.1)

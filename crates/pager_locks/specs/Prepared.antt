@@ -1,6 +1,7 @@
 -- A pager that was made and isn't opened yet, and the passes that a call or a turn is made with.
 use Rattle.std.specs.Prelude.{ℕ, ◌≡◌, ◌+◌, ◌*◌, ◌≤◌, List, length, map}
 use Rattle.std.specs.List.{range_with_len}
+use Rattle.pager_model.specs.Bounds.{most_spaces}
 use Rattle.journal_core.specs.Journals.{JournalName, JournalState, AuthorState, PassState, new_author}
 use Rattle.pager_model.specs.FrameStates.{FrameState, start_frames}
 use Rattle.pager_model.specs.Legal.{entries_in}
@@ -16,7 +17,7 @@ pub record PreparedState : Type 0 where
 
 -- The parts of a pager over a journal without entries: new spaces, the pool as it is at the start, and all authors of the journal.
 pub record AreNewParts (j : JournalName) (spaces : List Kept) (authors : List AuthorState) (pool : FrameState) : Type 0 where
-  pub few : length j.setting.told ≤ 16
+  pub few : length j.setting.told ≤ most_spaces
   pub spaces_are : AreNewSpaces j.setting spaces
   pub authors_are : authors ≡ map (new_author j) (range_with_len 0 (length j.setting.told + 1))
   pub pool_is : pool ≡ start_frames j.setting.sizes j.setting.frames (length j.setting.marks)

@@ -1,6 +1,7 @@
 //! The locks of the spaces. What lies behind one has the space's number in its type, so each space has a field of its own.
 
 ghost use Rattle.std.specs.Prelude.{◌≡◌, ◌<◌, ◌≤◌, ◌+◌, true, is_some, [], length, vec_capacity, Some, None};
+ghost use Rattle.pager_model.specs.Bounds.{most_spaces};
 ghost use Rattle.pager_core.specs.Rows.{row_of, space_under};
 ghost use Rattle.pager_locks.specs.Locked.{Departure, IsFlying};
 ghost use Rattle.pager_locks.specs.Locks.{AreThere, AreLeft, AreParts};
@@ -36,7 +37,7 @@ pub struct Locks<N: Named, S: Store + Send + Drop> {
     space13: Option<Mutex<LockedSpace<N, Thirteen, S>>>,
     space14: Option<Mutex<LockedSpace<N, Fourteen, S>>>,
     space15: Option<Mutex<LockedSpace<N, Fifteen, S>>>,
-    ghost few: { length N.journal.setting.told ≤ 16 },
+    ghost few: { length N.journal.setting.told ≤ most_spaces },
     ghost there: { AreThere (length N.journal.setting.told)
         (is_some space0) (is_some space1) (is_some space2) (is_some space3)
         (is_some space4) (is_some space5) (is_some space6) (is_some space7)
@@ -47,7 +48,7 @@ pub struct Locks<N: Named, S: Store + Send + Drop> {
 impl<N: Named, S: Store + Send + Drop> Locks<N, S> {
     /// Puts the spaces, which stand last first as their authors do, behind their locks. The emptied vectors keep their room.
     pub fn of(spaces: &mut Vec<Space<S>>, authors: &mut Vec<Author>) -> Locks<N, S>
-        requires few { length N.journal.setting.told ≤ 16 }
+        requires few { length N.journal.setting.told ≤ most_spaces }
         requires left { AreLeft N.journal 0 spaces.old.items authors.old.items }
         ensures empty { (spaces.new.items ≡ []) × (authors.new.items ≡ []) }
         ensures room { (vec_capacity spaces.new ≡ vec_capacity spaces.old) × (vec_capacity authors.new ≡ vec_capacity authors.old) }
@@ -115,7 +116,7 @@ impl<N: Named, S: Store + Send + Drop> Locks<N, S> {
     pub fn into_parts(self, spaces: &mut Vec<Space<S>>, authors: &mut Vec<Author>)
         requires empty { (spaces.old.items ≡ []) × (authors.old.items ≡ []) }
         requires room { (length N.journal.setting.told ≤ vec_capacity spaces.old) × (length N.journal.setting.told ≤ vec_capacity authors.old) }
-        ensures parts { AreParts N.journal 16 spaces.new.items authors.new.items }
+        ensures parts { AreParts N.journal most_spaces spaces.new.items authors.new.items }
         ensures room { (vec_capacity spaces.new ≡ vec_capacity spaces.old) × (vec_capacity authors.new ≡ vec_capacity authors.old) }
     {
         put_back(self.space0, spaces, authors);

@@ -4,7 +4,7 @@ ghost use Rattle.std.specs.Prelude.{◌≡◌, ◌<◌, ◌≤◌, ◌+◌, ◌^
 ghost use Rattle.std.specs.List.{All};
 ghost use Rattle.pager_model.specs.Stores.{given_over, AreCapped};
 ghost use Rattle.journal_core.specs.Journals.{new_passes};
-ghost use Rattle.pager_model.specs.Bounds.{most_frames};
+ghost use Rattle.pager_model.specs.Bounds.{most_frames, most_spaces, most_actors};
 
 use crate::naming::Named;
 use crate::pager::Pager;
@@ -53,8 +53,8 @@ impl<S: Store + Send + Drop> Prepared<S> {
         rooms: &[usize],
     ) -> Result<Prepared<S>, Vec<S>>
         requires frames { (frames % 512 ≡ 0) × (frames ≤ most_frames) }
-        requires stores { (1 ≤ length stores.items) × (length stores.items ≤ 16) }
-        requires processors { (1 ≤ length marks.now) × (length marks.now ≤ 17) × (length rooms.now ≡ length marks.now) }
+        requires stores { (1 ≤ length stores.items) × (length stores.items ≤ most_spaces) }
+        requires processors { (1 ≤ length marks.now) × (length marks.now ≤ most_actors) × (length rooms.now ≡ length marks.now) }
         requires rooms { All (λ r. r ≤ 2 ^ 31) rooms.now }
         ensures setting { IfOk result (λ p. p.journal.name.setting ≡ given_over frames sizes marks.now (map S.seen stores.items)) }
         ensures passes { IfOk result (λ p. p.passes ≡ new_passes p.journal.name 0 rooms.now) }

@@ -11,7 +11,8 @@ write-number-requires-clause-entry c =
     let pass = c.into_parts-log.ensures.pass in
     let boarded = board_one _ _ _ c.args.pass c.args.author c.into_parts-log.ensures.seat.1 c.into_seat.ensures.seat.1 c.board.ensures.1 in
     subst (λ (v : View). MayGrow v c.args.entry) (sym boarded)
-    (one_may c.args.author c.args.pass c.args.entry (r.journal.0 ∙ sym r.journal.1) r.parts r.author r.processor r.allowed r.order r.room pass.most pass.processor)
+    (one_may c.args.author c.args.pass c.args.entry
+    (r.journal.0 ∙ sym r.journal.1) r.parts r.author r.processor r.allowed r.order r.room pass.most pass.processor)
 
 pub returns-clause-place : goal.returns-clause-place
 returns-clause-place c =

@@ -9,5 +9,6 @@ pub fetch_add-requires : goal.fetch_add-requires
 fetch_add-requires g c = (
   c.requires.table.0,
   omega arith,
-  writes _ _ _ _ _ (step c.args.word.now.table_id.slots 16 1 0 none) (subst (MayGrow c.args.seat.now.me.0) (sym c.requires.name) c.requires.entry),
+  writes _ _ _ _ _ (step c.args.word.now.table_id.slots 16 1 0 none) (subst (MayGrow c.args.seat.now.me.0)
+      (sym c.requires.name) c.requires.entry),
 )

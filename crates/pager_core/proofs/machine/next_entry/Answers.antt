@@ -16,13 +16,15 @@ returns-in-Some g c = record {
   made = λ st is.
       let passed = c.loop-entry.invariant.passed in
       Makes-passed c.args.flight.now c.loop-entry.flight c.step.new.flight c.args.space.now c.loop-entry.space c.step.new.space passed st c.args.pool.now c.step.new.pool c.in-Some.entry
-      (subst (λ p. Makes c.loop-entry.flight c.step.new.flight c.loop-entry.space c.step.new.space st p c.step.new.pool c.in-Some.entry) c.loop-entry.invariant.same_pool (c.in-Some.ensures.entry st (passed.ready st is)));
+      (subst (λ p. Makes c.loop-entry.flight c.step.new.flight c.loop-entry.space c.step.new.space st p c.step.new.pool c.in-Some.entry)
+      c.loop-entry.invariant.same_pool (c.in-Some.ensures.entry st (passed.ready st is)));
 }
 
 pub loop-entry-preserved : goal.loop-entry-preserved
 loop-entry-preserved g c =
     record {
-      passed = HasPassed-more c.args.flight.now c.loop-entry.flight c.step.new.flight c.args.space.now c.loop-entry.space c.step.new.space c.loop-entry.invariant.passed c.requires.ready.0 c.requires.ready.1 c.in_default.ensures.none;
+      passed = HasPassed-more c.args.flight.now c.loop-entry.flight c.step.new.flight c.args.space.now c.loop-entry.space c.step.new.space
+          c.loop-entry.invariant.passed c.requires.ready.0 c.requires.ready.1 c.in_default.ensures.none;
       same_pool = c.step.ensures.same_pool c.in_default.is ∙ c.loop-entry.invariant.same_pool;
     }
 
@@ -37,7 +39,8 @@ step-requires-clause-owns g c κs within =
     (OwnsBy-passed c.args.flight.now c.loop-entry.flight c.args.space.now c.loop-entry.space c.args.pool.now c.loop-entry.invariant.passed c.requires.owns)
 
 pub step-requires-clause-image : goal.step-requires-clause-image
-step-requires-clause-image g c κs within = image-passed c.args.flight.now c.loop-entry.flight c.args.space.now c.loop-entry.space c.loop-entry.invariant.passed c.requires.image
+step-requires-clause-image g c κs within =
+    image-passed c.args.flight.now c.loop-entry.flight c.args.space.now c.loop-entry.space c.loop-entry.invariant.passed c.requires.image
 
 pub step-requires-clause-known : goal.step-requires-clause-known
 step-requires-clause-known g c κs within =

@@ -42,7 +42,8 @@ returns-clause-capped g c = λ s store below at.
     let same = c.spaces-spaces.ensures.spaces in
     let long = length-take-le c.spaces-spaces.result c.args.stores.now (omega (arith, same, c.requires.enough)) in
     c.in_ok-room.ensures.capped s store (omega (arith, long, same, below))
-    (ap (λ l. slice_get l s) (first g.S.Store.seen c.args.stores.now c.spaces-spaces.result c.args.trace.now.spaces same) ∙ slice_get-take c.args.trace.now.spaces (map g.S.Store.seen c.args.stores.now) s below ∙ at)
+    (ap (λ l. slice_get l s) (first g.S.Store.seen c.args.stores.now c.spaces-spaces.result c.args.trace.now.spaces same)
+    ∙ slice_get-take c.args.trace.now.spaces (map g.S.Store.seen c.args.stores.now) s below ∙ at)
 
 pub returns-clause-keepers : goal.returns-clause-keepers
 returns-clause-keepers g c = c.in_ok-keepers.ensures ∙ ap (λ n. replicate n None) c.spaces-spaces.ensures.spaces

@@ -14,15 +14,22 @@ loop-store-preserved g c =
     let store = c.store-item.result in
     let old = map g.S.Store.seen (take n all) in
     let more : map g.S.Store.seen (take (n + 1) all) ≡ old ++ g.S.Store.seen store ∷ [] =
-    ap (map g.S.Store.seen) (take_more all n store (omega arith) ∙ ap (λ s. take n all ++ s ∷ []) (sym c.store-item.is)) ∙ map_push g.S.Store.seen (take n all) store in (
-      read_more (λ (s : Stored). s.told) old _ (g.S.Store.seen store) c.loop-store.told.items c.push.new.self.items c.told.result more c.in_ok-push.ensures.items c.loop-store.invariant.0 c.told.ensures.told,
-      read_more (λ (s : Stored). s.faults) old _ (g.S.Store.seen store) c.loop-store.faults.items c.push-in-loop-store.new.self.items c.faults.result more c.in_ok-push-2.ensures.items c.loop-store.invariant.1 c.faults.ensures.faults,
-      Each-push IsZeroIfTold old _ (g.S.Store.seen store) more c.loop-store.invariant.2 (λ is. c.told.ensures.zero (c.told.ensures.told ∙ is)),
+    ap (map g.S.Store.seen) (take_more all n store (omega arith) ∙ ap (λ s. take n all ++ s ∷ []) (sym c.store-item.is))
+    ∙ map_push g.S.Store.seen (take n all) store in (
+      c.in_ok-push.ensures.items ∙ read_more (λ (s : Stored). s.told) old
+          (g.S.Store.seen store) c.loop-store.told.items c.told.result c.loop-store.invariant.0 c.told.ensures.told
+          ∙ sym (ap (map (λ (s : Stored). s.told)) more),
+      c.in_ok-push-2.ensures.items ∙ read_more (λ (s : Stored). s.faults) old
+          (g.S.Store.seen store) c.loop-store.faults.items c.faults.result c.loop-store.invariant.1 c.faults.ensures.faults
+          ∙ sym (ap (map (λ (s : Stored). s.faults)) more),
+      Each-push IsZeroIfTold old _ (g.S.Store.seen store) more c.loop-store.invariant.2
+          (λ is. c.told.ensures.zero (c.told.ensures.told ∙ is)),
       Each-push (λ s. s.faults ≤ last_count) old _ (g.S.Store.seen store) more c.loop-store.invariant.3 c.faults.ensures.capped,
     )
 
 -- it read all of them
-read : (g : Over) (c : goal.After-with_sizes g) → map g.S.Store.seen (take c.loop-store.store-index c.args.stores.now) ≡ map g.S.Store.seen c.args.stores.now
+read : (g : Over) (c : goal.After-with_sizes g) → map g.S.Store.seen (take c.loop-store.store-index c.args.stores.now)
+    ≡ map g.S.Store.seen c.args.stores.now
 read g c = ap (map g.S.Store.seen) (take_all c.loop-store.store-index c.args.stores.now (omega (arith, c.loop-store-test.false)))
 
 pub returns-clause-given : goal.returns-clause-given

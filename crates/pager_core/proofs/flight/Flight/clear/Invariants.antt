@@ -6,7 +6,8 @@ use Rattle.pager_core.proofs.ClearSteps.{IsClearing}
 
 -- so far some pages of the range gave their frames up, the lowest first
 abbrev pub invariant-loop-page : goal.invariant-loop-page
-invariant-loop-page g l = IsClearing l.initial.space l.initial.pool l.space l.pool l.first l.length
+invariant-loop-page g l =
+    IsClearing (record { space = l.initial.space; frames = l.initial.pool }) (record { space = l.space; frames = l.pool }) l.first l.length
 
 -- so many pages of the range are resident
 abbrev pub decreases-loop-page : goal.decreases-loop-page

@@ -8,4 +8,8 @@ returns-clause-entry g c = λ st.
     (rw c.end_entry.ensures
     (rw c.give.ensures.given
     (rw c.own.ensures
-    (page_evicted c.args.self.now c.args.page c.evict-frame.result.0.number c.evict-frame.result.1 c.args.space.now c.evict-frame.new.self c.args.pool.now c.requires.phase c.requires.agree c.evict-frame.ensures st)))))
+    (page_evicted c.args.self.now c.args.page c.evict-frame.result.0.number c.evict-frame.result.1 (record {
+      space = c.args.space.now;
+      frames = c.args.pool.now;
+    }) c.evict-frame.new.self
+    c.requires.phase c.requires.agree c.evict-frame.ensures st)))))

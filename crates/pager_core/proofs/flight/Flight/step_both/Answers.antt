@@ -9,10 +9,12 @@ IfNone_then None holds then = then holds
 IfNone_then (Some x) holds then = holds
 
 pub returns-in-Out-clause-entry : goal.returns-in-Out-clause-entry
-returns-in-Out-clause-entry g c = IfSome_then c.collect.result c.collect.ensures.entry (λ e makes st ready. makes c.args.space.now st ready c.requires.agree)
+returns-in-Out-clause-entry g c = IfSome_then c.collect.result c.collect.ensures.entry
+    (λ e makes st ready. makes c.args.space.now st ready c.requires.agree)
 
 pub returns-in-Out-clause-none : goal.returns-in-Out-clause-none
-returns-in-Out-clause-none g c = IfNone_then c.collect.result c.collect.ensures.none (λ none. (none.0, λ st ready. none.1 c.args.space.now st ready c.requires.agree))
+returns-in-Out-clause-none g c = IfNone_then c.collect.result c.collect.ensures.none
+    (λ none. (none.0, λ st ready. none.1 c.args.space.now st ready c.requires.agree))
 
 pub returns-in-Unclaim-clause-entry : goal.returns-in-Unclaim-clause-entry
 returns-in-Unclaim-clause-entry g c = λ st ready. c.unclaim.ensures.entry c.args.space.now st ready c.requires.agree

@@ -5,7 +5,8 @@ use Rattle.pager_core.proofs.TakenFrames.{unused_elsewhere, own_wanting, frame_t
 use Rattle.pager_core.proofs.flight.Flight.take.Goals as goal
 
 pub place-requires-clause-other : goal.place-requires-clause-other
-place-requires-clause-other g c κs within = unused_elsewhere c.args.space.now c.args.pool.now c.in-Ok.taken.number c.requires.agree c.in-Ok.ensures.unused.1
+place-requires-clause-other g c κs within =
+    unused_elsewhere c.args.space.now c.args.pool.now c.in-Ok.taken.number c.requires.agree c.in-Ok.ensures.unused.1
 
 pub returns-in-Ok-clause-entry : goal.returns-in-Ok-clause-entry
 returns-in-Ok-clause-entry g c =
@@ -13,9 +14,20 @@ returns-in-Ok-clause-entry g c =
     let ready = c.requires.ready in
     let own = own_wanting c.args.self.now c.args.page c.args.want c.args.space.now ready.0 c.requires.phase ready.1 in
     λ st. rw c.entry.ensures
-    (frame_taken c.args.self.now c.args.page c.number-own.result c.number-frame.result c.args.want c.args.space.now c.place.new.self c.args.pool.now c.take.new.self taken.0
-    c.requires.phase (c.number-own.ensures.number ∙ sym own) (c.number-frame.ensures ∙ taken.3) c.requires.agree c.requires.owns taken.1 taken.2
-    (subst (Places c.args.space.now c.place.new.self c.args.page) taken.3 c.place.ensures) st)
+    (frame_taken c.args.self.now c.args.page c.number-own.result c.number-frame.result c.args.want (record {
+      space = c.args.space.now;
+      frames = c.args.pool.now;
+    })
+    (record {
+      space = c.place.new.self;
+      frames = c.take.new.self;
+    }) c.requires.phase (c.number-own.ensures.number ∙ sym own) c.requires.agree c.requires.owns (record {
+      taking = taken.0;
+      takes = taken.1;
+      frame_is = c.number-frame.ensures ∙ taken.3;
+      after_is = taken.2;
+      places = subst (Places c.args.space.now c.place.new.self c.args.page) taken.3 c.place.ensures;
+    }) st)
 
 pub returns-in-Err-clause-entry : goal.returns-in-Err-clause-entry
 returns-in-Err-clause-entry g c =

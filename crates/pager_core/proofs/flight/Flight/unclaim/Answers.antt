@@ -11,4 +11,5 @@ returns-clause-entry c = λ kept st ready agree.
     (claim_ended c.args.self.now c.args.victim c.args.fault c.unclaim-frame.result kept st c.args.pool.now c.requires.phase c.requires.owns c.unclaim-frame.ensures.frame ready agree)))
 
 pub returns-clause-nearer : goal.returns-clause-nearer
-returns-clause-nearer c = rw (c.given_up-self.ensures c.args.victim refl) (given_up-nearer c.args.self.now c.args.victim c.args.fault c.requires.phase)
+returns-clause-nearer c = rw (c.given_up-self.ensures c.args.victim refl)
+    (given_up-nearer c.args.self.now c.args.victim c.args.fault c.requires.phase)

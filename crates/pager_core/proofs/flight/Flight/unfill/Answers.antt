@@ -8,4 +8,7 @@ returns-clause-entry g c = λ st.
     rw gave.1
     (rw c.give_up-entry.ensures.pool
     (rw c.own-own.ensures
-    (frame_unfilled c.args.self.now c.args.page phase.0 c.args.count gave.0 c.args.space.now c.give_up-entry.new.space c.args.pool.now phase.1 c.requires.agree gave.2 st)))
+    (frame_unfilled c.args.self.now c.args.page phase.0 c.args.count (record {
+      space = c.args.space.now;
+      frames = c.args.pool.now;
+    }) c.give_up-entry.new.space phase.1 c.requires.agree gave.0 gave.2 st)))

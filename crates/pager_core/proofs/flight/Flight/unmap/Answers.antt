@@ -7,4 +7,10 @@ returns-clause-entry g c = λ st frames.
     let phase = c.requires.phase in
     rw c.answer.ensures.ended
     (rw c.answer.ensures.entry
-    (unmap_answered c.args.self.now c.in-Unmap.space c.in-Unmap.page phase.0 phase.1 c.unmap-answered.result c.args.space.now c.unmap-answered.new.self phase.2 (sym c.call.ensures ∙ c.in-Unmap.is) c.unmap-answered.ensures st frames))
+    (unmap_answered c.args.self.now phase.0 phase.1 c.unmap-answered.result c.args.space.now c.unmap-answered.new.self phase.2
+    (record {
+      space = c.in-Unmap.space;
+      page = c.in-Unmap.page;
+      is = sym c.call.ensures ∙ c.in-Unmap.is;
+      unmapped = c.unmap-answered.ensures;
+    }) st frames))

@@ -8,8 +8,11 @@ returns-in-Ok-clause-entry g c = λ st frames.
 
 pub returns-in-Err-Failed-clause-entry : goal.returns-in-Err-Failed-clause-entry
 returns-in-Err-Failed-clause-entry g c = λ st frames.
-    rw c.entry-in-Err-Failed.ensures (write_failed c.args.self.now c.args.victim c.in-Err-Failed.count c.args.space.now c.write_out.new.self c.requires.phase (c.in-Err-Failed.ensures.failed c.in-Err-Failed.count (ap Err c.in-Err-Failed.field-0-is)) st frames)
+    rw c.entry-in-Err-Failed.ensures
+    (write_failed c.args.self.now c.args.victim c.in-Err-Failed.count c.args.space.now c.write_out.new.self c.requires.phase
+    (c.in-Err-Failed.ensures.failed c.in-Err-Failed.count (ap Err c.in-Err-Failed.field-0-is)) st frames)
 
 pub returns-in-Err-NoMemory-clause-none : goal.returns-in-Err-NoMemory-clause-none
 returns-in-Err-NoMemory-clause-none g c =
-    write_lacks_memory c.args.self.now c.args.victim c.args.space.now c.write_out.new.self c.requires.phase (c.in-Err-NoMemory.ensures.no_memory (ap Err c.in-Err-NoMemory.field-0-is))
+    write_lacks_memory c.args.self.now c.args.victim c.args.space.now c.write_out.new.self c.requires.phase
+    (c.in-Err-NoMemory.ensures.no_memory (ap Err c.in-Err-NoMemory.field-0-is))

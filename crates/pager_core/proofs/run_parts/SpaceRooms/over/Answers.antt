@@ -13,14 +13,18 @@ pub loop-room-preserved : goal.loop-room-preserved
 loop-room-preserved g c =
     let made = c.over.ensures.made in
     let before = c.loop-room.invariant in
-    let fewer_rooms : length c.loop-room.rooms.items ≡ length c.pop.new.self.items + 1 = ap length c.in-Some.ensures.items ∙ length_push c.pop.new.self.items c.in-Some.room in
-    let fewer_stores : length c.loop-room.stores.items ≡ length c.pop-in-Some.new.self.items + 1 = ap length c.in-Some-pop.ensures.items ∙ length_push c.pop-in-Some.new.self.items c.in-Some-pop.store in
-    let more : length c.push_reserved.new.self.items ≡ length c.loop-room.spaces.items + 1 = ap length c.push_reserved.ensures.items ∙ length_push c.loop-room.spaces.items c.over.result in
+    let fewer_rooms : length c.loop-room.rooms.items ≡ length c.pop.new.self.items + 1 = ap length c.in-Some.ensures.items
+    ∙ length_push c.pop.new.self.items c.in-Some.room in
+    let fewer_stores : length c.loop-room.stores.items ≡ length c.pop-in-Some.new.self.items + 1 =
+    ap length c.in-Some-pop.ensures.items ∙ length_push c.pop-in-Some.new.self.items c.in-Some-pop.store in
+    let more : length c.push_reserved.new.self.items ≡ length c.loop-room.spaces.items + 1 = ap length c.push_reserved.ensures.items
+    ∙ length_push c.loop-room.spaces.items c.over.result in
     record {
       count = omega (arith, before.count, fewer_rooms, more);
       alike = λ room all.
           let own = before.alike room all in
-          let left = All-pop (λ r. r ≡ room) c.loop-room.rooms.items c.pop.new.self.items (Some c.in-Some.room) c.in-Some.ensures.items own.0 in (
+          let left = All-pop (λ r. r ≡ room) c.loop-room.rooms.items c.pop.new.self.items
+          (Some c.in-Some.room) c.in-Some.ensures.items own.0 in (
             left.0,
             AreNew-push room c.loop-room.spaces.items c.push_reserved.new.self.items c.over.result own.1 c.push_reserved.ensures.items
                 (λ told zeros. record {
@@ -28,11 +32,17 @@ loop-room-preserved g c =
                   frames_are = made.1 ∙ ap (λ (r : Capacity). r.frames) left.1;
                   processors_are = made.2 ∙ ap (λ (r : Capacity). r.processors) left.1;
                   resting = made.4;
-                  stands = subst (λ (z : SizeSet). StandsFor c.over.result (empty_state z told c.over.result.store.faults)) (ap (λ (r : Capacity). r.sizes) left.1) (c.over.ensures.stands told zeros);
+                  stands = subst (λ (z : SizeSet). StandsFor c.over.result (empty_state z told c.over.result.store.faults))
+                      (ap (λ (r : Capacity). r.sizes) left.1) (c.over.ensures.stands told zeros);
                 }),
           );
-      stores = in_order-more g.S.Store.seen c.args.stores.now.items c.loop-room.stores.items c.pop-in-Some.new.self.items c.in-Some-pop.store c.loop-room.spaces.items c.push_reserved.new.self.items c.over.result
-          before.stores c.in-Some-pop.ensures.items c.push_reserved.ensures.items made.3;
+      stores =
+          in_order-more g.S.Store.seen c.args.stores.now.items c.pop-in-Some.new.self.items c.in-Some-pop.store
+          c.loop-room.spaces.items c.over.result
+          (before.stores ∙ ap (λ l. map g.S.Store.seen l ++ reverse (map (λ (k : Kept). k.store) c.loop-room.spaces.items))
+          c.in-Some-pop.ensures.items) made.3
+          ∙ ap (λ l. map g.S.Store.seen c.pop-in-Some.new.self.items ++ reverse (map (λ (k : Kept). k.store) l))
+          (sym c.push_reserved.ensures.items);
       enough = omega (arith, before.enough, fewer_rooms, fewer_stores);
       room = omega (arith, before.room, fewer_rooms, more, c.push_reserved.ensures.capacity);
       capacity = c.in-Some-pop.ensures.capacity ∙ before.capacity;
@@ -43,8 +53,10 @@ count : (g : Over) (c : goal.After-drop-rooms g) → length c.loop-room.spaces.i
 count g c = omega (arith, c.loop-room.invariant.count, c.in_default.ensures.cases.0, c.loop-room.rooms.ok.0)
 
 order : (g : Over) (c : goal.After-drop-rooms g)
-    → map g.S.Store.seen (reverse c.args.stores.now.items) ≡ map (λ (k : Kept). k.store) c.loop-room.spaces.items ++ map g.S.Store.seen (reverse c.loop-room.stores.items)
-order g c = in_order g.S.Store.seen c.loop-room.stores.items c.args.stores.now.items (map (λ (k : Kept). k.store) c.loop-room.spaces.items) c.loop-room.invariant.stores
+    → map g.S.Store.seen (reverse c.args.stores.now.items) ≡ map (λ (k : Kept). k.store) c.loop-room.spaces.items
+    ++ map g.S.Store.seen (reverse c.loop-room.stores.items)
+order g c = in_order g.S.Store.seen c.loop-room.stores.items c.args.stores.now.items
+    (map (λ (k : Kept). k.store) c.loop-room.spaces.items) c.loop-room.invariant.stores
 
 pub returns-clause-stores : goal.returns-clause-stores
 returns-clause-stores g c = order g c
@@ -53,4 +65,5 @@ pub returns-clause-left : goal.returns-clause-left
 returns-clause-left g c = sym (left_over c.loop-room.spaces.items _ _ (length c.args.self) (order g c) (count g c))
 
 pub returns-clause-new : goal.returns-clause-new
-returns-clause-new g c = λ given over. are_new given c.args.self c.loop-room.spaces.items _ _ (order g c) (count g c) (λ room all. (c.loop-room.invariant.alike room all).1) over
+returns-clause-new g c = λ given over. are_new given c.args.self c.loop-room.spaces.items _ _ (order g c) (count g c)
+    (λ room all. (c.loop-room.invariant.alike room all).1) over

@@ -10,7 +10,8 @@ invariant-loop-room g l =
     record {
       count : length l.rooms.items + length l.spaces.items ≡ length l.fn.self;
       alike : (room : Capacity) → All (λ r. r ≡ room) l.fn.self → All (λ r. r ≡ room) l.rooms.items × AreNew room l.spaces.items;
-      stores : map g.S.Store.seen l.fn.stores.items ≡ map g.S.Store.seen l.stores.items ++ reverse (map (λ (k : Kept). k.store) l.spaces.items);
+      stores : map g.S.Store.seen l.fn.stores.items ≡ map g.S.Store.seen l.stores.items
+          ++ reverse (map (λ (k : Kept). k.store) l.spaces.items);
       enough : length l.rooms.items ≤ length l.stores.items;
       room : length l.rooms.items + length l.spaces.items ≤ vec_capacity l.spaces;
       capacity : vec_capacity l.stores ≡ vec_capacity l.fn.stores;

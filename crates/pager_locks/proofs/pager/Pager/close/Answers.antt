@@ -21,8 +21,11 @@ use Rattle.pager_locks.proofs.pager.Pager.close.Goals as goal
 
 pub close-entries-requires-clause-journal : goal.close-entries-requires-clause-journal
 close-entries-requires-clause-journal g c =
-    subst (λ j. All (λ (a : AuthorState). a.journal ≡ j) c.push_reserved.new.self.items × All (λ (p : PassState). p.journal ≡ j) c.args.passes.items) (sym c.self.invariant)
-    (journals_all g.N.Named.journal 16 _ _ _ _ _ c.into_parts.ensures.parts c.into_parts-pool.ensures c.push_reserved.ensures.items, c.requires.journal)
+    subst (λ j. All (λ (a : AuthorState). a.journal ≡ j) c.push_reserved.new.self.items
+    × All (λ (p : PassState). p.journal ≡ j) c.args.passes.items) (sym c.self.invariant) (
+      journals_all g.N.Named.journal 16 _ _ _ _ _ c.into_parts.ensures.parts c.into_parts-pool.ensures c.push_reserved.ensures.items,
+      c.requires.journal,
+    )
 
 -- what is gathered are the journal's entries
 listed : (g : Over) (c : goal.After-of-history g) → c.close-entries.result.items ≡ c.of-history.result.items
@@ -31,7 +34,8 @@ listed g c = sym (ap (λ (k : Kept). k.items) c.of-history.ensures)
 met : (g : Over) (c : goal.After-of-history g) → IsHistory g.N.Named.journal.setting (entries_in c.of-history.result.items)
 met g c =
     subst (λ h. IsHistory g.N.Named.journal.setting (entries_in h)) (listed g c)
-    (subst (λ (j : JournalName). IsHistory j.setting (entries_in c.close-entries.result.items)) c.self.invariant c.close-entries.ensures.history)
+    (subst (λ (j : JournalName). IsHistory j.setting
+    (entries_in c.close-entries.result.items)) c.self.invariant c.close-entries.ensures.history)
 
 rests : (g : Over) (c : goal.After-of-history g)
     → AreAtRest g.N.Named.journal.setting (entries_in c.of-history.result.items) c.into_parts.new.spaces.items c.into_parts-pool.result.0
@@ -53,24 +57,29 @@ pub returns-clause-numbered : goal.returns-clause-numbered
 returns-clause-numbered g c = subst IsNumbered (listed g c.before ∙ kept g c) (IsNumbered-closed _ c.close-entries.ensures.numbers)
 
 pub returns-clause-passes : goal.returns-clause-passes
-returns-clause-passes g c = subst (λ h. All (λ (p : PassState). IsOwnOf p (entries_in h)) c.args.passes.items) (listed g c.before ∙ kept g c) c.close-entries.ensures.passes
+returns-clause-passes g c = subst (λ h. All (λ (p : PassState). IsOwnOf p (entries_in h)) c.args.passes.items)
+    (listed g c.before ∙ kept g c) c.close-entries.ensures.passes
 
 pub returns-clause-laws : goal.returns-clause-laws
-returns-clause-laws g c = subst (λ h. KeepsLawsAllAlong g.N.Named.journal.setting (entries_in h)) (kept g c) (KeepsLawsAllAlong-legal _ _ (met g c.before).legal)
+returns-clause-laws g c = subst (λ h. KeepsLawsAllAlong g.N.Named.journal.setting (entries_in h)) (kept g c)
+    (KeepsLawsAllAlong-legal _ _ (met g c.before).legal)
 
 pub returns-clause-never_short : goal.returns-clause-never_short
-returns-clause-never_short g c = subst (λ h. IsNeverShort g.N.Named.journal.setting (entries_in h)) (kept g c) (IsNeverShort-legal _ _ (met g c.before).legal)
+returns-clause-never_short g c = subst (λ h. IsNeverShort g.N.Named.journal.setting (entries_in h)) (kept g c)
+    (IsNeverShort-legal _ _ (met g c.before).legal)
 
 pub returns-clause-none_held : goal.returns-clause-none_held
 returns-clause-none_held g c =
     subst (λ h. NothingHeld (frames_at g.N.Named.journal.setting (entries_in h))) (kept g c)
     (NothingHeld-legal _ _ (met g c.before).legal
     (whole_at g.N.Named.journal c.args.passes.items _ c.requires.processors c.requires.whole
-    (subst (λ h. All (λ (p : PassState). IsOwnOf p (entries_in h)) c.args.passes.items) (listed g c.before) c.close-entries.ensures.passes)))
+    (subst (λ h. All (λ (p : PassState). IsOwnOf p (entries_in h)) c.args.passes.items)
+    (listed g c.before) c.close-entries.ensures.passes)))
 
 pub returns-clause-stores : goal.returns-clause-stores
 returns-clause-stores g c =
-    subst (λ h. StoresEnd g.N.Named.journal.setting h (map g.S.Store.seen c.of.result.stores.items)) (kept g c) (c.of.ensures.ends g.N.Named.journal.setting (rests g c.before))
+    subst (λ h. StoresEnd g.N.Named.journal.setting h (map g.S.Store.seen c.of.result.stores.items)) (kept g c)
+    (c.of.ensures.ends g.N.Named.journal.setting (rests g c.before))
 
 pub returns-clause-count : goal.returns-clause-count
 returns-clause-count g c =
@@ -79,4 +88,5 @@ returns-clause-count g c =
     omega (arith, c.of.ensures.count, count, none)
 
 pub returns-clause-summary : goal.returns-clause-summary
-returns-clause-summary g c = c.of.ensures.summary g.N.Named.journal.setting (rests g c.before) ∙ ap (λ h. counts g.N.Named.journal.setting (entries_in h)) (kept g c)
+returns-clause-summary g c = c.of.ensures.summary g.N.Named.journal.setting (rests g c.before)
+    ∙ ap (λ h. counts g.N.Named.journal.setting (entries_in h)) (kept g c)

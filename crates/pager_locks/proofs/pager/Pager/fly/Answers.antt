@@ -16,5 +16,10 @@ returns g c =
     let r = c.requires in
     let known = known_here g.N.Named.journal c.args.pass _ r.pass.journal c.processor-processor.ensures.number c.processor-processor.ensures.known in
     MakesCall-ended g.N.Named.journal c.args.pass c.args.flight r.pass r.next r.can known c.fly_on.result.0 c.fly_on.result.1
-    (c.fly_on.ensures.flying (record { pass = c.args.pass; before = 0; number = c.args.flight.number; job = Call (call_in c.args.flight.purpose) }) (IsFlying-start g.N.Named.journal c.args.pass c.args.flight r.pass r.next r.can known))
+    (c.fly_on.ensures.flying (record {
+      pass = c.args.pass;
+      before = 0;
+      number = c.args.flight.number;
+      job = Call (call_in c.args.flight.purpose);
+    }) (IsFlying-start g.N.Named.journal c.args.pass c.args.flight r.pass r.next r.can known))
     c.fly_on.ensures.ended

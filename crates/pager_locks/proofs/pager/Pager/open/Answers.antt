@@ -11,7 +11,8 @@ unreachable-requires g c =
 
 pub of-locks-requires-clause-left : goal.of-locks-requires-clause-left
 of-locks-requires-clause-left g c κs within =
-    AreLeft-new g.N.Named.journal _ _ _ _ _ _ _ c.requires.parts c.in-Some.ensures.items c.reverse.ensures.items c.reverse-2.ensures.items
+    rw c.reverse.ensures.items (rw c.reverse-2.ensures.items
+    (AreLeft-new g.N.Named.journal _ _ _ _ _ c.requires.parts c.in-Some.ensures.items))
 
 pub new-requires : goal.new-requires
 new-requires g c = IsPoolAt-new g.N.Named.journal _ _ _ _ _ c.requires.parts c.in-Some.ensures.items
@@ -23,6 +24,16 @@ invariant_of-new g c =
     let count = c.requires.parts.spaces_are.count in
     record {
       no_spaces = (locks.empty.0, omega (arith, locks.room.0, c.reverse.ensures.capacity, count, c.args.spaces.ok.0));
-      no_authors = (locks.empty.1, omega (arith, locks.room.1, c.reverse-2.ensures.capacity, c.in-Some.ensures.capacity, many, c.args.authors.ok.0));
+      no_authors = (
+        locks.empty.1,
+        omega (
+          arith,
+          locks.room.1,
+          c.reverse-2.ensures.capacity,
+          c.in-Some.ensures.capacity,
+          many,
+          c.args.authors.ok.0,
+        ),
+      );
       no_stores = c.requires.stores;
     }

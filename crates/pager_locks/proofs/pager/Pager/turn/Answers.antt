@@ -8,8 +8,11 @@ pub fly_on-requires-clause-flying : goal.fly_on-requires-clause-flying
 fly_on-requires-clause-flying g c κs within =
     let j = g.N.Named.journal in
     let known = known_here j c.args.pass _ c.requires.pass.journal c.processor.ensures.number c.processor.ensures.known in
-    let from : Departure = from_turn j c.args.pass c.processor.result c.args.mark c.requires.pass c.processor.ensures.number known in
-    (from, subst (λ (f : Flight). IsFlying j from f c.args.pass) (sym c.of_turn-flight.ensures) (IsFlying-turn j c.args.pass c.processor.result c.args.mark c.requires.pass c.processor.ensures.number known))
+    let from : Departure = from_turn j c.args.pass c.processor.result c.args.mark c.requires.pass c.processor.ensures.number known in (
+      from,
+      subst (λ (f : Flight). IsFlying j from f c.args.pass) (sym c.of_turn-flight.ensures)
+          (IsFlying-turn j c.args.pass c.processor.result c.args.mark c.requires.pass c.processor.ensures.number known),
+    )
 
 pub returns : goal.returns
 returns g c =

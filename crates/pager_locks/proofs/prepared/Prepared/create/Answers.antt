@@ -1,6 +1,7 @@
 use Rattle.std.proofs.Common.{◌≡◌, ℕ, List, length, map, reverse, ap, sym, subst, ◌∙◌, arith}
 use Rattle.std.proofs.lemmas.List.{length-reverse, take_all, nil_from_length}
 use Rattle.std.proofs.Math.ListN.{length-map}
+use Rattle.pager_model.specs.FrameStates.{start_frames}
 use Rattle.pager_model.specs.Settings.{Given}
 use Rattle.pager_model.specs.SizeSets.{SizeSet}
 use Rattle.pager_model.specs.Stored.{Stored}
@@ -12,36 +13,55 @@ use Rattle.pager_locks.proofs.OpenedPagers.{AreNewParts-made}
 use Rattle.pager_locks.proofs.prepared.Prepared.create.Goals as goal
 
 -- a space for each store
-told : {P : Type 0} (seen : P → Stored) (frames : ℕ) (z : SizeSet) (marks : List ℕ) (stores slice : List P) (given : Given) → slice ≡ stores
-    → given ≡ given_over frames z marks (map seen slice) → length given.told ≡ length stores
-told seen frames z marks stores slice given same is =
-    ap (λ (g : Given). length g.told) is ∙ length-map (map seen slice) (λ (s : Stored). s.told) ∙ length-map slice seen ∙ ap length same
+told : {P : Type 0} (seen : P → Stored) (frames : ℕ) (z : SizeSet) (marks : List ℕ) (stores : List P) (given : Given)
+    → given ≡ given_over frames z marks (map seen stores) → length given.told ≡ length stores
+told seen frames z marks stores given is =
+    ap (λ (g : Given). length g.told) is ∙ length-map (map seen stores) (λ (s : Stored). s.told) ∙ length-map stores seen
 
 -- the rooms of a pager, once its stores are turned round
-rooms_turned : {P : Type 0} (seen : P → Stored) (frames : ℕ) (z : SizeSet) (marks : List ℕ) (stores slice turned : List P) (given : Given) (rooms : List Capacity)
-    → slice ≡ stores → turned ≡ reverse stores → given ≡ given_over frames z marks (map seen slice)
-    → AreRoomsOver given (map seen slice) rooms → AreRoomsTurned seen turned given rooms (length stores)
-rooms_turned seen frames z marks stores slice turned given rooms same round is over =
+all_turned : {P : Type 0} (seen : P → Stored) (stores turned : List P) (given : Given) (rooms : List Capacity) → turned ≡ reverse stores
+    → length given.told ≡ length stores → AreRoomsOver given (map seen stores) rooms
+    → AreRoomsTurned seen turned given rooms (length stores)
+all_turned seen stores turned given rooms round count over =
     let many = length-map stores seen in
-    turned_rooms seen stores turned given rooms (length stores) round (omega arith) (told seen frames z marks stores slice given same is)
-    (subst (λ l. AreRoomsOver given l rooms) (ap (map seen) same ∙ sym (take_all (length stores) (map seen stores) (omega (arith, many)))) over)
+    turned_rooms seen stores turned given rooms (length stores) round (omega arith) count
+    (subst (λ l. AreRoomsOver given l rooms) (sym (take_all (length stores) (map seen stores) (omega (arith, many)))) over)
 
 pub over-spaces-requires : goal.over-spaces-requires
 over-spaces-requires g c =
-    (c.type_bounds.send-S, (rooms_turned g.S.Store.seen c.args.frames c.args.sizes c.args.marks.now c.args.stores.items _ c.reverse.new.self.items _ _ c.as_slice.ensures.value c.reverse.ensures.items c.in-Ok.ensures.setting c.in-Ok.ensures.spaces).enough)
+    let room = c.in-Ok.ensures in
+    let is =
+    subst (λ l. c.in-Ok.room.setting ≡ given_over c.args.frames c.args.sizes c.args.marks.now (map g.S.Store.seen l))
+    c.as_slice.ensures.value room.setting in
+    let over =
+    subst (λ l. AreRoomsOver c.in-Ok.room.setting (map g.S.Store.seen l) c.in-Ok.room.spaces) c.as_slice.ensures.value room.spaces in
+    let count = told g.S.Store.seen c.args.frames c.args.sizes c.args.marks.now c.args.stores.items _ is in (
+      c.type_bounds.send-S,
+      (all_turned g.S.Store.seen c.args.stores.items c.reverse.new.self.items _ _
+          c.reverse.ensures.items count over).enough,
+    )
 
 pub invariant_of-result : goal.invariant_of-result
 invariant_of-result g c =
     let room = c.in-Ok.ensures in
     let opened = c.in-Ok-create.ensures in
-    let turned = rooms_turned g.S.Store.seen c.args.frames c.args.sizes c.args.marks.now c.args.stores.items _ c.reverse.new.self.items _ _ c.as_slice.ensures.value c.reverse.ensures.items room.setting room.spaces in
-    let count = told g.S.Store.seen c.args.frames c.args.sizes c.args.marks.now c.args.stores.items _ _ c.as_slice.ensures.value room.setting in
-    let same : length c.in-Ok-create.opened.journal.name.setting.told ≡ length c.in-Ok.room.setting.told = ap (λ (given : Given). length given.told) opened.setting in
-    let long = as_long g.S.Store.seen c.reverse.new.self.items c.over-spaces.new.stores.items (length c.in-Ok.room.spaces) c.over-spaces.ensures.left turned.enough in
-    let round : length c.reverse.new.self.items ≡ length c.args.stores.items = ap length c.reverse.ensures.items ∙ length-reverse c.args.stores.items in
+    let is =
+    subst (λ l. c.in-Ok.room.setting ≡ given_over c.args.frames c.args.sizes c.args.marks.now (map g.S.Store.seen l))
+    c.as_slice.ensures.value room.setting in
+    let over =
+    subst (λ l. AreRoomsOver c.in-Ok.room.setting (map g.S.Store.seen l) c.in-Ok.room.spaces) c.as_slice.ensures.value room.spaces in
+    let count = told g.S.Store.seen c.args.frames c.args.sizes c.args.marks.now c.args.stores.items _ is in
+    let turned = all_turned g.S.Store.seen c.args.stores.items c.reverse.new.self.items _ _ c.reverse.ensures.items count over in
+    let same : length c.in-Ok-create.opened.journal.name.setting.told ≡ length c.in-Ok.room.setting.told =
+    ap (λ (given : Given). length given.told) opened.setting in
+    let long = as_long g.S.Store.seen c.reverse.new.self.items c.over-spaces.new.stores.items
+    (length c.in-Ok.room.spaces) c.over-spaces.ensures.left turned.enough in
+    let round : length c.reverse.new.self.items ≡ length c.args.stores.items = ap length c.reverse.ensures.items
+    ∙ length-reverse c.args.stores.items in
     let new = c.over-spaces.ensures.new c.in-Ok.room.setting turned.over in
     let many = new.count in (
-      AreNewParts-made _ _ c.args.frames c.args.sizes c.args.marks.now _ _ _ _ opened.setting room.setting (omega (arith, many, count, c.requires.stores)) new opened.authors room.pool,
+      AreNewParts-made _ _ _ _ _ opened.setting (omega (arith, many, count, c.requires.stores)) new opened.authors
+          (room.pool ∙ sym (ap (λ (x : Given). start_frames x.sizes x.frames (length x.marks)) room.setting)),
       nil_from_length c.over-spaces.new.stores.items (omega (arith, long, round, turned.count)),
       omega (arith, same, count, c.over-spaces.ensures.capacity, c.reverse.ensures.capacity, c.args.stores.ok.0, c.args.stores.ok.1),
     )
