@@ -9,28 +9,26 @@ use Rattle.std.proofs.lemmas.List.Sorted.{sum_by-IsPermutation}
 use Rattle.std.proofs.lemmas.List.Sums.{sum_by-cons}
 use Rattle.std.proofs.lemmas.Option.{none-some}
 use Rattle.pager_model.specs.Agreement.{has_frame}
-use Rattle.pager_model.specs.FrameStates.{FrameState, used_at, held_by, claim_in, frame_of, held_given, give_page, is_wired_place, is_claimed_place}
+use Rattle.pager_model.specs.FrameStates.{FrameState, layout_of, used_at, held_by, claim_in, frame_of, held_given, give_page, is_wired_place, is_claimed_place}
 use Rattle.pager_model.specs.Options.{is_that}
 use Rattle.pager_model.proofs.CountLemmas.{weight}
 use Rattle.pager_model.proofs.Lists.{get_or-set_default}
 use Rattle.pager_model.proofs.Ranges.{list_all-range}
-use Rattle.pager_laws.specs.Laid.{IsSound}
+use Rattle.pager_laws.specs.Laid.{IsLaid, IsSound}
 use Rattle.pager_laws.proofs.PageMoves.{GivesPage, GivesPage-give_page}
 use Rattle.pager_laws.proofs.Partition.{count-once, is_that-same}
 use Rattle.pager_laws.proofs.StateSoundness.{IsSound-give_page}
 use Rattle.contiguity_plan.specs.declared.plan.PageOf.{PageOf}
 use Rattle.contiguity_plan.specs.declared.plan.Plan.{Plan}
-use Rattle.contiguity_plan.specs.Emptying.{is_fixed, is_used_frame, MayBeEmptied, AreItsPages, IsPlanned, given_up, IsUnused, Empties}
-
-place_of : FrameState → PageOf → Option ℕ
-place_of st p = frame_of st p.space p.page
+use Rattle.contiguity_plan.specs.Emptying.{is_fixed, is_used_frame, MayBeEmptied, AreItsPages, IsPlanned, given_up, Empties}
 
 count-cons : {X : Type 0} (p : X → Bool) (x : X) (xs : List X) → count_by p (x ∷ xs) ≡ weight (p x) + count_by p xs
 count-cons p x xs = sum_by-cons (λ y. weight (p y)) x xs
 
 count-map : {X Y : Type 0} (p : Y → Bool) (f : X → Y) (xs : List X) → count_by p (map f xs) ≡ count_by (λ x. p (f x)) xs
 count-map p f [] = refl
-count-map p f (x ∷ xs) = count-cons p (f x) (map f xs) ∙ ap (λ n. weight (p (f x)) + n) (count-map p f xs) ∙ sym (count-cons (λ y. p (f y)) x xs)
+count-map p f (x ∷ xs) = count-cons p (f x) (map f xs) ∙ ap (λ n. weight (p (f x)) + n) (count-map p f xs)
+    ∙ sym (count-cons (λ y. p (f y)) x xs)
 
 -- how many of the pages have the frame
 abbrev having : FrameState → ℕ → List PageOf → ℕ
@@ -39,7 +37,8 @@ having st f ps = count_by (λ q. is_that f (frame_of st q.space q.page)) ps
 -- each of the pages has a frame that nobody claims and that none of those after it has
 AreLoose : FrameState → List PageOf → Type 0
 AreLoose st [] = Unit {0}
-AreLoose st (p ∷ ps) = (f : ℕ) × (frame_of st p.space p.page ≡ Some f) × (claim_in (used_at st f) ≡ None) × (having st f ps ≡ 0) × AreLoose st ps
+AreLoose st (p ∷ ps) = (f : ℕ) × (frame_of st p.space p.page ≡ Some f) × (claim_in (used_at st f) ≡ None) × (having st f ps ≡ 0)
+    × AreLoose st ps
 
 -- the page has no frame, or one that is claimed
 is_bad : FrameState → Option ℕ → Bool
@@ -50,7 +49,13 @@ AreLoose-from : (st : FrameState) (ps : List PageOf) → ((f : ℕ) → having s
     → count_by (λ (q : PageOf). is_bad st (frame_of st q.space q.page)) ps ≡ 0 → AreLoose st ps
 unfolding AreLoose is_bad
 AreLoose-from st [] once good = tt
-AreLoose-from st (p ∷ ps) once good = by_place (frame_of st p.space p.page) refl (AreLoose-from st ps (λ f. let all = once f in let split = count-cons (λ (q : PageOf). is_that f (frame_of st q.space q.page)) p ps in omega (arith, all, split)) (let split = count-cons (λ (q : PageOf). is_bad st (frame_of st q.space q.page)) p ps in omega (arith, good, split)))
+AreLoose-from st (p ∷ ps) once good = by_place (frame_of st p.space p.page) refl
+    (AreLoose-from st ps
+    (λ f.
+    let all = once f in
+    let split = count-cons (λ (q : PageOf). is_that f (frame_of st q.space q.page)) p ps in
+    omega (arith, all, split))
+    (let split = count-cons (λ (q : PageOf). is_bad st (frame_of st q.space q.page)) p ps in omega (arith, good, split)))
   where
     head : weight (is_bad st (frame_of st p.space p.page)) ≡ 0
     head = let split = count-cons (λ (q : PageOf). is_bad st (frame_of st q.space q.page)) p ps in omega (arith, good, split)
@@ -73,10 +78,10 @@ AreLoose-from st (p ∷ ps) once good = by_place (frame_of st p.space p.page) re
         (f, is, unclaimed (claim_in (used_at st f)) free, omega (arith, all, split, mine), rest)
 
 -- What one page's giving up leaves.
-module _ (frames processors : ℕ) (st : FrameState) (p : PageOf) (f : ℕ) (sound : IsSound frames processors st)
+module _ (st : FrameState) (p : PageOf) (f : ℕ) (laid : IsLaid (layout_of st))
     (is : frame_of st p.space p.page ≡ Some f) (free : claim_in (used_at st f) ≡ None) where
   gives : GivesPage st (give_page st p.space p.page) f
-  gives = GivesPage-give_page st p.space p.page f sound.laid is
+  gives = GivesPage-give_page st p.space p.page f laid is
 
   held_same : (give_page st p.space p.page).held ≡ st.held
   held_same = gives.held ∙ ap (λ o. held_given o f st.held) free
@@ -93,7 +98,8 @@ module _ (frames processors : ℕ) (st : FrameState) (p : PageOf) (f : ℕ) (sou
   other_used : (g : ℕ) → g ≢ f → used_at (give_page st p.space p.page) g ≡ used_at st g
   other_used g other = ap (λ u. get_or u g None) gives.used ∙ get_or-set_other st.used f g None None other
 
-  same_that : (g : ℕ) (q : PageOf) → g ≢ f → is_that g (frame_of (give_page st p.space p.page) q.space q.page) ≡ is_that g (frame_of st q.space q.page)
+  same_that : (g : ℕ) (q : PageOf) → g ≢ f
+      → is_that g (frame_of (give_page st p.space p.page) q.space q.page) ≡ is_that g (frame_of st q.space q.page)
   same_that g q other = elim (cases_Bool (is_that g (frame_of st q.space q.page))) [
     | inl passes ↦
         let at = (gives.pages q.space q.page g).1 (other, is_that-same g (frame_of st q.space q.page) passes) in
@@ -121,7 +127,8 @@ module _ (frames processors : ℕ) (st : FrameState) (p : PageOf) (f : ℕ) (sou
       let split = count-cons (λ (r : PageOf). is_that f (frame_of st r.space r.page)) q qs in
       let g = loose.0 in
       let other : g ≢ f = λ same.
-      (let mine : weight (is_that f (frame_of st q.space q.page)) ≡ 1 = ap (λ o. weight (is_that f o)) (loose.1 ∙ ap Some same) ∙ ap weight (eq-eqb f f refl) in
+      (let mine : weight (is_that f (frame_of st q.space q.page)) ≡ 1 = ap (λ o. weight (is_that f o)) (loose.1 ∙ ap Some same)
+      ∙ ap weight (eq-eqb f f refl) in
       absurd (omega (arith, apart, split, mine))) in (
         g,
         (gives.pages q.space q.page g).1 (other, loose.1),
@@ -140,21 +147,24 @@ record GivenUp (frames processors : ℕ) (st after : FrameState) (ps : List Page
 GivenUp-all : (frames processors : ℕ) (ps : List PageOf) (st : FrameState) → IsSound frames processors st → AreLoose st ps
     → GivenUp frames processors st (given_up st ps) ps
 unfolding AreLoose
-GivenUp-all frames processors [] st sound loose = record { sound = sound; held = refl; none = λ g none. none; given = λ g some. absurd (omega (arith, some)) }
+GivenUp-all frames processors [] st sound loose =
+    record { sound = sound; held = refl; none = λ g none. none; given = λ g some. absurd (omega (arith, some)) }
 GivenUp-all frames processors (p ∷ ps) st sound loose =
     let f = loose.0 in
     let next = give_page st p.space p.page in
-    let rest = GivenUp-all frames processors ps next (IsSound-give_page frames processors st p.space p.page f sound loose.1) (loose_after frames processors st p f sound loose.1 loose.2 ps loose.3 loose.4) in
+    let rest = GivenUp-all frames processors ps next (IsSound-give_page frames processors st p.space p.page f sound loose.1)
+    (loose_after st p f sound.laid loose.1 loose.2 ps loose.3 loose.4) in
     record {
       sound = rest.sound;
-      held = rest.held ∙ held_same frames processors st p f sound loose.1 loose.2;
-      none = λ g none. rest.none g (none_stays frames processors st p f sound loose.1 loose.2 g none);
+      held = rest.held ∙ held_same st p f sound.laid loose.1 loose.2;
+      none = λ g none. rest.none g (none_stays st p f sound.laid loose.1 loose.2 g none);
       given = λ g some. elim (cases_eq g f) [
-        | inl same ↦ rest.none g (ap (used_at next) same ∙ none_here frames processors st p f sound loose.1 loose.2)
+        | inl same ↦ rest.none g (ap (used_at next) same ∙ none_here st p f sound.laid loose.1 loose.2)
         | inr other ↦
             let split = count-cons (λ (r : PageOf). is_that g (frame_of st r.space r.page)) p ps in
-            let elsewhere : weight (is_that g (frame_of st p.space p.page)) ≡ 0 = ap (λ o. weight (is_that g o)) loose.1 ∙ ap weight (ne_eqb f g (λ same. other (sym same))) in
-            let same = having_same frames processors st p f sound loose.1 loose.2 g ps other in
+            let elsewhere : weight (is_that g (frame_of st p.space p.page)) ≡ 0 = ap (λ o. weight (is_that g o)) loose.1
+            ∙ ap weight (ne_eqb f g (λ same. other (sym same))) in
+            let same = having_same st p f sound.laid loose.1 loose.2 g ps other in
             rest.given g (omega (arith, some, split, elsewhere, same))
       ];
     }
@@ -170,7 +180,8 @@ good_in used bad a (suc n) good =
     let later = good_in used bad (a + 1) n (λ f low high. good f (omega (arith, low)) (omega (arith, high))) in
     elim (cases_Bool (used a)) [
       | inl passes ↦
-          let split = ap (λ l. count_by bad (map Some l)) (cond-true (used a) (a ∷ rest) rest passes) ∙ count-cons bad (Some a) (map Some rest) in
+          let split = ap (λ l. count_by bad (map Some l)) (cond-true (used a) (a ∷ rest) rest passes)
+          ∙ count-cons bad (Some a) (map Some rest) in
           let mine : weight (bad (Some a)) ≡ 0 = ap weight (good a (omega arith) (omega arith)) in
           omega (arith, split, mine, later)
       | inr fails ↦ ap (λ l. count_by bad (map Some l)) (cond-false (used a) (a ∷ rest) rest fails) ∙ later
@@ -178,12 +189,14 @@ good_in used bad a (suc n) good =
 
 -- a frame of a range is counted once where it is used, and no frame twice
 once_in : (used : ℕ → Bool) (f a n : ℕ)
-    → (count_by (is_that f) (map Some (filter used (range_with_len a n))) ≤ 1) × (a ≤ f → f < a + n → used f ≡ true → 1 ≤ count_by (is_that f) (map Some (filter used (range_with_len a n))))
+    → (count_by (is_that f) (map Some (filter used (range_with_len a n))) ≤ 1)
+    × (a ≤ f → f < a + n → used f ≡ true → 1 ≤ count_by (is_that f) (map Some (filter used (range_with_len a n))))
 once_in used f a zero = (omega arith, λ low high is. absurd (omega (arith, low, high)))
 once_in used f a (suc n) = elim (cases_Bool (used a)) [
   | inl passes ↦
       let rest = filter used (range_with_len (a + 1) n) in
-      let split = ap (λ l. count_by (is_that f) (map Some l)) (cond-true (used a) (a ∷ rest) rest passes) ∙ count-cons (is_that f) (Some a) (map Some rest) in
+      let split = ap (λ l. count_by (is_that f) (map Some l)) (cond-true (used a) (a ∷ rest) rest passes)
+      ∙ count-cons (is_that f) (Some a) (map Some rest) in
       elim (cases_eq a f) [
         | inl same ↦
             let mine : weight (is_that f (Some a)) ≡ 1 = ap weight (eq-eqb a f same) in
@@ -191,8 +204,11 @@ once_in used f a (suc n) = elim (cases_Bool (used a)) [
             (omega (arith, split, mine, after), λ low high is. omega (arith, split, mine, after))
         | inr other ↦
             let mine : weight (is_that f (Some a)) ≡ 0 = ap weight (ne_eqb a f other) in
-            let later = once_in used f (a + 1) n in
-            (omega (arith, split, mine, later.0), λ low high is. let some = later.1 (omega (arith, low, other)) (omega (arith, high)) is in omega (arith, split, mine, some))
+            let later = once_in used f (a + 1) n in (
+              omega (arith, split, mine, later.0),
+              λ low high is. let some = later.1 (omega (arith, low, other)) (omega (arith, high)) is in
+                  omega (arith, split, mine, some),
+            )
       ]
   | inr fails ↦
       let rest = filter used (range_with_len (a + 1) n) in
@@ -218,43 +234,54 @@ loose_parts false false true h = absurd (false≢true h)
 loose_parts false true c h = absurd (false≢true h)
 loose_parts true b c h = absurd (false≢true h)
 
-module _ (frames processors : ℕ) (st : FrameState) (sound : IsSound frames processors st) (k first : ℕ)
-    (may : MayBeEmptied st frames k first) (pages : List PageOf) (its : AreItsPages st k first pages) where
-  loose_at : (f : ℕ) → first ≤ f → f < first + 8 ^ k → (is_claimed_place (used_at st f) ≡ false) × (list_any (is_that f) st.held ≡ false)
-  loose_at f low high = loose_parts (is_wired_place (used_at st f)) (is_claimed_place (used_at st f)) (list_any (is_that f) st.held) ((list_all-range (λ g. not (is_fixed st g)) first (8 ^ k)).0 may.loose f low high)
+module _ (frames processors : ℕ) (st : FrameState) (sound : IsSound frames processors st) (plan : Plan)
+    (may : MayBeEmptied st frames plan.extent.size plan.extent.first)
+    (its : AreItsPages st plan.extent.size plan.extent.first plan.pages.items) where
+  loose_at : (f : ℕ) → plan.extent.first ≤ f → f < plan.extent.first + 8 ^ plan.extent.size
+      → (is_claimed_place (used_at st f) ≡ false) × (list_any (is_that f) st.held ≡ false)
+  loose_at f low high = loose_parts (is_wired_place (used_at st f)) (is_claimed_place (used_at st f)) (list_any (is_that f) st.held)
+      ((list_all-range (λ g. not (is_fixed st g)) plan.extent.first (8 ^ plan.extent.size)).0 may.loose f low high)
 
-  counted_in : (test : Option ℕ → Bool) (order : List PageOf) → IsPermutation pages order
-      → count_by (λ (q : PageOf). test (frame_of st q.space q.page)) order ≡ count_by test (map Some (filter (is_used_frame st) (range_with_len first (8 ^ k))))
+  counted_in : (test : Option ℕ → Bool) (order : List PageOf) → IsPermutation plan.pages.items order
+      → count_by (λ (q : PageOf). test (frame_of st q.space q.page)) order
+      ≡ count_by test (map Some (filter (is_used_frame st) (range_with_len plan.extent.first (8 ^ plan.extent.size))))
   counted_in test order permuted =
-      sum_by-IsPermutation (λ (q : PageOf). weight (test (frame_of st q.space q.page))) pages order permuted
-      ∙ sym (count-map test (λ (q : PageOf). frame_of st q.space q.page) pages)
+      sum_by-IsPermutation (λ (q : PageOf). weight (test (frame_of st q.space q.page))) plan.pages.items order permuted
+      ∙ sym (count-map test (λ (q : PageOf). frame_of st q.space q.page) plan.pages.items)
       ∙ ap (count_by test) its
 
-  emptied : (order : List PageOf) (frame : ℕ) → IsPermutation pages order → first ≤ frame → frame < first + 8 ^ k → IsUnused (given_up st order) frame
+  emptied : Empties st plan
   unfolding is_bad
   emptied order frame permuted low high =
       let used = is_used_frame st in
       let loose = AreLoose-from st order
-      (λ f. let same = counted_in (is_that f) order permuted in let one = (once_in used f first (8 ^ k)).0 in omega (arith, same, one))
-      (counted_in (is_bad st) order permuted ∙ good_in used (is_bad st) first (8 ^ k) (λ f low high. (loose_at f low high).0)) in
+      (λ f. let same = counted_in (is_that f) order permuted in let one = (once_in used f plan.extent.first (8 ^ plan.extent.size)).0 in
+      omega (arith, same, one))
+      (counted_in (is_bad st) order permuted ∙ good_in used (is_bad st) plan.extent.first (8 ^ plan.extent.size)
+      (λ f low high. (loose_at f low high).0)) in
       let all = GivenUp-all frames processors order st sound loose in
       let after = given_up st order in
       let unused : used_at after frame ≡ None = by_use (used_at st frame) refl all in
       elim (all.sound.accounted frame (omega (arith, high, may.within))) [
         | inl within ↦ elim within [
           | inl free ↦ inl free
-          | inr place ↦ inr (count-once (has_frame frame) after.records None place.0 refl place.1 (λ other also. all.sound.laid.apart frame other place.0 also place.1), unused)
+          | inr place ↦ inr (
+            count-once (has_frame frame) after.records None place.0 refl place.1
+                (λ other also. all.sound.laid.apart frame other place.0 also place.1),
+            unused,
+          )
         ]
         | inr holds ↦
             let was : held_by st holds.0 ≡ Some frame = ap (λ h. get_or h holds.0 None) (sym all.held) ∙ holds.1 in
             absurd (false≢true (sym (loose_at frame low high).1 ∙ any_held st.held holds.0 frame was))
       ]
     where
-      by_use : (o : _) → used_at st frame ≡ o → GivenUp frames processors st (given_up st order) order → used_at (given_up st order) frame ≡ None
+      by_use : (o : _) → used_at st frame ≡ o → GivenUp frames processors st (given_up st order) order
+          → used_at (given_up st order) frame ≡ None
       by_use None none all = all.none frame none
       by_use (Some u) is all =
           let same = counted_in (is_that frame) order permuted in
-          let one = (once_in (is_used_frame st) frame first (8 ^ k)).1 low high (ap is_some is) in
+          let one = (once_in (is_used_frame st) frame plan.extent.first (8 ^ plan.extent.size)).1 low high (ap is_some is) in
           all.given frame (omega (arith, same, one))
 
 -- what is planned empties its extent
@@ -264,4 +291,4 @@ empties-planned frames processors st k None sound planned = tt
 empties-planned frames processors st k (Some plan) sound planned =
     let may = subst (λ s. MayBeEmptied st frames s plan.extent.first) (sym planned.0) planned.1.may in
     let its = subst (λ s. AreItsPages st s plan.extent.first plan.pages.items) (sym planned.0) planned.2 in
-    emptied frames processors st sound plan.extent.size plan.extent.first may plan.pages.items its
+    emptied frames processors st sound plan may its

@@ -64,7 +64,8 @@ count_to-more used a j past =
     one false = refl
 
 -- a frame that stays makes the cost none
-pub emptying-none : (fixed used : ℕ → Bool) (first count f : ℕ) → first ≤ f → f < first + count → fixed f ≡ true → None ≡ emptying fixed used first count
+pub emptying-none : (fixed used : ℕ → Bool) (first count f : ℕ) → first ≤ f → f < first + count → fixed f ≡ true
+    → None ≡ emptying fixed used first count
 emptying-none fixed used first count f low high stays = elim (cases_Bool (list_all (λ f. not (fixed f)) (range_with_len first count))) [
   | inl all ↦
       let loose = (list_all-range (λ f. not (fixed f)) first count).0 all f low high in
@@ -76,7 +77,8 @@ pub emptying-some : (fixed used : ℕ → Bool) (first count cost : ℕ) → ((f
     → cost ≡ count_by used (range_with_len first count)
     → Some cost ≡ emptying fixed used first count
 emptying-some fixed used first count cost loose is =
-    let all : list_all (λ f. not (fixed f)) (range_with_len first count) ≡ true = (list_all-range (λ f. not (fixed f)) first count).1 (λ f low high. ap not (loose f low high)) in
+    let all : list_all (λ f. not (fixed f)) (range_with_len first count) ≡ true =
+    (list_all-range (λ f. not (fixed f)) first count).1 (λ f low high. ap not (loose f low high)) in
     ap Some is ∙ sym (cond-true _ (Some (count_by used (range_with_len first count))) None all)
 
 pub weight-small : (b : Bool) → cond b 1 0 ≤ 1

@@ -15,15 +15,18 @@ pub legal-before : (g : Given) (history : List Numbered) (i : ℕ) (d : Numbered
     → IsLegal g (entries_in (take i history)) × MayFollow g (entries_in (take i history)) (get_or history i d).entry
 legal-before g history i d known legal =
     let rest = drop-cons history i d known in
-    let split : history ≡ take i history ++ get_or history i d ∷ drop (suc i) history = sym (take-append-drop i history) ∙ ap (λ l. take i history ++ l) rest in
+    let split : history ≡ take i history ++ get_or history i d ∷ drop (suc i) history = sym (take-append-drop i history)
+    ∙ ap (λ l. take i history ++ l) rest in
     let entries : entries_in history ≡ entries_in (take i history) ++ (get_or history i d).entry ∷ entries_in (drop (suc i) history) =
     ap entries_in split ∙ map-append (λ (n : Numbered). n.entry) (take i history) (get_or history i d ∷ drop (suc i) history) in
-    IsLegal-at g (entries_in (take i history)) (entries_in (drop (suc i) history)) (get_or history i d).entry (subst (IsLegal g) entries legal)
+    IsLegal-at g (entries_in (take i history)) (entries_in (drop (suc i) history)) (get_or history i d).entry
+    (subst (IsLegal g) entries legal)
 
 -- the space that an entry of such a history names is one of 16
 pub known-spaces : (g : Given) (frames : ℕ) (history : List Numbered) → IsOver frames g (entries_in history)
     → All (λ (n : Numbered). named_space n.entry.space < 16) history
-known-spaces g frames history over = λ k d known. below (get_or history k d).entry.space (legal-before g history k d known over.legal).1.space
+known-spaces g frames history over = λ k d known. below (get_or history k d).entry.space
+    (legal-before g history k d known over.legal).1.space
   where
     below : (o : Option ℕ) → IfSome o (λ s. s < length g.told) → named_space o < 16
     below None is = omega arith

@@ -18,7 +18,8 @@ use Rattle.contiguity_plan.specs.Tables.{Note, note_of, noted, use_in, AreRight}
 use Rattle.contiguity_plan.proofs.Extents.{extent_fits, number_of}
 use Rattle.contiguity_plan.proofs.RightTables.{note_at}
 
-kept_alike : (u : Option Use) (v : Option Used) → option_map note_of u ≡ option_map noted v → is_kept u ≡ (is_wired_place v || is_claimed_place v)
+kept_alike : (u : Option Use) (v : Option Used) → option_map note_of u ≡ option_map noted v
+    → is_kept u ≡ (is_wired_place v || is_claimed_place v)
 kept_alike None None same = refl
 kept_alike None (Some v) same = absurd (none-some _ same)
 kept_alike (Some u) None same = absurd (none-some _ (sym same))
@@ -31,11 +32,14 @@ used_alike (Some u) None same = absurd (none-some _ (sym same))
 used_alike (Some u) (Some v) same = refl
 
 -- lists that are alike at each place, and past their ends, have the same elements that pass
-same_any : (p : Option ℕ → Bool) (xs ys : List (Option ℕ)) → p None ≡ false → ((c : ℕ) → get_or xs c None ≡ get_or ys c None) → list_any p xs ≡ list_any p ys
+same_any : (p : Option ℕ → Bool) (xs ys : List (Option ℕ)) → p None ≡ false → ((c : ℕ) → get_or xs c None ≡ get_or ys c None)
+    → list_any p xs ≡ list_any p ys
 same_any p [] [] none same = refl
-same_any p [] (y ∷ ys) none same = same_any p [] ys none (λ c. same (suc c)) ∙ sym (ap (λ b. b || list_any p ys) (ap p (sym (same 0)) ∙ none))
+same_any p [] (y ∷ ys) none same = same_any p [] ys none (λ c. same (suc c))
+    ∙ sym (ap (λ b. b || list_any p ys) (ap p (sym (same 0)) ∙ none))
 same_any p (x ∷ xs) [] none same = ap (λ b. b || list_any p xs) (ap p (same 0) ∙ none) ∙ same_any p xs [] none (λ c. same (suc c))
-same_any p (x ∷ xs) (y ∷ ys) none same = ap (λ b. b || list_any p xs) (ap p (same 0)) ∙ ap (λ b. p y || b) (same_any p xs ys none (λ c. same (suc c)))
+same_any p (x ∷ xs) (y ∷ ys) none same = ap (λ b. b || list_any p xs) (ap p (same 0))
+    ∙ ap (λ b. p y || b) (same_any p xs ys none (λ c. same (suc c)))
 
 -- a cost that there is says that none stays, and how many are used
 from_emptying : (fixed used : ℕ → Bool) (first count cost : ℕ) → emptying fixed used first count ≡ Some cost
@@ -49,27 +53,35 @@ module _ (st : FrameState) (uses : List (Option Use)) (held : List (Option ℕ))
   stays_is : (f : ℕ) → stays uses held f ≡ is_fixed st f
   stays_is f =
       ap (λ b. b || list_any (is_that f) held) (kept_alike (use_in uses f) (used_at st f) (note_at uses st.used right.notes f))
-      ∙ ap (λ b. (is_wired_place (used_at st f) || is_claimed_place (used_at st f)) || b) (same_any (is_that f) held st.held refl right.hands)
+      ∙ ap (λ b. (is_wired_place (used_at st f) || is_claimed_place (used_at st f)) || b)
+      (same_any (is_that f) held st.held refl right.hands)
 
   used_is : (f : ℕ) → has_use uses f ≡ is_used_frame st f
   used_is f = used_alike (use_in uses f) (used_at st f) (note_at uses st.used right.notes f)
 
-  costs_are : (first count : ℕ) → emptying (stays uses held) (has_use uses) first count ≡ emptying (is_fixed st) (is_used_frame st) first count
+  costs_are : (first count : ℕ) → emptying (stays uses held) (has_use uses) first count
+      ≡ emptying (is_fixed st) (is_used_frame st) first count
   costs_are first count =
       let fixed : stays uses held ≡ is_fixed st = λ i f. stays_is f i in
       let used : has_use uses ≡ is_used_frame st = λ i f. used_is f i in
-      ap (λ (fx : ℕ → Bool). emptying fx (has_use uses) first count) fixed ∙ ap (λ (us : ℕ → Bool). emptying (is_fixed st) us first count) used
+      ap (λ (fx : ℕ → Bool). emptying fx (has_use uses) first count) fixed
+      ∙ ap (λ (us : ℕ → Bool). emptying (is_fixed st) us first count) used
 
   -- the pages of some frames have the used ones of them, in order
-  pages_right : (fs : List ℕ) → map (λ (p : PageOf). frame_of st p.space p.page) (pages_in uses fs) ≡ map Some (filter (is_used_frame st) fs)
+  pages_right : (fs : List ℕ) → map (λ (p : PageOf). frame_of st p.space p.page) (pages_in uses fs)
+      ≡ map Some (filter (is_used_frame st) fs)
   pages_right [] = refl
-  pages_right (f ∷ fs) = ap (map (λ (p : PageOf). frame_of st p.space p.page)) (flat_map-cons (λ g. page_list (use_in uses g)) f fs) ∙ by_use (use_in uses f) refl (pages_right fs)
+  pages_right (f ∷ fs) = ap (map (λ (p : PageOf). frame_of st p.space p.page)) (flat_map-cons (λ g. page_list (use_in uses g)) f fs)
+      ∙ by_use (use_in uses f) refl (pages_right fs)
     where
-      by_use : (o : Option Use) → use_in uses f ≡ o → map (λ (p : PageOf). frame_of st p.space p.page) (pages_in uses fs) ≡ map Some (filter (is_used_frame st) fs)
-          → map (λ (p : PageOf). frame_of st p.space p.page) (page_list o ++ pages_in uses fs) ≡ map Some (filter (is_used_frame st) (f ∷ fs))
+      by_use : (o : Option Use) → use_in uses f ≡ o → map (λ (p : PageOf). frame_of st p.space p.page) (pages_in uses fs)
+          ≡ map Some (filter (is_used_frame st) fs)
+          → map (λ (p : PageOf). frame_of st p.space p.page) (page_list o ++ pages_in uses fs)
+          ≡ map Some (filter (is_used_frame st) (f ∷ fs))
       by_use None is rest =
           let unused : is_used_frame st f ≡ false = sym (used_is f) ∙ ap is_some is in
-          rest ∙ ap (map Some) (sym (cond-false (is_used_frame st f) (f ∷ filter (is_used_frame st) fs) (filter (is_used_frame st) fs) unused))
+          rest ∙ ap (map Some) (sym (cond-false (is_used_frame st f) (f ∷ filter (is_used_frame st) fs)
+          (filter (is_used_frame st) fs) unused))
       by_use (Some u) is rest =
           let used : is_used_frame st f ≡ true = sym (used_is f) ∙ ap is_some is in
           ap (λ (o : Option ℕ). o ∷ map (λ (p : PageOf). frame_of st p.space p.page) (pages_in uses fs)) (right.pages f u is)
@@ -84,7 +96,8 @@ module _ (st : FrameState) (uses : List (Option Use)) (held : List (Option ℕ))
         (record { extent = (small, mul-mod_left n (8 ^ k)); within = extent_fits n (8 ^ k) frames below; loose = parts.0 }, parts.1)
 
     numbered : (first : ℕ) → MayBeEmptied st frames k first
-        → (n : ℕ) × (n < frames / 8 ^ k) × (n * 8 ^ k ≡ first) × (emptying (stays uses held) (has_use uses) (n * 8 ^ k) (8 ^ k) ≡ Some (cost_of st k first))
+        → (n : ℕ) × (n < frames / 8 ^ k) × (n * 8 ^ k ≡ first) × (emptying (stays uses held) (has_use uses) (n * 8 ^ k) (8 ^ k)
+        ≡ Some (cost_of st k first))
     numbered first may =
         let at = number_of first (8 ^ k) frames (eight_pos k) may.extent.1 may.within in (
           first / 8 ^ k,
@@ -96,17 +109,20 @@ module _ (st : FrameState) (uses : List (Option Use)) (held : List (Option ℕ))
         )
 
     -- where none has a cost, none may be emptied
-    pub planned-none : ((n : ℕ) → n < frames / 8 ^ k → emptying (stays uses held) (has_use uses) (n * 8 ^ k) (8 ^ k) ≡ None) → (first : ℕ) → MayBeEmptied st frames k first → ⊥
+    pub planned-none : ((n : ℕ) → n < frames / 8 ^ k → emptying (stays uses held) (has_use uses) (n * 8 ^ k) (8 ^ k) ≡ None) → (first : ℕ)
+        → MayBeEmptied st frames k first → ⊥
     planned-none none first may = let at = numbered first may in none-some _ (sym (none at.0 at.1) ∙ at.3)
 
     -- the extent of least cost is the cheapest
-    pub planned-some : (number cost : ℕ) → IsLeast (λ n. emptying (stays uses held) (has_use uses) (n * 8 ^ k) (8 ^ k)) (frames / 8 ^ k) number cost
+    pub planned-some : (number cost : ℕ) → IsLeast (λ n. emptying (stays uses held) (has_use uses) (n * 8 ^ k) (8 ^ k))
+        (frames / 8 ^ k) number cost
         → IsCheapest st frames k (number * 8 ^ k)
     planned-some number cost best =
         let mine = found number cost best.below best.is in
         record {
           may = mine.0;
-          least = λ other may. let at = numbered other may in let less = best.least at.0 (cost_of st k other) at.1 at.3 in omega (arith, less, mine.1);
+          least = λ other may. let at = numbered other may in let less = best.least at.0 (cost_of st k other) at.1 at.3 in
+              omega (arith, less, mine.1);
           lowest = λ other may same.
               let at = numbered other may in
               let lower = best.first at.0 at.1 (at.3 ∙ ap Some (same ∙ mine.1)) in
@@ -121,17 +137,25 @@ module _ (st : FrameState) (uses : List (Option Use)) (held : List (Option ℕ))
     planned-pages first = pages_right (range_with_len first (8 ^ k))
 
 -- a table tells what is planned, whatever it is that it counts with
-pub planned-by : (st : FrameState) (uses : List (Option Use)) (held : List (Option ℕ)) (places : List (BTreeMap ℕ ℕ)) → AreRight st uses held places
-    → (frames k count number cost : ℕ) → k ≤ 3 → count ≡ 8 ^ k → IsLeast (λ n. emptying (stays uses held) (has_use uses) (n * count) count) (frames / count) number cost
+pub planned-by : (st : FrameState) (uses : List (Option Use)) (held : List (Option ℕ)) (places : List (BTreeMap ℕ ℕ))
+    → AreRight st uses held places
+    → (frames k count number cost : ℕ) → k ≤ 3 → count ≡ 8 ^ k → IsLeast (λ n. emptying (stays uses held) (has_use uses) (n * count) count)
+    (frames / count) number cost
     → IsCheapest st frames k (number * count) × AreItsPages st k (number * count) (pages_in uses (range_with_len (number * count) count))
 planned-by st uses held places right frames k count number cost small is best =
     subst (λ n. IsLeast (λ m. emptying (stays uses held) (has_use uses) (m * n) n) (frames / n) number cost
     → IsCheapest st frames k (number * n) × AreItsPages st k (number * n) (pages_in uses (range_with_len (number * n) n))) (sym is)
-    (λ least. (planned-some st uses held places right frames k small number cost least, planned-pages st uses held places right frames k small (number * 8 ^ k))) best
+    (λ least. (
+      planned-some st uses held places right frames k small number cost least,
+      planned-pages st uses held places right frames k small (number * 8 ^ k),
+    )) best
 
-pub planned-nothing : (st : FrameState) (uses : List (Option Use)) (held : List (Option ℕ)) (places : List (BTreeMap ℕ ℕ)) → AreRight st uses held places
-    → (frames k count : ℕ) → k ≤ 3 → count ≡ 8 ^ k → ((n : ℕ) → n < frames / count → emptying (stays uses held) (has_use uses) (n * count) count ≡ None)
+pub planned-nothing : (st : FrameState) (uses : List (Option Use)) (held : List (Option ℕ)) (places : List (BTreeMap ℕ ℕ))
+    → AreRight st uses held places
+    → (frames k count : ℕ) → k ≤ 3 → count ≡ 8 ^ k → ((n : ℕ) → n < frames / count
+    → emptying (stays uses held) (has_use uses) (n * count) count ≡ None)
     → (first : ℕ) → MayBeEmptied st frames k first → ⊥
 planned-nothing st uses held places right frames k count small is none =
-    subst (λ n. ((m : ℕ) → m < frames / n → emptying (stays uses held) (has_use uses) (m * n) n ≡ None) → (first : ℕ) → MayBeEmptied st frames k first → ⊥) (sym is)
+    subst (λ n. ((m : ℕ) → m < frames / n → emptying (stays uses held) (has_use uses) (m * n) n ≡ None) → (first : ℕ)
+    → MayBeEmptied st frames k first → ⊥) (sym is)
     (planned-none st uses held places right frames k small) none

@@ -17,7 +17,7 @@ use Rattle.pager_model.specs.SizeSets.{SizeSet}
 use Rattle.pager_model.proofs.Lists.{get_or-alike, get_or-set_default, set_cases, unset_before}
 use Rattle.pager_model.proofs.Options.{some_from_is_some}
 use Rattle.pager_model.proofs.Ranges.{in_bounds, bounds_in}
-use Rattle.pager_laws.specs.Laid.{IsSound}
+use Rattle.pager_laws.specs.Laid.{IsLaid, IsSound}
 use Rattle.pager_laws.proofs.GivenRanges.{give_if_used-none, give_if_used-some, give_range-lowest}
 use Rattle.pager_laws.proofs.LayoutPlacing.{WasPlaced, WasPlaced-placing}
 use Rattle.pager_laws.proofs.LegalHistories.{frame_of-start}
@@ -34,11 +34,13 @@ use Rattle.contiguity_plan.specs.Tables.{Note, note_of, noted, use_in, use_for, 
 pub note_at : (uses : List (Option Use)) (used : List (Option Used)) → map (option_map note_of) uses ≡ map (option_map noted) used
     → (f : ℕ) → option_map note_of (get_or uses f None) ≡ option_map noted (get_or used f None)
 note_at uses used same f =
-    sym (get_or-map (option_map note_of) uses f None) ∙ ap (λ (ns : List (Option Note)). get_or ns f None) same ∙ get_or-map (option_map noted) used f None
+    sym (get_or-map (option_map note_of) uses f None) ∙ ap (λ (ns : List (Option Note)). get_or ns f None) same
+    ∙ get_or-map (option_map noted) used f None
 
 -- written alike they stay alike
 notes-set : (uses : List (Option Use)) (used : List (Option Used)) → map (option_map note_of) uses ≡ map (option_map noted) used
-    → (f : ℕ) (u : Option Use) (v : Option Used) → option_map note_of u ≡ option_map noted v → map (option_map note_of) (set uses f u) ≡ map (option_map noted) (set used f v)
+    → (f : ℕ) (u : Option Use) (v : Option Used) → option_map note_of u ≡ option_map noted v
+    → map (option_map note_of) (set uses f u) ≡ map (option_map noted) (set used f v)
 notes-set uses used same f u v alike =
     map-set (option_map note_of) uses f u
     ∙ ap (λ (ns : List (Option Note)). set ns f (option_map note_of u)) same
@@ -68,20 +70,25 @@ length-held_given None frame held = refl
 length-held_given (Some d) frame held = length-set held d (Some frame)
 
 -- lists that are equal are as right
-pub AreRight-as : (st : FrameState) (uses now_uses : List (Option Use)) (held now_held : List (Option ℕ)) (places now_places : List (BTreeMap ℕ ℕ))
+pub AreRight-as : (st : FrameState) (uses now_uses : List (Option Use)) (held now_held : List (Option ℕ))
+    (places now_places : List (BTreeMap ℕ ℕ))
     → now_uses ≡ uses → now_held ≡ held → now_places ≡ places → AreRight st uses held places → AreRight st now_uses now_held now_places
 AreRight-as st uses now_uses held now_held places now_places same also too right =
-    subst (λ u. AreRight st u now_held now_places) (sym same) (subst (λ h. AreRight st uses h now_places) (sym also) (subst (AreRight st uses held) (sym too) right))
+    subst (λ u. AreRight st u now_held now_places) (sym same) (subst (λ h. AreRight st uses h now_places) (sym also)
+    (subst (AreRight st uses held) (sym too) right))
 
 -- Moves.
 
-module _ (st : FrameState) (uses : List (Option Use)) (held : List (Option ℕ)) (places : List (BTreeMap ℕ ℕ)) (right : AreRight st uses held places) where
+module _ (st : FrameState) (uses : List (Option Use)) (held : List (Option ℕ)) (places : List (BTreeMap ℕ ℕ))
+    (right : AreRight st uses held places) where
   -- an entry is counted
   pub AreRight-counted : AreRight (counted st) uses held places
-  AreRight-counted = record { notes = right.notes; pages = right.pages; places_are = right.places_are; hands = right.hands; room = right.room }
+  AreRight-counted =
+      record { notes = right.notes; pages = right.pages; places_are = right.places_are; hands = right.hands; room = right.room }
 
   -- a frame is claimed, or no more
-  pub AreRight-claimed : (frame : ℕ) (claim : Option ℕ) → AreRight (claimed st frame claim) (set uses frame (reclaimed claim (use_in uses frame))) held places
+  pub AreRight-claimed : (frame : ℕ) (claim : Option ℕ) → AreRight (claimed st frame claim)
+      (set uses frame (reclaimed claim (use_in uses frame))) held places
   AreRight-claimed frame claim = record {
     notes = notes-set uses st.used right.notes frame (reclaimed claim (use_in uses frame)) (with_claim claim (used_at st frame))
         (reclaimed_alike claim (use_in uses frame) (used_at st frame) (note_at uses st.used right.notes frame));
@@ -133,18 +140,21 @@ module _ (st : FrameState) (uses : List (Option Use)) (held : List (Option ℕ))
       λ s p. ap (λ l. frame_in l s p) (layout_of-taken st space page want place was) ∙ was.pages s p in
       let value : Use = use_for (record { space = space; page = page }) want in
       record {
-        notes = notes-set uses st.used right.notes place.frame (Some value) (Some (record { age = st.entries; wired = want.wired; claim = None })) refl;
+        notes = notes-set uses st.used right.notes place.frame (Some value)
+            (Some (record { age = st.entries; wired = want.wired; claim = None })) refl;
         pages = λ f u is. elim (set_cases uses place.frame f (Some value) u is) [
           | inl here ↦
               subst (λ (x : Use). frame_of (taken st want place) x.page.space x.page.page ≡ Some f) (same_Some value u here.1)
               (pages space page ∙ cond-true _ _ _ (and_from _ _ (eq-eqb space space refl) (eq-eqb page page refl)) ∙ ap Some (sym here.0))
           | inr there ↦
               let at = right.pages f u there.1 in
-              let apart : (eqb space u.page.space && eqb u.page.page page) ≡ false = elim (cases_Bool (eqb space u.page.space && eqb u.page.page page)) [
+              let apart : (eqb space u.page.space && eqb u.page.page page) ≡ false =
+              elim (cases_Bool (eqb space u.page.space && eqb u.page.page page)) [
                 | inl same ↦
                     let parts = and_parts _ _ same in
                     let here : frame_of st u.page.space u.page.page ≡ None =
-                    subst (λ q. frame_of st u.page.space q ≡ None) (sym (eqb-true u.page.page page parts.1)) (subst (λ t. frame_of st t page ≡ None) (eqb-true space u.page.space parts.0) none) in
+                    subst (λ q. frame_of st u.page.space q ≡ None) (sym (eqb-true u.page.page page parts.1))
+                    (subst (λ t. frame_of st t page ≡ None) (eqb-true space u.page.space parts.0) none) in
                     absurd (none-some f (sym here ∙ at))
                 | inr apart ↦ apart
               ] in
@@ -160,7 +170,8 @@ module _ (st : FrameState) (uses : List (Option Use)) (held : List (Option ℕ))
     pub AreRight-take : (space page frame : ℕ) (want : Want) (after : List (BTreeMap ℕ ℕ)) → frame_of st space page ≡ None
         → ((s p : ℕ) → place_in after s p ≡ cond (eqb space s && eqb p page) (Some frame) (place_in places s p))
         → IsSomeAnd (take_frame st space page want) (λ t. t.frame ≡ frame)
-        → AreRight (state_taken st (take_frame st space page want)) (set uses frame (Some (use_for (record { space = space; page = page }) want))) held after
+        → AreRight (state_taken st (take_frame st space page want)) (set uses frame
+        (Some (use_for (record { space = space; page = page }) want))) held after
     AreRight-take space page frame want after none placed takes =
         elim (take_frame st space page want) as (λ o. take_frame st space page want ≡ o → IsSomeAnd o (λ t. t.frame ≡ frame)
         → AreRight (state_taken st o) (set uses frame (Some (use_for (record { space = space; page = page }) want))) held after) [
@@ -168,14 +179,16 @@ module _ (st : FrameState) (uses : List (Option Use)) (held : List (Option ℕ))
           | Some t ↦ λ is same.
               let found = taking_from st want (placing st.entries space page want (layout_of st)) t is in
               let was = WasPlaced-placing (layout_of st) st.entries space page want found.0 sound.laid none found.1 in
-              subst (λ (u : Taking). u.frame ≡ frame → AreRight u.state (set uses frame (Some (use_for (record { space = space; page = page }) want))) held after) found.2
+              subst (λ (u : Taking). u.frame ≡ frame → AreRight u.state
+              (set uses frame (Some (use_for (record { space = space; page = page }) want))) held after) found.2
               (λ at. subst (λ f. ((s p : ℕ) → place_in after s p ≡ cond (eqb space s && eqb p page) (Some f) (place_in places s p))
               → AreRight (taken st want found.0) (set uses f (Some (use_for (record { space = space; page = page }) want))) held after) at
               (taken_right space page want found.0 after none was) placed)
               same
         ] refl takes
 
-    hands_given : (o : Option ℕ) (frame : ℕ) → claim_in (used_at st frame) ≡ o → (c : ℕ) → get_or (held_given o frame held) c None ≡ get_or (held_given o frame st.held) c None
+    hands_given : (o : Option ℕ) (frame : ℕ) → claim_in (used_at st frame) ≡ o → (c : ℕ)
+        → get_or (held_given o frame held) c None ≡ get_or (held_given o frame st.held) c None
     hands_given None frame is c = right.hands c
     hands_given (Some d) frame is c =
         let known = (sound.claims_known frame d is).0 in
@@ -183,7 +196,8 @@ module _ (st : FrameState) (uses : List (Option Use)) (held : List (Option ℕ))
           | inl same ↦
               get_or-set_at held d c (Some frame) None same (omega (arith, known, right.room, sound.processors_known))
               ∙ sym (get_or-set_at st.held d c (Some frame) None same (omega (arith, known, sound.processors_known)))
-          | inr other ↦ get_or-set_other held d c (Some frame) None other ∙ right.hands c ∙ sym (get_or-set_other st.held d c (Some frame) None other)
+          | inr other ↦ get_or-set_other held d c (Some frame) None other ∙ right.hands c
+              ∙ sym (get_or-set_other st.held d c (Some frame) None other)
         ]
 
     given_right : (space page frame : ℕ) (after : List (BTreeMap ℕ ℕ)) → frame_of st space page ≡ Some frame
@@ -196,8 +210,10 @@ module _ (st : FrameState) (uses : List (Option Use)) (held : List (Option ℕ))
         let also = ap length gives.held ∙ length-held_given (claim_in (used_at st frame)) frame st.held in
         record {
           notes = notes-set uses st.used right.notes frame None None refl ∙ ap (map (option_map noted)) (sym gives.used);
-          pages = λ f u at. let before = unset_before uses frame f None (Some u) (none-some u) at in (gives.pages u.page.space u.page.page f).1 (before.0, right.pages f u before.1);
-          places_are = λ s p. placed s p ∙ ap (cond (eqb space s && eqb p page) None) (right.places_are s p) ∙ sym (frame_of-give_page st space page frame sound.laid is s p);
+          pages = λ f u at. let before = unset_before uses frame f None (Some u) (none-some u) at in
+              (gives.pages u.page.space u.page.page f).1 (before.0, right.pages f u before.1);
+          places_are = λ s p. placed s p ∙ ap (cond (eqb space s && eqb p page) None) (right.places_are s p)
+              ∙ sym (frame_of-give_page st space page frame sound.laid is s p);
           hands = λ c.
               ap (λ o. get_or (held_given o frame held) c None) claim ∙ hands_given (claim_in (used_at st frame)) frame refl c
               ∙ sym (ap (λ h. get_or h c None) gives.held);
@@ -210,7 +226,8 @@ module _ (st : FrameState) (uses : List (Option Use)) (held : List (Option ℕ))
         → AreRight (give_if_used space st page) (set uses frame None) (held_given (claim_of (use_in uses frame)) frame held) after
     AreRight-given space page frame after at placed =
         let is : frame_of st space page ≡ Some frame = sym (right.places_are space page) ∙ at in
-        subst (λ s. AreRight s (set uses frame None) (held_given (claim_of (use_in uses frame)) frame held) after) (sym (give_if_used-some st space page frame is))
+        subst (λ s. AreRight s (set uses frame None) (held_given (claim_of (use_in uses frame)) frame held) after)
+        (sym (give_if_used-some st space page frame is))
         (given_right space page frame after is placed)
 
     -- and one that has none does nothing
@@ -226,7 +243,8 @@ module _ (st : FrameState) (uses : List (Option Use)) (held : List (Option ℕ))
             | inl here ↦
                 let parts = and_parts _ _ here in
                 let none : place_in places s p ≡ None =
-                subst (λ q. place_in places s q ≡ None) (sym (eqb-true p page parts.1)) (subst (λ t. place_in places t page ≡ None) (eqb-true space s parts.0) at) in
+                subst (λ q. place_in places s q ≡ None) (sym (eqb-true p page parts.1))
+                (subst (λ t. place_in places t page ≡ None) (eqb-true space s parts.0) at) in
                 cond-true _ _ _ here ∙ sym none ∙ right.places_are s p
             | inr other ↦ cond-false _ _ _ other ∙ right.places_are s p
           ];
@@ -240,7 +258,8 @@ notes-none : (n : ℕ) → map (option_map note_of) (replicate n None) ≡ map (
 notes-none zero = refl
 notes-none (suc n) = ap (λ ns. None ∷ ns) (notes-none n)
 
-pub AreRight-start : (z : SizeSet) (frames processors hands : ℕ) (places : List (BTreeMap ℕ ℕ)) → processors ≤ hands → ((s p : ℕ) → place_in places s p ≡ None)
+pub AreRight-start : (z : SizeSet) (frames processors hands : ℕ) (places : List (BTreeMap ℕ ℕ)) → processors ≤ hands
+    → ((s p : ℕ) → place_in places s p ≡ None)
     → AreRight (start_frames z frames processors) (replicate frames None) (replicate hands None) places
 AreRight-start z frames processors hands places few none = record {
   notes = notes-none frames;
@@ -283,19 +302,20 @@ none_either true o none = refl
 none_either false o none = none
 
 -- the lowest page of a range with a frame may give it up first
-pub lowest-gives : (frames processors : ℕ) (st : FrameState) (uses : List (Option Use)) (held : List (Option ℕ)) (places : List (BTreeMap ℕ ℕ)) (space first len page : ℕ)
-    → IsSound frames processors st → AreRight st uses held places → in_range first len page ≡ true → IsSome (place_in places space page)
+pub lowest-gives : (st : FrameState) (places : List (BTreeMap ℕ ℕ)) (space first len page : ℕ) → IsLaid (layout_of st)
+    → ((s p : ℕ) → place_in places s p ≡ frame_of st s p)
+    → in_range first len page ≡ true → IsSome (place_in places space page)
     → ((p : ℕ) → p < page → in_range first len p ≡ true → place_in places space p ≡ None)
     → give_range (give_if_used space st page) space first len ≡ give_range st space first len
-lowest-gives frames processors st uses held places space first len page sound right within some lowest =
+lowest-gives st places space first len page laid places_are within some lowest =
     let found = some_from_is_some (place_in places space page) some in
-    let is : frame_of st space page ≡ Some found.0 = sym (right.places_are space page) ∙ found.1 in
+    let is : frame_of st space page ≡ Some found.0 = sym (places_are space page) ∙ found.1 in
     let bounds = in_bounds first len page within in
     let none : (p : ℕ) → first ≤ p → p < page → frame_of st space p ≡ None = λ p low below.
-    sym (right.places_are space p) ∙ lowest p below (bounds_in first len p low (omega (arith, below, bounds.1))) in
+    sym (places_are space p) ∙ lowest p below (bounds_in first len p low (omega (arith, below, bounds.1))) in
     ap (λ s. give_range s space first len) (give_if_used-some st space page found.0 is)
     ∙ give_range-lowest space st first len page bounds.0 bounds.1 none (ap is_some is) (λ p low upto.
-    frame_of-give_page st space page found.0 sound.laid is space p ∙ elim (cases_eq p page) [
+    frame_of-give_page st space page found.0 laid is space p ∙ elim (cases_eq p page) [
       | inl same ↦ cond-true _ _ _ (and_from _ _ (eq-eqb space space refl) (eq-eqb p page same))
       | inr other ↦ none_either (eqb space space && eqb p page) (frame_of st space p) (none p low (omega (arith, upto, other)))
     ])

@@ -1,6 +1,7 @@
 -- Which extent of frames could be emptied by the fewest evictions, and of which pages.
 use Rattle.std.specs.Prelude.{ℕ, ◌≡◌, ◌+◌, ◌<◌, ◌≤◌, ◌^◌, ◌⊎◌, Bool, true, ◌||◌, not, List, count_by, filter, fold, length, map, Option, Some, None, is_some, IsPermutation}
 use Rattle.std.specs.List.{range_with_len, list_all, list_any}
+use Rattle.pager_model.specs.Bounds.{most_spaces, most_actors}
 use Rattle.pager_model.specs.declared.entry.Entry.{Entry}
 use Rattle.pager_model.specs.Agreement.{has_frame}
 use Rattle.pager_model.specs.Extents.{IsExtent}
@@ -15,8 +16,8 @@ use Rattle.contiguity_plan.specs.declared.plan.Plan.{Plan}
 -- a history of a setting with so many frames
 pub record IsOver (frames : ℕ) (g : Given) (history : List Entry) : Type 0 where
   pub frames_are : g.frames ≡ frames
-  pub processors : length g.marks ≤ 17
-  pub spaces : length g.told ≤ 16
+  pub processors : length g.marks ≤ most_actors
+  pub spaces : length g.told ≤ most_spaces
   pub legal : IsLegal g history
 
 -- the frame stays where it is: its page is wired, or a processor claims or holds it

@@ -2,6 +2,7 @@
 
 ghost use Rattle.std.specs.Prelude.{◌≡◌, ◌≢◌, ℕ, ◌+◌, ◌^◌, ◌<◌, ◌≤◌, ◌++◌, ◌∷◌, [], List, length, Some, None, IfOk, IfSome, OnOk, IsSome, IsSomeAnd, slice_index_or, slice_set};
 ghost use Rattle.std.specs.List.{All};
+ghost use Rattle.pager_model.specs.Bounds.{most_spaces, most_actors};
 ghost use Rattle.pager_model.specs.declared.entry.Entry.{Entry as Item};
 ghost use Rattle.pager_model.specs.declared.entry.Numbered.{Numbered as NumberedItem};
 ghost use Rattle.pager_model.specs.FrameStates.{FrameState, start_frames, frame_of, take_frame, state_taken, held_given, give_if_used, give_range, claimed, dropped, moved_by_answer, moved, counted, AllowsAnswer, FramesAllow, named_space};
@@ -16,14 +17,9 @@ ghost use Rattle.contiguity_plan.specs.Tables.{use_in, use_for, claim_of, reclai
 use crate::cheapest::{cheapest, pages_of};
 use crate::places::{self, Places};
 use crate::plan::{PageOf, Plan};
-use pager_model::{Call, Entry, Extent, NoMemory, Size, Want, What};
+use pager_model::{Call, Entry, Extent, MOST_ACTORS, MOST_SPACES, NoMemory, Size, Want, What};
 use run_history::History;
 use std::alloc::Global;
-
-/// The largest numbers of spaces and of processors, the daemon with them.
-const SPACES: u32 = 16;
-
-const PROCESSORS: usize = 17;
 
 /// The page that uses a frame, whether its region is wired, and which processor claims the frame.
 #[derive(Clone, Copy, Debug)]
@@ -128,13 +124,13 @@ fn space_of(entry: &Entry) -> u32
 impl Table {
     /// The table before any entry.
     pub(crate) fn create(alloc: Global, frames: u32) -> Result<Table, NoMemory>
-        ensures spaces { IfOk result (λ table. length table.places.items ≡ 16) }
-        ensures right { IfOk result (λ table. (z : SizeSet) (processors : ℕ) → processors ≤ 17 → IsRight (start_frames z frames processors) table) }
+        ensures spaces { IfOk result (λ table. length table.places.items ≡ most_spaces) }
+        ensures right { IfOk result (λ table. (z : SizeSet) (processors : ℕ) → processors ≤ most_actors → IsRight (start_frames z frames processors) table) }
     {
         Ok(Table {
             uses: vec![in alloc; None; frames as usize]?,
-            held: vec![in alloc; None; PROCESSORS]?,
-            places: places::create(alloc, SPACES)?,
+            held: vec![in alloc; None; MOST_ACTORS]?,
+            places: places::create(alloc, MOST_SPACES)?,
         })
     }
 
@@ -305,8 +301,8 @@ impl Table {
 
     /// What the entries of a history do, from the beginning on.
     pub(crate) fn follow(&mut self, history: &History) -> Result<(), NoMemory>
-        requires spaces { length self.old.places.items ≡ 16 }
-        requires known { All (λ (n : NumberedItem). named_space n.entry.space < 16) history.now.items }
+        requires spaces { length self.old.places.items ≡ most_spaces }
+        requires known { All (λ (n : NumberedItem). named_space n.entry.space < most_spaces) history.now.items }
         ensures right { OnOk result ((g : Given) → IsLegal g (entries_in history.now.items) → IsRight (frames_at g []) self.old
             → IsRight (frames_at g (entries_in history.now.items)) self.new) }
     {

@@ -37,7 +37,8 @@ stands-other z g history e s kept other stands =
     rw (space_at-other g history e s other, followed-other z g history e s other) stands
 
 stands-named : (z : SizeSet) (g : Given) (history : List Entry) (e : Entry) (s : ℕ) (kept : Kept) → names_space s e ≡ true
-    → Stands z kept (space_after (space_at g history s) e) (λ capacity. follow z capacity (followed z g s (space_part s history) capacity) e)
+    → Stands z kept (space_after (space_at g history s) e)
+    (λ capacity. follow z capacity (followed z g s (space_part s history) capacity) e)
     → Stands z kept (space_at g (history ++ e ∷ []) s) (followed z g s (space_part s (history ++ e ∷ [])))
 stands-named z g history e s kept named stands =
     rw (space_at-named g history e s named, followed-named z g history e s named) stands
@@ -51,7 +52,8 @@ StandEach-named z g history e s stacks new within names stands each = record {
   spaces = length-set stacks s new ∙ each.spaces;
   each = λ t d below. elim (cases_eq t s) [
     | inl same ↦
-        subst (λ n. Stands z (get_or (set stacks s new) n d) (space_at g (history ++ e ∷ []) n) (followed z g n (space_part n (history ++ e ∷ [])))) (sym same)
+        subst (λ n. Stands z (get_or (set stacks s new) n d) (space_at g (history ++ e ∷ []) n)
+        (followed z g n (space_part n (history ++ e ∷ [])))) (sym same)
         (rw (get_or-set_same stacks s new d within) (stands-named z g history e s new (named s refl) stands))
     | inr other ↦
         rw (get_or-set_other stacks s t new d other)
@@ -65,16 +67,18 @@ StandEach-named z g history e s stacks new within names stands each = record {
     apart : (t : ℕ) → t ≢ s → names_space t e ≡ false
     apart t other = rw names (ne_eqb s t (λ is. other (sym is)))
 
--- so one that a stack follows
-pub StandEach-followed : (z : SizeSet) (g : Given) (history : List Entry) (e : Entry) (s : ℕ) (stacks : List Kept) (old new : Kept)
+-- so where the stack that it had follows the entry
+pub StandEach-followed : (z : SizeSet) (g : Given) (history : List Entry) (e : Entry) (s : ℕ) (stacks : List Kept) (new : Kept)
     → s < length stacks → e.space ≡ Some s
-    → old ≡ get_or stacks s old
-    → (Stands z old (space_at g history s) (followed z g s (space_part s history))
-    → Stands z new (space_after (space_at g history s) e) (λ capacity. follow z capacity (followed z g s (space_part s history) capacity) e))
+    → ((old : Kept) × (old ≡ get_or stacks s old)
+    × (Stands z old (space_at g history s) (followed z g s (space_part s history))
+    → Stands z new (space_after (space_at g history s) e)
+    (λ capacity. follow z capacity (followed z g s (space_part s history) capacity) e)))
     → StandEach z g stacks history → StandEach z g (set stacks s new) (history ++ e ∷ [])
-StandEach-followed z g history e s stacks old new within names is follows each =
+StandEach-followed z g history e s stacks new within names follows each =
     StandEach-named z g history e s stacks new within names
-    (follows (subst (λ k. Stands z k (space_at g history s) (followed z g s (space_part s history))) (sym is) (each.each s old within))) each
+    (follows.2 (subst (λ k. Stands z k (space_at g history s) (followed z g s (space_part s history))) (sym follows.1)
+    (each.each s follows.0 within))) each
 
 -- an entry without a space changes none
 pub StandEach-none : (z : SizeSet) (g : Given) (history : List Entry) (e : Entry) (stacks : List Kept) → e.space ≡ None
@@ -85,7 +89,8 @@ StandEach-none z g history e stacks none each = record {
 }
 
 -- before any entry blank stacks stand
-pub StandEach-blank : (z : SizeSet) (g : Given) (stacks : List Kept) → length stacks ≡ length g.told → All (IsBlank 1024) stacks → StandEach z g stacks []
+pub StandEach-blank : (z : SizeSet) (g : Given) (stacks : List Kept) → length stacks ≡ length g.told → All (IsBlank 1024) stacks
+    → StandEach z g stacks []
 StandEach-blank z g stacks same blank = record {
   spaces = same;
   each = λ s d below. (All-get_or (IsBlank 1024) stacks s d below blank).stands z g.sizes (is_told g s) (faults_at_entry g s);
@@ -123,11 +128,21 @@ sum-so_far f h xs d each zero within = refl
 sum-so_far f h xs d each (suc n) within =
     let more : suc n ≡ n + 1 = omega arith in
     let first : sum_by f (take (suc n) xs) ≡ sum_by f (take (n + 1) xs) = ap (λ m. sum_by f (take m xs)) more in
-    let last : sum_by h (range_with_len 0 (suc n)) ≡ sum_by h (range_with_len 0 n ++ n ∷ []) = ap (λ m. sum_by h (range_with_len 0 m)) more ∙ ap (sum_by h) (range_with_len-more n) in
-    omega (arith, first, last, sum_by_more f xs n d (omega arith), sum-so_far f h xs d each n (omega arith), each n (omega arith), sum_by_push h (range_with_len 0 n) n)
+    let last : sum_by h (range_with_len 0 (suc n)) ≡ sum_by h (range_with_len 0 n ++ n ∷ []) = ap (λ m. sum_by h (range_with_len 0 m)) more
+    ∙ ap (sum_by h) (range_with_len-more n) in
+    omega (
+      arith,
+      first,
+      last,
+      sum_by_more f xs n d (omega arith),
+      sum-so_far f h xs d each n (omega arith),
+      each n (omega arith),
+      sum_by_push h (range_with_len 0 n) n,
+    )
 
 -- what a stack that stands tells of a capacity
-missed-is : (z : SizeSet) (st : SpaceState) (kept : Kept) (followers : ℕ → Follower) (k : ℕ) → k < length kept.places → Stands z kept st followers
+missed-is : (z : SizeSet) (st : SpaceState) (kept : Kept) (followers : ℕ → Follower) (k : ℕ) → k < length kept.places
+    → Stands z kept st followers
     → missed_at k kept ≡ (followers (k + 1)).misses
 missed-is z st kept followers k within stands = omega (arith, (stands.images (k + 1) (omega arith)).misses)
 
@@ -142,7 +157,8 @@ missed-all z g history stacks k within places each =
     (λ s below. missed-is z (space_at g history s) (get_or stacks s d) (followed z g s (space_part s history)) k
     (omega (arith, All-get_or (λ (x : Kept). length x.places ≡ 1024) stacks s d below places)) (each.each s d below))
     (length stacks) (omega arith) in
-    ap (sum_by (missed_at k)) (sym (take_all (length stacks) stacks (omega arith))) ∙ whole ∙ ap (λ n. sum_by h (range_with_len 0 n)) each.spaces
+    ap (sum_by (missed_at k)) (sym (take_all (length stacks) stacks (omega arith))) ∙ whole
+    ∙ ap (λ n. sum_by h (range_with_len 0 n)) each.spaces
 
 -- no more misses than uses
 pub missed-le : (k : ℕ) (s : Kept) → missed_at k s ≤ s.uses

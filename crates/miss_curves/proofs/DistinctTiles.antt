@@ -37,16 +37,20 @@ only-left t (place ∷ places) once = elim (cases_Bool (is_at t place)) [
   | inr other ↦
       let n = position_or_len (is_at t) places in
       let next : 1 + n ≡ suc n = omega arith in
-      rw other (ap (λ m. set (place ∷ places) m None) next ∙ ap (λ rest. place ∷ rest) (only-left t places (omega (arith, once, count-cons t place places))))
+      rw other (ap (λ m. set (place ∷ places) m None) next ∙ ap (λ rest. place ∷ rest)
+      (only-left t places (omega (arith, once, count-cons t place places))))
 ]
 
-pub hole-left : (t : Tile) (places : List (Option Tile)) → AreDistinct places → hole_at (position (is_at t) places) places ≡ map (left_by t) places
+pub hole-left : (t : Tile) (places : List (Option Tile)) → AreDistinct places
+    → hole_at (position (is_at t) places) places ≡ map (left_by t) places
 hole-left t places distinct =
     let n = position_or_len (is_at t) places in
     elim (cases_lt n (length places)) [
-      | inl below ↦ ap (λ o. hole_at o places) (cond-true (nat_lt n (length places)) (Some n) None (lt-ltb n (length places) below)) ∙ only-left t places (distinct t)
+      | inl below ↦ ap (λ o. hole_at o places) (cond-true (nat_lt n (length places)) (Some n) None (lt-ltb n (length places) below))
+          ∙ only-left t places (distinct t)
       | inr past ↦
-          ap (λ o. hole_at o places) (cond-false (nat_lt n (length places)) (Some n) None (le-ltb n (length places) past)) ∙ sym (set_past places n None past)
+          ap (λ o. hole_at o places) (cond-false (nat_lt n (length places)) (Some n) None (le-ltb n (length places) past))
+          ∙ sym (set_past places n None past)
           ∙ only-left t places (distinct t)
     ]
 
@@ -82,7 +86,8 @@ map_left-kept t test (place ∷ places) = ap (λ p. p ∷ map (left_by t) (map (
 -- the row after a use is what is left of it without the tile, shifted
 pub moved_down-kept : (t : Tile) (test : Tile → Bool) (places : List (Option Tile))
     → moved_down t (Some t) (map (kept_at test) places) ≡ shifted (Some t) (map (kept_at test) (map (left_by t) places))
-moved_down-kept t test places = moved_down-shifted t (Some t) (map (kept_at test) places) ∙ ap (shifted (Some t)) (map_left-kept t test places)
+moved_down-kept t test places = moved_down-shifted t (Some t) (map (kept_at test) places)
+    ∙ ap (shifted (Some t)) (map_left-kept t test places)
 
 -- a hole ends the shift
 pub shifted-stop : (places : List (Option Tile)) (i : ℕ) (d : Option Tile) (c : Tile) (new : Option Tile) → i < length places
@@ -91,10 +96,12 @@ pub shifted-stop : (places : List (Option Tile)) (i : ℕ) (d : Option Tile) (c 
 shifted-stop places i d c new within hole is =
     let here : drop i places ≡ None ∷ drop (i + 1) places = drop_more places i d within ∙ ap (λ place. place ∷ drop (i + 1) places) hole in
     let next : suc i ≡ i + 1 = omega arith in
-    set_split places i new within ∙ ap (λ place. take i places ++ place ∷ drop (suc i) places) is ∙ ap (λ n. take i places ++ Some c ∷ drop n places) next
+    set_split places i new within ∙ ap (λ place. take i places ++ place ∷ drop (suc i) places) is
+    ∙ ap (λ n. take i places ++ Some c ∷ drop n places) next
     ∙ ap (λ rest. take i places ++ shifted (Some c) rest) (sym here)
 
-pub All-left : (test : Tile → Bool) (t : Tile) (places : List (Option Tile)) → All (Passes test) places → All (Passes test) (map (left_by t) places)
+pub All-left : (test : Tile → Bool) (t : Tile) (places : List (Option Tile)) → All (Passes test) places
+    → All (Passes test) (map (left_by t) places)
 All-left test t [] all = All-nil (Passes test)
 All-left test t (place ∷ places) all =
     All-cons (Passes test) (left_by t place) (map (left_by t) places) (left-passes (All-head (Passes test) place places all))
@@ -110,7 +117,8 @@ weight-less : (t : Tile) (new old : Option Tile) → IfSome new (λ u. old ≡ S
 weight-less t None old was = omega arith
 weight-less t (Some u) old was = rw was (omega arith)
 
-pub count-set : (t : Tile) (places : List (Option Tile)) (i : ℕ) (d new : Option Tile) → i < length places → IfSome new (λ u. get_or places i d ≡ Some u)
+pub count-set : (t : Tile) (places : List (Option Tile)) (i : ℕ) (d new : Option Tile) → i < length places
+    → IfSome new (λ u. get_or places i d ≡ Some u)
     → count_by (is_at t) (set places i new) ≤ count_by (is_at t) places
 count-set t places i d new within was =
     omega (arith, sum_by-set (λ p. weight (is_at t p)) places i new d within, weight-less t new (get_or places i d) was)
@@ -129,7 +137,13 @@ weight-left t u place = elim (cases_Bool (is_at t place)) [ inl at ↦ rw at (om
 count-left : (t u : Tile) (places : List (Option Tile)) → count_by (is_at u) (map (left_by t) places) ≤ count_by (is_at u) places
 count-left t u [] = omega arith
 count-left t u (place ∷ places) =
-    omega (arith, weight-left t u place, count-left t u places, count-cons u place places, count-cons u (left_by t place) (map (left_by t) places))
+    omega (
+      arith,
+      weight-left t u place,
+      count-left t u places,
+      count-cons u place places,
+      count-cons u (left_by t place) (map (left_by t) places),
+    )
 
 -- what is carried stands once more
 count-shifted : (u : Tile) (carried : Option Tile) (places : List (Option Tile))

@@ -28,9 +28,10 @@ use Rattle.followed_space.proofs.AnsweredLines.{AnswersLine-run, processor-run}
 use Rattle.followed_space.proofs.LegalEntries.{IsNext-legal}
 use Rattle.tiles.specs.Resident.{frames_in, mapping_at}
 use Rattle.tiles.proofs.CutTiles.{tile_in-cut}
+use Rattle.miss_curves.specs.declared.history.Uses.{Uses}
 use Rattle.miss_curves.specs.declared.stack.Use.{Use}
 use Rattle.miss_curves.specs.Curves.{AnswersAlone, base_alone, is_answer, page_used}
-use Rattle.miss_curves.specs.Histories.{Comes, EachComes, FollowEach, IsNew, IsRunOf, KeepsUp, Told, use_of}
+use Rattle.miss_curves.specs.Histories.{Comes, EachComes, FollowEach, IsNew, IsRunOf, KeepsUp, Told, effect, use_of}
 use Rattle.miss_curves.specs.Rows.{Rows, StandAfter}
 use Rattle.miss_curves.specs.Stacks.{IsUse}
 use Rattle.miss_curves.proofs.Usual.{sizes-of}
@@ -54,18 +55,21 @@ served_tile true (Some q) (Some n) z pages p is used =
 has_tile : (st : SpaceState) (b : Bool) (c : ℕ) (what : What) (p : ℕ) → page_used c what ≡ Some p → WhatAllowed st b c what
     → (t : Tile) × (tile_in st.sizes (pages_after st b what) p ≡ Some t)
 has_tile st b c (Answer number call answered) p used allowed =
-    served_tile (c == 0) (served_page call answered.reply) answered.size st.sizes (pages_after st b (Answer number call answered)) p allowed.size used
+    served_tile (c == 0) (served_page call answered.reply) answered.size st.sizes
+    (pages_after st b (Answer number call answered)) p allowed.size used
 has_tile st b c what p used allowed = cc
 
 -- a page with a tile by some sizes has one by any others
-has_other : (y z : SizeSet) (pages : ℕ → Option Mapping) (p : ℕ) (t : Tile) → tile_in y pages p ≡ Some t → (u : Tile) × (tile_in z pages p ≡ Some u)
+has_other : (y z : SizeSet) (pages : ℕ → Option Mapping) (p : ℕ) (t : Tile) → tile_in y pages p ≡ Some t
+    → (u : Tile) × (tile_in z pages p ≡ Some u)
 has_other y z pages p t is =
     elim (tile_of pages p) as (λ o. tile_of pages p ≡ o → (u : Tile) × (tile_in z pages p ≡ Some u)) [
       | None ↦ λ none. absurd (none-some t (sym (tile_in-cut y pages p ∙ ap (option_map (cut_to y p)) none) ∙ is))
       | Some whole ↦ λ at. (cut_to z p whole, tile_in-cut z pages p ∙ ap (option_map (cut_to z p)) at)
     ] refl
 
-is_use : (z : SizeSet) (before after : ℕ → Option Mapping) (page : Option ℕ) → ((p : ℕ) → page ≡ Some p → (t : Tile) × (tile_in z after p ≡ Some t))
+is_use : (z : SizeSet) (before after : ℕ → Option Mapping) (page : Option ℕ)
+    → ((p : ℕ) → page ≡ Some p → (t : Tile) × (tile_in z after p ≡ Some t))
     → IsUse z before after page (use_of (tile_at z before page) (tile_at z after page))
 is_use z before after None has = refl
 is_use z before after (Some p) has =
@@ -75,32 +79,36 @@ use_is : (z : SizeSet) (before after : ℕ → Option Mapping) (page own : Optio
     → used ≡ use_of (tile_at z before own) (tile_at z after own) → ((p : ℕ) → page ≡ Some p → (t : Tile) × (tile_in z after p ≡ Some t))
     → IsUse z before after page used
 use_is z before after page own used same is has =
-    subst (IsUse z before after page) (sym (is ∙ ap (λ q. use_of (tile_at z before q) (tile_at z after q)) same)) (is_use z before after page has)
+    subst (IsUse z before after page) (sym (is ∙ ap (λ q. use_of (tile_at z before q) (tile_at z after q)) same))
+    (is_use z before after page has)
 
 -- what follows a space tells of an entry what it did to the pages, and which page it used
-pub Told-followed : (z : SizeSet) (g : Given) (history : List Entry) (e : Entry) (old new : Followed) (page : Option ℕ) (used used_base : Option Use)
-    → g.sizes ≡ z
+pub Told-followed : (g : Given) (history : List Entry) (e : Entry) (old new : Followed) (page : Option ℕ) (uses : Uses)
+    → g.sizes ≡ uses.sizes
     → ((s : ℕ) → e.space ≡ Some s → IsNext old (space_at g history s) e)
     → ((st : SpaceState) → IsNext old st e → Follows new (space_after st e))
     → page ≡ page_used e.processor e.what
-    → used ≡ use_of (tile_at z (mapping_at old.pages) page) (tile_at z (mapping_at new.pages) page)
-    → used_base ≡ use_of (tile_at base_alone (mapping_at old.pages) page) (tile_at base_alone (mapping_at new.pages) page)
-    → Told z g history e old.pages new.pages used used_base
-Told-followed z g history e old new page used used_base sizes next follows page_is used_is base_is = record {
+    → uses.used ≡ use_of (tile_at uses.sizes (mapping_at old.pages) page) (tile_at uses.sizes (mapping_at new.pages) page)
+    → uses.used_base ≡ use_of (tile_at base_alone (mapping_at old.pages) page) (tile_at base_alone (mapping_at new.pages) page)
+    → Told g history (effect e old.pages new.pages uses)
+Told-followed g history e old new page uses sizes next follows page_is used_is base_is = record {
   sizes = sizes;
   on = λ s named.
+      let z = uses.sizes in
       let st = space_at g history s in
       let on = next s named in
       let after : pages_after st e.frames e.what ≡ mapping_at new.pages = λ i p. (follows st on).pages p i in
       let used_page = page_used e.processor e.what in
       let tile : (p : ℕ) → used_page ≡ Some p → (t : Tile) × (tile_in z (mapping_at new.pages) p ≡ Some t) =
       λ p is. subst (λ (f : ℕ → Option Mapping). (t : Tile) × (tile_in z f p ≡ Some t)) after
-      (subst (λ y. (t : Tile) × (tile_in y (pages_after st e.frames e.what) p ≡ Some t)) (sizes-of g history s ∙ sizes) (has_tile st e.frames e.processor e.what p is on.allowed.1)) in
+      (subst (λ y. (t : Tile) × (tile_in y (pages_after st e.frames e.what) p ≡ Some t)) (sizes-of g history s ∙ sizes)
+      (has_tile st e.frames e.processor e.what p is on.allowed.1)) in
       record {
         before = λ i p. on.follows.pages p i;
         after = after;
-        tile = use_is z (mapping_at old.pages) (mapping_at new.pages) used_page page used page_is used_is tile;
-        base = use_is base_alone (mapping_at old.pages) (mapping_at new.pages) used_page page used_base page_is base_is (λ p is. has_other z base_alone (mapping_at new.pages) p (tile p is).0 (tile p is).1);
+        tile = use_is z (mapping_at old.pages) (mapping_at new.pages) used_page page uses.used page_is used_is tile;
+        base = use_is base_alone (mapping_at old.pages) (mapping_at new.pages) used_page page uses.used_base page_is base_is
+            (λ p is. has_other z base_alone (mapping_at new.pages) p (tile p is).0 (tile p is).1);
       };
 }
 
@@ -112,7 +120,8 @@ pub record Named (rows : Rows) (spaces : List Followed) (e : Entry) (s : ℕ) (s
   pub stack : s < length rows.tiles
   pub next : (d : Followed) → IsNext (get_or spaces s d) st e
 
-pub named_next : (z : SizeSet) (g : Given) (history : List Entry) (rows : Rows) (spaces : List Followed) (e : Entry) (s : ℕ) → e.space ≡ Some s
+pub named_next : (z : SizeSet) (g : Given) (history : List Entry) (rows : Rows) (spaces : List Followed) (e : Entry) (s : ℕ)
+    → e.space ≡ Some s
     → KeepsUp z g rows spaces history → Comes g history e → Named rows spaces e s (space_at g history s)
 named_next z g history rows spaces e s named keeps comes =
     let parts = IsLegal-at g history [] e comes.legal in
@@ -121,11 +130,13 @@ named_next z g history rows spaces e s named keeps comes =
     record {
       within = within;
       stack = omega (arith, told, keeps.stands.tiles.spaces);
-      next = λ d. IsNext-legal g history e s (get_or spaces s d) comes.legal named comes.line (keeps.follow.frames s d within) (keeps.follow.each s d within);
+      next = λ d. IsNext-legal g history e s (get_or spaces s d) comes.legal named comes.line (keeps.follow.frames s d within)
+          (keeps.follow.each s d within);
     }
 
 -- an entry of a space leads what follows this one on
-pub FollowEach-named : (g : Given) (history : List Entry) (e : Entry) (s : ℕ) (spaces : List Followed) (new : Followed) → s < length spaces → e.space ≡ Some s
+pub FollowEach-named : (g : Given) (history : List Entry) (e : Entry) (s : ℕ) (spaces : List Followed) (new : Followed) → s < length spaces
+    → e.space ≡ Some s
     → frames_in new.pages ≡ g.frames → Follows new (space_after (space_at g history s) e)
     → FollowEach g spaces history → FollowEach g (set spaces s new) (history ++ e ∷ [])
 FollowEach-named g history e s spaces new within names frames follows each = record {
@@ -135,7 +146,8 @@ FollowEach-named g history e s spaces new within names frames follows each = rec
         subst (λ n. frames_in (get_or (set spaces s new) n d).pages ≡ g.frames) (sym same)
         (ap (λ (k : Followed). frames_in k.pages) (get_or-set_same spaces s new d within) ∙ frames)
     | inr other ↦
-        ap (λ (k : Followed). frames_in k.pages) (get_or-set_other spaces s t new d other) ∙ each.frames t d (omega (arith, length-set spaces s new))
+        ap (λ (k : Followed). frames_in k.pages) (get_or-set_other spaces s t new d other)
+        ∙ each.frames t d (omega (arith, length-set spaces s new))
   ];
   each = λ t d below. elim (cases_eq t s) [
     | inl same ↦
@@ -159,7 +171,8 @@ FollowEach-none g history e spaces none each = record {
 }
 
 -- new spaces are followed to the beginning
-pub FollowEach-new : (g : Given) (spaces : List Followed) → length spaces ≡ length g.told → All (IsNew g.frames) spaces → FollowEach g spaces []
+pub FollowEach-new : (g : Given) (spaces : List Followed) → length spaces ≡ length g.told → All (IsNew g.frames) spaces
+    → FollowEach g spaces []
 FollowEach-new g spaces same new = record {
   spaces_are = same;
   frames = λ s d below. (new s d below).frames_are;
@@ -167,27 +180,27 @@ FollowEach-new g spaces same new = record {
 }
 
 -- and so the stacks and the spaces of a run begin
-pub KeepsUp-new : (plan : Plan) (g : Given) (history : List Entry) (frames spaces : ℕ) (z : SizeSet) (rows : Rows) (all : List Followed)
-    → IsRunOf plan g history
-    → frames ≡ plan.frames → spaces ≡ plan.spaces → z ≡ plan.sizes → (length g.told ≡ spaces → StandAfter g rows []) → length all ≡ spaces → All (IsNew frames) all
-    → KeepsUp z g rows all []
-KeepsUp-new plan g history frames spaces z rows all run frames_are spaces_are sizes_are stands same new =
-    let told : length g.told ≡ spaces = run.spaces ∙ sym spaces_are in
+pub KeepsUp-new : (plan : Plan) (g : Given) (history : List Entry) (rows : Rows) (all : List Followed) → IsRunOf plan g history
+    → (length g.told ≡ plan.spaces → StandAfter g rows []) → length all ≡ plan.spaces → All (IsNew plan.frames) all
+    → KeepsUp plan.sizes g rows all []
+KeepsUp-new plan g history rows all run stands same new =
     record {
-      sizes = run.sizes ∙ sym sizes_are;
-      stands = stands told;
-      follow = FollowEach-new g all (same ∙ sym told) (subst (λ n. All (IsNew n) all) (frames_are ∙ sym run.frames) new);
+      sizes = run.sizes;
+      stands = stands run.spaces;
+      follow = FollowEach-new g all (same ∙ sym run.spaces) (subst (λ n. All (IsNew n) all) (sym run.frames) new);
     }
 
 -- Whole histories.
 
 -- the next entry comes so after those before it
-pub comes-at : (g : Given) (history : List Numbered) (i : ℕ) (x : Numbered) → i < length history → x ≡ get_or history i x → EachComes g (entries_in history)
+pub comes-at : (g : Given) (history : List Numbered) (i : ℕ) (x : Numbered) → i < length history → x ≡ get_or history i x
+    → EachComes g (entries_in history)
     → Comes g (entries_in (take i history)) x.entry
 comes-at g history i x known is each =
     subst (λ (n : Numbered). Comes g (entries_in (take i history)) n.entry) (sym is)
     (each (entries_in (take i history)) (entries_in (drop (suc i) history)) (get_or history i x).entry
-    (ap entries_in (split_at history i x known) ∙ map-append (λ (n : Numbered). n.entry) (take i history) (get_or history i x ∷ drop (suc i) history)))
+    (ap entries_in (split_at history i x known) ∙ map-append (λ (n : Numbered). n.entry) (take i history)
+    (get_or history i x ∷ drop (suc i) history)))
 
 -- and with them it is what stands before the one after it
 pub entries-more : (history : List Numbered) (i : ℕ) (x : Numbered) → i < length history → x ≡ get_or history i x
@@ -209,11 +222,14 @@ EachComes-run plan g history text run = λ before after e is.
 answered_by : (plan : Plan) (g : Given) (before after : List Entry) (e : Entry) (what : What) → e.what ≡ what → HasText plan
     → IsRunOf plan g (before ++ e ∷ after)
     → is_answer what ≡ true → e.processor < plan.processors
-answered_by plan g before after e (Answer number call answered) is text run answers = processor-run plan g before after e text run.marks run.legal run.shows number call answered is
+answered_by plan g before after e (Answer number call answered) is text run answers =
+    processor-run plan g before after e text run.marks run.legal run.shows number call answered is
 answered_by plan g before after e what is text run answers = cc
 
-pub AnswersAlone-run : (plan : Plan) (g : Given) (history : List Entry) → HasText plan → plan.processors ≡ 1 → IsRunOf plan g history → AnswersAlone history
+pub AnswersAlone-run : (plan : Plan) (g : Given) (history : List Entry) → HasText plan → plan.processors ≡ 1 → IsRunOf plan g history
+    → AnswersAlone history
 AnswersAlone-run plan g history text one run = λ i d known answers.
     let e = get_or history i d in
-    let below = answered_by plan g (take i history) (drop (suc i) history) e e.what refl text (subst (IsRunOf plan g) (split_at history i d known) run) answers in
+    let below = answered_by plan g (take i history) (drop (suc i) history) e e.what refl text
+    (subst (IsRunOf plan g) (split_at history i d known) run) answers in
     omega (arith, below, one)

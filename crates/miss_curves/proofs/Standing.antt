@@ -46,7 +46,8 @@ hit-place t places k within =
     let n = position_or_len (is_at t) places in
     hit-place_or_len t places k within ∙ elim (cases_lt n (length places)) [
       | inl below ↦ sym (ap (is_found k) (cond-true (nat_lt n (length places)) (Some n) None (lt-ltb n (length places) below)))
-      | inr past ↦ le-ltb n k (omega arith) ∙ sym (ap (is_found k) (cond-false (nat_lt n (length places)) (Some n) None (le-ltb n (length places) past)))
+      | inr past ↦ le-ltb n k (omega arith) ∙ sym
+          (ap (is_found k) (cond-false (nat_lt n (length places)) (Some n) None (le-ltb n (length places) past)))
     ]
 
 hit-place_of : (before : Option Tile) (places : List (Option Tile)) (k : ℕ) → k ≤ length places
@@ -64,11 +65,16 @@ take-set_lt (suc k) (x ∷ xs) (suc i) y below = ap (λ rest. x ∷ rest) (take-
 abbrev counts : Bool → ℕ
 counts b = if b then 1 else 0
 
-sum-found_some : (k place : ℕ) (found : List ℕ) → k ≤ length found → sum (take k (found_at (Some place) found)) ≡ sum (take k found) + counts (nat_lt place k)
+sum-found_some : (k place : ℕ) (found : List ℕ) → k ≤ length found → sum (take k (found_at (Some place) found)) ≡ sum
+    (take k found) + counts (nat_lt place k)
 sum-found_some k place found within = elim (cases_lt place k) [
   | inl below ↦
       rw (lt-ltb place k below, take-set_lt k found place (get_or found place 0 + 1) below)
-      (omega (arith, sum_by-set (λ x. x) (take k found) place (get_or found place 0 + 1) 0 (omega (arith, length-take-le k found within)), get_or-take k found place 0 below))
+      (omega (
+        arith,
+        sum_by-set (λ x. x) (take k found) place (get_or found place 0 + 1) 0 (omega (arith, length-take-le k found within)),
+        get_or-take k found place 0 below,
+      ))
   | inr past ↦ rw (le-ltb place k past, take-set-le k found place (get_or found place 0 + 1) past) (omega arith)
 ]
 
@@ -81,35 +87,34 @@ missed-counts : (page : ℕ) (found : Bool) → missed (Some page) found + count
 missed-counts page true = refl
 missed-counts page false = refl
 
--- the image and the misses after a use, or without one
-record After (z : SizeSet) (k : ℕ) (kept : Kept) (used : Option Use) (before after : ℕ → Option Mapping) (page : Option ℕ) (image : List Tile) (misses : ℕ) : Type 0 where
-  same : image_after z k after page image ≡ tiles_in (take k (kept_after (is_tile_in z after) used kept).places)
-  counts : misses + missed page (is_in_image image (tile_at z before page)) + sum (take k (kept_after (is_tile_in z after) used kept).found)
-      ≡ (kept_after (is_tile_in z after) used kept).uses
+-- the images after a use, or without one, and how many uses more were misses
+record After (z : SizeSet) (k : ℕ) (kept : Kept) (used : Option Use) (before after : ℕ → Option Mapping) (page : Option ℕ) : Type 0 where
+  same : image_after z k after page (tiles_in (take k kept.places)) ≡ tiles_in (take k (kept_after (is_tile_in z after) used kept).places)
+  counts : missed page (is_in_image (tiles_in (take k kept.places)) (tile_at z before page))
+      + sum (take k (kept_after (is_tile_in z after) used kept).found) + kept.uses
+      ≡ (kept_after (is_tile_in z after) used kept).uses + sum (take k kept.found)
 
-after_use : (z : SizeSet) (k : ℕ) (kept : Kept) (used : Option Use) (old new : ℕ → Option Mapping) (page : Option ℕ) (image : List Tile) (misses : ℕ)
-    → k ≤ length kept.places → length kept.found ≡ length kept.places → IsUse z old new page used
-    → image ≡ tiles_in (take k kept.places) → misses + sum (take k kept.found) ≡ kept.uses
-    → After z k kept used old new page image misses
-after_use z k kept used old new None image misses within long is same told =
+after_use : (z : SizeSet) (k : ℕ) (kept : Kept) (used : Option Use) (old new : ℕ → Option Mapping) (page : Option ℕ)
+    → k ≤ length kept.places → length kept.found ≡ length kept.places → IsUse z old new page used → After z k kept used old new page
+after_use z k kept used old new None within long is =
     rw is (record {
-      same = ap (filter (is_tile_in z new)) same ∙ sym (tiles_in-kept (is_tile_in z new) kept.places k);
-      counts = omega (arith, told);
+      same = sym (tiles_in-kept (is_tile_in z new) kept.places k);
+      counts = omega arith;
     })
-after_use z k kept used old new (Some page) image misses within long is same told =
+after_use z k kept used old new (Some page) within long is =
     let test : Tile → Bool = is_tile_in z new in
     let t : Tile = is.0 in
     let was : Option Tile = tile_at z old (Some page) in
     let row : List (Option Tile) = map (kept_at test) kept.places in
-    let kept_row : filter test image ≡ tiles_in (take k row) = ap (filter test) same ∙ sym (tiles_in-kept test kept.places k) in
+    let kept_row : filter test (tiles_in (take k kept.places)) ≡ tiles_in (take k row) = sym (tiles_in-kept test kept.places k) in
     let moved : tiles_in (take k (moved_down t (Some t) row)) ≡ take k (t ∷ without t (tiles_in (take k row))) =
     moved_down-some t t row k (omega (arith, length-map kept.places (kept_at test))) in
-    let hit : is_in_image image was ≡ is_found k (place_of was kept.places) = ap (λ ts. is_in_image ts was) same ∙ hit-place_of was kept.places k within in
+    let hit : is_in_image (tiles_in (take k kept.places)) was ≡ is_found k (place_of was kept.places) =
+    hit-place_of was kept.places k within in
     rw (is.2) (record {
       same = rw (is.1) (ap (λ ts. take k (t ∷ without t ts)) kept_row ∙ sym moved);
       counts = omega (
         arith,
-        told,
         sum-found k (place_of was kept.places) kept.found (omega arith),
         missed-counts page (is_found k (place_of was kept.places)),
         ap (missed (Some page)) hit,
@@ -121,21 +126,32 @@ pub stands-after : (z : SizeSet) (st : SpaceState) (e : Entry) (followers : ℕ 
     → IsUse z (pages_of st) (pages_after st e.frames e.what) (page_used e.processor e.what) used
     → StandsFor kept st followers
     → (capacity : ℕ) → capacity ≤ length kept.places
-    → StandsAt (kept_after (is_tile_in z (pages_after st e.frames e.what)) used kept) (space_after st e) capacity (follow z capacity (followers capacity) e)
+    → StandsAt (kept_after (is_tile_in z (pages_after st e.frames e.what)) used kept) (space_after st e) capacity
+    (follow z capacity (followers capacity) e)
 stands-after z st e followers kept used long is stands k within =
     let at = stands k within in
     let page : Option ℕ = page_used e.processor e.what in
-    let now : After z k kept used (pages_of st) (pages_after st e.frames e.what) page (followers k).image (followers k).misses =
-    after_use z k kept used (pages_of st) (pages_after st e.frames e.what) page (followers k).image (followers k).misses within long is at.image at.misses in
+    let pages : ℕ → Option Mapping = pages_after st e.frames e.what in
+    let now : After z k kept used (pages_of st) pages page = after_use z k kept used (pages_of st) pages page within long is in
     record {
       space = ap (λ s. space_after s e) at.space;
-      image = ap (λ s. image_after z k (pages_after s e.frames e.what) page (followers k).image) at.space ∙ now.same;
-      misses = ap (λ s. (followers k).misses + missed page (is_in_image (followers k).image (tile_at z (pages_of s) page)) + sum (take k (kept_after (is_tile_in z (pages_after st e.frames e.what)) used kept).found)) at.space ∙ now.counts;
+      image = ap (λ s. image_after z k (pages_after s e.frames e.what) page (followers k).image) at.space
+          ∙ ap (image_after z k pages page) at.image ∙ now.same;
+      misses = ap (λ s. (followers k).misses + missed page (is_in_image (followers k).image (tile_at z (pages_of s) page))
+          + sum (take k (kept_after (is_tile_in z pages) used kept).found)) at.space
+          ∙ omega (
+            arith,
+            now.counts,
+            at.misses,
+            ap (λ ts. missed page (is_in_image ts (tile_at z (pages_of st) page))) at.image,
+          );
     }
 
-pub length-kept_after : (test : Tile → Bool) (used : Option Use) (kept : Kept) → length (kept_after test used kept).places ≡ length kept.places
+pub length-kept_after : (test : Tile → Bool) (used : Option Use) (kept : Kept)
+    → length (kept_after test used kept).places ≡ length kept.places
 length-kept_after test None kept = length-map kept.places (kept_at test)
-length-kept_after test (Some use') kept = length-moved_down use'.after (Some use'.after) (map (kept_at test) kept.places) ∙ length-map kept.places (kept_at test)
+length-kept_after test (Some use') kept = length-moved_down use'.after (Some use'.after) (map (kept_at test) kept.places)
+    ∙ length-map kept.places (kept_at test)
 
 -- Holes have no tile, and zeros no sum.
 pub tiles_in-holes : (k n : ℕ) → tiles_in (take k (replicate n None)) ≡ []
@@ -162,7 +178,8 @@ stands-begun kept n sizes told faults places found uses k within = record {
 pub tiles-after : (test : Tile → Bool) (used : Option Use) (kept : Kept) → IfSome used (λ (u : Use). test u.after ≡ true)
     → All (Passes test) (kept_after test used kept).places
 tiles-after test None kept passes = All-kept test kept.places
-tiles-after test (Some use') kept passes = All-moved test use'.after (Some use'.after) (map (kept_at test) kept.places) passes (All-kept test kept.places)
+tiles-after test (Some use') kept passes = All-moved test use'.after (Some use'.after) (map (kept_at test) kept.places) passes
+    (All-kept test kept.places)
 
 -- what was used is a tile then
 used-is_tile : (z : SizeSet) (before after : ℕ → Option Mapping) (page : Option ℕ) (used : Option Use) → IsUse z before after page used
@@ -174,10 +191,13 @@ pub stands-again : (z : SizeSet) (st : SpaceState) (e : Entry) (followers : ℕ 
     → length kept.found ≡ length kept.places
     → IsUse z (pages_of st) (pages_after st e.frames e.what) (page_used e.processor e.what) used
     → Stands z kept st followers
-    → Stands z (kept_after (is_tile_in z (pages_after st e.frames e.what)) used kept) (space_after st e) (λ capacity. follow z capacity (followers capacity) e)
+    → Stands z (kept_after (is_tile_in z (pages_after st e.frames e.what)) used kept) (space_after st e)
+    (λ capacity. follow z capacity (followers capacity) e)
 stands-again z st e followers kept used long is stands =
     let test : Tile → Bool = is_tile_in z (pages_after st e.frames e.what) in
     record {
-      images = λ k within. stands-after z st e followers kept used long is stands.images k (omega (arith, within, length-kept_after test used kept));
-      tiles = tiles-after test used kept (used-is_tile z (pages_of st) (pages_after st e.frames e.what) (page_used e.processor e.what) used is);
+      images = λ k within. stands-after z st e followers kept used long is stands.images k
+          (omega (arith, within, length-kept_after test used kept));
+      tiles = tiles-after test used kept (used-is_tile z (pages_of st) (pages_after st e.frames e.what)
+          (page_used e.processor e.what) used is);
     }

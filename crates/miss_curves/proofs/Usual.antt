@@ -36,7 +36,8 @@ used-touched (Some t) image = refl
 -- What an answer does, by the tile that its page has then, whose size it tells.
 record Same (st : SpaceState) (pages : ℕ → Option Mapping) (image : List Tile) (answered : Answered) (served page : Option ℕ) : Type 0 where
   same : used_in image_room (tile_at st.sizes pages page) image ≡ touched_by (tile_at st.sizes pages served) image
-  counts : missed page (is_in_image (st.images 0) (tile_at st.sizes (pages_of st) page)) ≡ weight (is_some answered.size && not answered.hit)
+  counts : missed page (is_in_image (st.images 0) (tile_at st.sizes (pages_of st) page))
+      ≡ weight (is_some answered.size && not answered.hit)
 
 counted : (page : ℕ) (found told : Bool) → told ≡ found → missed (Some page) found ≡ weight (not told)
 counted page true told is = rw is refl
@@ -63,8 +64,10 @@ untouched false image = refl
 -- What an entry does to the image of processor 0, and whether it is a miss.
 record Step (st : SpaceState) (e : Entry) (what : What) : Type 0 where
   image : image_after st.sizes image_room (pages_after st e.frames what) (page_used e.processor what) (st.images 0)
-      ≡ touched_by (if 0 == e.processor then used_tile st.sizes (pages_after st e.frames what) what else None) (still_tiles st.sizes (pages_after st e.frames what) (st.images 0))
-  counts : missed (page_used e.processor what) (is_in_image (st.images 0) (tile_at st.sizes (pages_of st) (page_used e.processor what))) ≡ weight (is_miss_in what)
+      ≡ touched_by (if 0 == e.processor then used_tile st.sizes (pages_after st e.frames what) what else None)
+      (still_tiles st.sizes (pages_after st e.frames what) (st.images 0))
+  counts : missed (page_used e.processor what) (is_in_image (st.images 0) (tile_at st.sizes (pages_of st) (page_used e.processor what)))
+      ≡ weight (is_miss_in what)
 
 -- entries that are no answers use no tile
 silent : (st : SpaceState) (e : Entry) (what : What) → page_used e.processor what ≡ None
@@ -75,12 +78,16 @@ silent st e what page tile miss = record {
   counts = rw (page, miss) refl;
 }
 
-step_what : (st : SpaceState) (e : Entry) (what : What) → (is_answer what ≡ true → e.processor ≡ 0) → WhatAllowed st e.frames e.processor what → Step st e what
+step_what : (st : SpaceState) (e : Entry) (what : What) → (is_answer what ≡ true → e.processor ≡ 0)
+    → WhatAllowed st e.frames e.processor what → Step st e what
 step_what st e (Answer number call answered) own allowed =
     let pages : ℕ → Option Mapping = pages_after st e.frames (Answer number call answered) in
-    let a : AnswerAllowed st e.frames 0 number call answered = subst (λ c. AnswerAllowed st e.frames c number call answered) (own refl) allowed in
-    let same : Same st pages (still_tiles st.sizes pages (st.images 0)) answered (served_page call answered.reply) (if is_some answered.size then served_page call answered.reply else None) =
-    same_by st pages (still_tiles st.sizes pages (st.images 0)) answered (served_page call answered.reply) (tile_at st.sizes pages (served_page call answered.reply)) refl a.size a.hit in
+    let a : AnswerAllowed st e.frames 0 number call answered = subst (λ c. AnswerAllowed st e.frames c number call answered)
+    (own refl) allowed in
+    let same : Same st pages (still_tiles st.sizes pages (st.images 0)) answered (served_page call answered.reply)
+    (if is_some answered.size then served_page call answered.reply else None) =
+    same_by st pages (still_tiles st.sizes pages (st.images 0)) answered (served_page call answered.reply)
+    (tile_at st.sizes pages (served_page call answered.reply)) refl a.size a.hit in
     record { image = rw (own refl) same.same; counts = rw (own refl) same.counts }
 step_what st e (Out page written) own allowed = silent st e (Out page written) refl refl refl
 step_what st e (Failed page writing count) own allowed = silent st e (Failed page writing count) refl refl refl
@@ -101,7 +108,8 @@ pub record IsUsual (f : Follower) (st : SpaceState) (count : ℕ) : Type 0 where
   pub image : f.image ≡ st.images 0
   pub misses_are : f.misses ≡ count
 
-step : (f : Follower) (st : SpaceState) (count : ℕ) (e : Entry) → IsUsual f st count → (is_answer e.what ≡ true → e.processor ≡ 0) → SpaceAllows st e
+step : (f : Follower) (st : SpaceState) (count : ℕ) (e : Entry) → IsUsual f st count → (is_answer e.what ≡ true → e.processor ≡ 0)
+    → SpaceAllows st e
     → IsUsual (follow st.sizes image_room f e) (space_after st e) (count + weight (is_miss_in e.what))
 step f st count e usual own allowed =
     let both : Step st e e.what = step_what st e e.what own allowed.1 in
@@ -133,7 +141,8 @@ sum-below h k t (suc n) below same =
     omega (arith, left, right, sum-below h k t n (omega arith) same, same n (λ is. omega (arith, is)))
 
 -- where one more is counted at one place
-sum-one : (h k : ℕ → ℕ) (t w n : ℕ) → t < n → k t ≡ h t + w → ((s : ℕ) → s ≢ t → k s ≡ h s) → sum_by k (range_with_len 0 n) ≡ sum_by h (range_with_len 0 n) + w
+sum-one : (h k : ℕ → ℕ) (t w n : ℕ) → t < n → k t ≡ h t + w → ((s : ℕ) → s ≢ t → k s ≡ h s)
+    → sum_by k (range_with_len 0 n) ≡ sum_by h (range_with_len 0 n) + w
 sum-one h k t w zero below one same = absurd (omega arith)
 sum-one h k t w (suc n) below one same =
     let more : suc n ≡ n + 1 = omega arith in
@@ -164,11 +173,13 @@ pub record AreUsual (g : Given) (history : List Entry) : Type 0 where
 
 alone-before : (history : List Entry) (e : Entry) → AnswersAlone (history ++ e ∷ []) → AnswersAlone history
 alone-before history e alone = λ k d below.
-    subst (λ (x : Entry). is_answer x.what ≡ true → x.processor ≡ 0) (get_or_append_left history (e ∷ []) d k below) (alone k d (omega (arith, length-append history (e ∷ []))))
+    subst (λ (x : Entry). is_answer x.what ≡ true → x.processor ≡ 0) (get_or_append_left history (e ∷ []) d k below)
+    (alone k d (omega (arith, length-append history (e ∷ []))))
 
 alone-last : (history : List Entry) (e : Entry) → AnswersAlone (history ++ e ∷ []) → is_answer e.what ≡ true → e.processor ≡ 0
 alone-last history e alone =
-    subst (λ (x : Entry). is_answer x.what ≡ true → x.processor ≡ 0) (get_or-append_seam history e [] e) (alone (length history) e (omega (arith, length-append history (e ∷ []))))
+    subst (λ (x : Entry). is_answer x.what ≡ true → x.processor ≡ 0) (get_or-append_seam history e [] e)
+    (alone (length history) e (omega (arith, length-append history (e ∷ []))))
 
 -- a miss is of a space
 miss-named : (space : Option ℕ) (frames : Bool) (what : What) → IsOn space frames what → space ≡ None → is_miss_in what ≡ false
@@ -191,17 +202,20 @@ module _ (g : Given) (history : List Entry) (e : Entry) (may : MayFollow g histo
   abbrev w : ℕ
   w = weight (is_miss_in e.what)
 
-  other_space : (s : ℕ) → names_space s e ≡ false → IsUsual (usual_at g (history ++ e ∷ []) s) (space_at g (history ++ e ∷ []) s) (usual.each s).0
+  other_space : (s : ℕ) → names_space s e ≡ false → IsUsual (usual_at g (history ++ e ∷ []) s) (space_at g (history ++ e ∷ []) s)
+      (usual.each s).0
   other_space s other =
       rw (space_at-other g history e s other)
-      (subst (λ f. IsUsual f (space_at g history s) (usual.each s).0) (ap (λ (fs : ℕ → Follower). fs image_room) (sym (followed-other g.sizes g history e s other))) (usual.each s).1)
+      (subst (λ f. IsUsual f (space_at g history s) (usual.each s).0)
+      (ap (λ (fs : ℕ → Follower). fs image_room) (sym (followed-other g.sizes g history e s other))) (usual.each s).1)
 
   own_space : (s : ℕ) → names_space s e ≡ true → SpaceAllows (space_at g history s) e
       → IsUsual (usual_at g (history ++ e ∷ []) s) (space_at g (history ++ e ∷ []) s) ((usual.each s).0 + w)
   own_space s named allowed =
       rw (space_at-named g history e s named)
       (subst (λ f. IsUsual f (space_after (space_at g history s) e) ((usual.each s).0 + w))
-      (ap (λ z. follow z image_room (usual_at g history s) e) (sizes-of g history s) ∙ ap (λ (fs : ℕ → Follower). fs image_room) (sym (followed-named g.sizes g history e s named)))
+      (ap (λ z. follow z image_room (usual_at g history s) e) (sizes-of g history s)
+      ∙ ap (λ (fs : ℕ → Follower). fs image_room) (sym (followed-named g.sizes g history e s named)))
       (step (usual_at g history s) (space_at g history s) (usual.each s).0 e (usual.each s).1 own allowed))
 
   each_after : (s : ℕ) → (count : ℕ) × IsUsual (usual_at g (history ++ e ∷ []) s) (space_at g (history ++ e ∷ []) s) count
@@ -210,7 +224,8 @@ module _ (g : Given) (history : List Entry) (e : Entry) (may : MayFollow g histo
     | inr other ↦ ((usual.each s).0, other_space s other)
   ]
     where
-      allowed_of : (o : Option ℕ) (s : ℕ) → is_that s o ≡ true → IfSome o (λ t. SpaceAllows (space_at g history t) e) → SpaceAllows (space_at g history s) e
+      allowed_of : (o : Option ℕ) (s : ℕ) → is_that s o ≡ true → IfSome o (λ t. SpaceAllows (space_at g history t) e)
+          → SpaceAllows (space_at g history s) e
       allowed_of None s named holds = absurd (false≢true named)
       allowed_of (Some t) s named holds = subst (λ n. SpaceAllows (space_at g history n) e) (eqb-true t s named) holds
 
@@ -225,7 +240,8 @@ module _ (g : Given) (history : List Entry) (e : Entry) (may : MayFollow g histo
   all_after None none =
       let silent : is_miss_in e.what ≡ false = miss-named e.space e.frames e.what may.parts none in
       let same : misses g (history ++ e ∷ []) image_room ≡ misses g history image_room =
-      sum-below (λ s. (usual_at g history s).misses) (λ s. (usual_at g (history ++ e ∷ []) s).misses) (length g.told) (length g.told) (omega arith)
+      sum-below (λ s. (usual_at g history s).misses) (λ s. (usual_at g (history ++ e ∷ []) s).misses) (length g.told) (length g.told)
+      (omega arith)
       (λ s other. same_misses s (rw none refl)) in
       same ∙ sym (ap (λ n. misses g history image_room + n) (ap weight silent) ∙ omega arith)
   all_after (Some t) names =
@@ -246,7 +262,8 @@ usual-legal g history legal =
     (λ before e usual may alone. usual_after g before e may (alone-last before e alone) (usual (alone-before before e alone)))
     (λ alone. record {
       each = λ s. (0, record { space = refl; image = refl; misses_are = refl });
-      all = sum-below (λ s. 0) (λ s. (usual_at g [] s).misses) (length g.told) (length g.told) (omega arith) (λ s other. refl) ∙ sum-zero (length g.told);
+      all = sum-below (λ s. 0) (λ s. (usual_at g [] s).misses) (length g.told) (length g.told) (omega arith) (λ s other. refl)
+          ∙ sum-zero (length g.told);
     })
     history legal
   where

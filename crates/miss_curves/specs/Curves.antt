@@ -53,7 +53,8 @@ follow z capacity f e =
     record {
       space = space_after f.space e;
       image = image_after z capacity (pages_after f.space e.frames e.what) (page_used e.processor e.what) f.image;
-      misses = f.misses + missed (page_used e.processor e.what) (is_in_image f.image (tile_at z (pages_of f.space) (page_used e.processor e.what)));
+      misses = f.misses + missed (page_used e.processor e.what) (is_in_image f.image
+          (tile_at z (pages_of f.space) (page_used e.processor e.what)));
     }
 
 -- a space at its beginning, with an image of any capacity

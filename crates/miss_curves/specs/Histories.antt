@@ -9,23 +9,34 @@ use Rattle.pager_model.specs.Settings.{Given}
 use Rattle.pager_model.specs.Showing.{Shows, marks_of}
 use Rattle.pager_model.specs.SizeSets.{SizeSet}
 use Rattle.pager_model.specs.SpaceStates.{SpaceState, empty_state, pages_of, pages_after}
+use Rattle.miss_curves.specs.declared.history.Uses.{Uses}
 use Rattle.miss_curves.specs.declared.stack.Use.{Use}
 use Rattle.miss_curves.specs.Curves.{base_alone, page_used}
 use Rattle.miss_curves.specs.Rows.{Rows, StandAfter}
 use Rattle.miss_curves.specs.Stacks.{IsUse}
 use Rattle.tiles.specs.Resident.{Resident, frames_in, mapping_at}
 
--- an entry takes the resident pages from these to those, and used a page so: by sizes z, and by base pages alone
-pub record OnPages (z : SizeSet) (st : SpaceState) (e : Entry) (old new : Resident) (used used_base : Option Use) : Type 0 where
-  pub before : pages_of st ≡ mapping_at old
-  pub after : pages_after st e.frames e.what ≡ mapping_at new
-  pub tile : IsUse z (mapping_at old) (mapping_at new) (page_used e.processor e.what) used
-  pub base : IsUse base_alone (mapping_at old) (mapping_at new) (page_used e.processor e.what) used_base
+-- What an entry of a space does: it takes the resident pages from these to those, and used a page so.
+pub record Effect : Type 0 where
+  pub entry : Entry
+  pub old : Resident
+  pub new : Resident
+  pub uses : Uses
 
--- it does so in the space that it names, after a history with sizes z
-pub record Told (z : SizeSet) (g : Given) (history : List Entry) (e : Entry) (old new : Resident) (used used_base : Option Use) : Type 0 where
-  pub sizes : g.sizes ≡ z
-  pub on : (s : ℕ) → e.space ≡ Some s → OnPages z (space_at g history s) e old new used used_base
+abbrev pub effect : (entry : Entry) (old new : Resident) (uses : Uses) → Effect
+effect entry old new uses = record { entry = entry; old = old; new = new; uses = uses }
+
+-- it does so in this space: by the sizes, and by base pages alone
+pub record OnPages (st : SpaceState) (d : Effect) : Type 0 where
+  pub before : pages_of st ≡ mapping_at d.old
+  pub after : pages_after st d.entry.frames d.entry.what ≡ mapping_at d.new
+  pub tile : IsUse d.uses.sizes (mapping_at d.old) (mapping_at d.new) (page_used d.entry.processor d.entry.what) d.uses.used
+  pub base : IsUse base_alone (mapping_at d.old) (mapping_at d.new) (page_used d.entry.processor d.entry.what) d.uses.used_base
+
+-- it does so in the space that it names, after a history with these sizes
+pub record Told (g : Given) (history : List Entry) (d : Effect) : Type 0 where
+  pub sizes : g.sizes ≡ d.uses.sizes
+  pub on : (s : ℕ) → d.entry.space ≡ Some s → OnPages (space_at g history s) d
 
 -- what a use was of a page with this tile before it and that one after it
 abbrev pub use_of : Option Tile → Option Tile → Option Use

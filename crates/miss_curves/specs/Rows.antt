@@ -1,6 +1,7 @@
 -- The stacks of all spaces.
 use Rattle.std.specs.Prelude.{ℕ, ◌≡◌, ◌-◌, ◌^◌, ◌<◌, ◌≤◌, List, length, sum_by, slice_index_or}
 use Rattle.std.specs.List.{All}
+use Rattle.pager_model.specs.Bounds.{most_spaces}
 use Rattle.pager_model.specs.declared.entry.Entry.{Entry}
 use Rattle.pager_model.specs.Entries.{space_part}
 use Rattle.pager_model.specs.Legal.{space_at}
@@ -27,14 +28,15 @@ pub record AreStacks (n entries : ℕ) (stacks : List Kept) : Type 0 where
 
 pub record AreRows (rows : Rows) : Type 0 where
   pub counted : rows.entries ≤ 2 ^ 64 - 1
-  pub few : length rows.tiles ≤ 16
+  pub few : length rows.tiles ≤ most_spaces
   pub tiles : AreStacks (length rows.tiles) rows.entries rows.tiles
   pub pages : AreStacks (length rows.tiles) rows.entries rows.pages
 
 -- after a history each stack stands for what the entries of its space lead to, with tiles by sizes z
 pub record StandEach (z : SizeSet) (g : Given) (stacks : List Kept) (history : List Entry) : Type 0 where
   pub spaces : length stacks ≡ length g.told
-  pub each : (s : ℕ) (d : Kept) → s < length stacks → Stands z (slice_index_or stacks s d) (space_at g history s) (followed z g s (space_part s history))
+  pub each : (s : ℕ) (d : Kept) → s < length stacks → Stands z (slice_index_or stacks s d) (space_at g history s)
+      (followed z g s (space_part s history))
 
 -- The rows stand for a history: those of tiles by the sizes there are, and those of base pages alone.
 pub record StandAfter (g : Given) (rows : Rows) (history : List Entry) : Type 0 where

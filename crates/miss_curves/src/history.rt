@@ -14,7 +14,7 @@ ghost use Rattle.pager_model.specs.TraceText.{HasText};
 ghost use Rattle.followed_space.specs.Changed.{IsChange};
 ghost use Rattle.followed_space.specs.Follows.{AnswersLine, Follows, IsNext};
 ghost use Rattle.miss_curves.specs.Curves.{AreCurves, base_alone, page_used};
-ghost use Rattle.miss_curves.specs.Histories.{Comes, EachComes, IsNew, IsRunOf, KeepsUp, Told, use_of};
+ghost use Rattle.miss_curves.specs.Histories.{Comes, EachComes, IsNew, IsRunOf, KeepsUp, Told, effect, use_of};
 ghost use Rattle.miss_curves.specs.Rows.{StandAfter};
 ghost use Rattle.tiles.specs.Beside.{OthersSame};
 ghost use Rattle.tiles.specs.Changes.{AreChanges};
@@ -25,13 +25,18 @@ ghost use Rattle.tiles.specs.Touched.{is_touched};
 use crate::stack::Use;
 use crate::stacks::{Curves, Stacks};
 use followed_space::{Changed, FollowedSpace};
-use pager_model::{Call, Entry, NoMemory, PageRange, Reply, Sizes, Tile, Trace, What};
+use pager_model::{Call, Entry, NoMemory, PageRange, Reply, Sizes, Tile, Trace, What, page_of};
 use run_history::History;
 use std::alloc::Global;
 use tiles::{Changes, TileList};
 
-/// The bytes of a base page.
-const PAGE_BYTES: u64 = 8192;
+/// What was used of a page, if one was: by the sizes of the run, and by base pages alone.
+#[derive(Clone, Copy)]
+struct Uses {
+    used: Option<Use>,
+    used_base: Option<Use>,
+    sizes: Sizes,
+}
 
 /// Base pages alone.
 fn base_alone() -> Sizes
@@ -53,7 +58,7 @@ fn used_page(entry: &Entry) -> Option<u32>
     }
     match (call, answered.reply) {
         (Call::Load { address, .. }, Reply::Value(_))
-        | (Call::Store { address, .. }, Reply::Done) => Some((address / PAGE_BYTES) as u32),
+        | (Call::Store { address, .. }, Reply::Done) => Some(page_of(address)),
         _ => None,
     }
 }
@@ -96,29 +101,28 @@ fn tell_page(
     entry: &Entry,
     page: u32,
     changes: &Changes,
-    used: Option<Use>,
-    used_base: Option<Use>,
-    sizes: Sizes,
+    uses: &Uses,
 )
     requires known { IfSome entry.now.space (λ s. s < length stacks.old.tiles) }
     requires room { stacks.old.entries < 2 ^ 64 - 1 }
     ensures spaces { length stacks.new.tiles ≡ length stacks.old.tiles }
     ensures entries { stacks.new.entries ≤ stacks.old.entries + 1 }
     ensures stands { (g : Given) (history : List Item) (old : Resident) → OthersSame page (mapping_at old) (mapping_at space.now.pages)
-        → AreChanges old space.now.pages changes.now → Told sizes g history entry.now old space.now.pages used used_base
+        → AreChanges old space.now.pages changes.now → Told g history (effect entry.now old space.now.pages uses.now)
         → StandAfter g stacks.old history → StandAfter g stacks.new (history ++ entry.now ∷ []) }
 {
     if !changes.takes_any() {
-        stacks.follow_same(entry, used, used_base);
+        stacks.follow_same(entry, uses.used, uses.used_base);
         return;
     }
     let gone = changes.gone();
+    let sizes = uses.sizes;
     stacks.follow(
         entry,
         &|tile: &Tile| stays_at(space, &gone, tile, sizes),
-        used,
+        uses.used,
         &|tile: &Tile| base_stays_at(space, page, tile),
-        used_base,
+        uses.used_base,
     );
 }
 
@@ -128,9 +132,7 @@ fn tell_range(
     space: &FollowedSpace,
     entry: &Entry,
     range: PageRange,
-    used: Option<Use>,
-    used_base: Option<Use>,
-    sizes: Sizes,
+    uses: &Uses,
 )
     requires known { IfSome entry.now.space (λ s. s < length stacks.old.tiles) }
     requires room { stacks.old.entries < 2 ^ 64 - 1 }
@@ -138,42 +140,33 @@ fn tell_range(
     ensures entries { stacks.new.entries ≤ stacks.old.entries + 1 }
     ensures stands { (g : Given) (history : List Item) (old : Resident)
         → ((z : SizeSet) → KeepsOutsideIn z range (mapping_at old) (mapping_at space.now.pages))
-        → Told sizes g history entry.now old space.now.pages used used_base
+        → Told g history (effect entry.now old space.now.pages uses.now)
         → StandAfter g stacks.old history → StandAfter g stacks.new (history ++ entry.now ∷ []) }
 {
+    let sizes = uses.sizes;
     stacks.follow(
         entry,
         &|tile: &Tile| stays_in(space, range, tile, sizes),
-        used,
+        uses.used,
         &|tile: &Tile| stays_in(space, range, tile, base_alone()),
-        used_base,
+        uses.used_base,
     );
 }
 
 /// Tells of an entry what it changed of its space's pages.
-fn tell(
-    stacks: &mut Stacks,
-    space: &FollowedSpace,
-    entry: &Entry,
-    changed: &Changed,
-    used: Option<Use>,
-    used_base: Option<Use>,
-    sizes: Sizes,
-)
+fn tell(stacks: &mut Stacks, space: &FollowedSpace, entry: &Entry, changed: &Changed, uses: &Uses)
     requires known { IfSome entry.now.space (λ s. s < length stacks.old.tiles) }
     requires room { stacks.old.entries < 2 ^ 64 - 1 }
     ensures spaces { length stacks.new.tiles ≡ length stacks.old.tiles }
     ensures entries { stacks.new.entries ≤ stacks.old.entries + 1 }
     ensures stands { (g : Given) (history : List Item) (old : Resident) → IsChange old space.now.pages changed.now
-        → Told sizes g history entry.now old space.now.pages used used_base
+        → Told g history (effect entry.now old space.now.pages uses.now)
         → StandAfter g stacks.old history → StandAfter g stacks.new (history ++ entry.now ∷ []) }
 {
     match changed {
-        Changed::Nothing => stacks.follow_same(entry, used, used_base),
-        Changed::Page { page, changes } => {
-            tell_page(stacks, space, entry, *page, changes, used, used_base, sizes)
-        }
-        Changed::Range(range) => tell_range(stacks, space, entry, *range, used, used_base, sizes),
+        Changed::Nothing => stacks.follow_same(entry, uses.used, uses.used_base),
+        Changed::Page { page, changes } => tell_page(stacks, space, entry, *page, changes, uses),
+        Changed::Range(range) => tell_range(stacks, space, entry, *range, uses),
     }
 }
 
@@ -217,9 +210,12 @@ fn follow_entry(stacks: &mut Stacks, space: &mut FollowedSpace, entry: &Entry, s
     let changed = space.follow(entry);
     let after = tile_at(space, page, sizes);
     let base_after = tile_at(space, page, base);
-    let used = use_of(before, after);
-    let used_base = use_of(base_before, base_after);
-    tell(stacks, space, entry, &changed, used, used_base, sizes);
+    let uses = Uses {
+        used: use_of(before, after),
+        used_base: use_of(base_before, base_after),
+        sizes,
+    };
+    tell(stacks, space, entry, &changed, &uses);
 }
 
 /// Follows an entry in its space, if it has one.

@@ -3,6 +3,7 @@
 ghost use Rattle.std.specs.Prelude.{◌≡◌, ℕ, ◌+◌, ◌-◌, ◌<◌, ◌≤◌, ◌^◌, Bool, false, Some, None, Option, length, map, count_by, sum, take, slice_index, IfOk, IfSome};
 ghost use Rattle.std.specs.Fn.{FnReturnsAt};
 ghost use Rattle.std.specs.List.{position, All};
+ghost use Rattle.pager_model.specs.Bounds.{space_pages};
 ghost use Rattle.pager_model.specs.declared.tile.Tile.{Tile};
 ghost use Rattle.pager_model.specs.declared.entry.Entry.{Entry};
 ghost use Rattle.pager_model.specs.SizeSets.{SizeSet};
@@ -185,7 +186,7 @@ impl Model for Stack {
 impl Stack {
     /// A stack of so many places, which are holes.
     pub fn create(alloc: Global, places: usize) -> Result<Stack, NoMemory>
-        requires { places ≤ 1048576 }
+        requires { places ≤ space_pages }
         ensures blank { IfOk result (λ s. IsBlank places s) }
     {
         Ok(Stack {

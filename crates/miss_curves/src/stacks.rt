@@ -3,6 +3,7 @@
 ghost use Rattle.std.specs.Prelude.{◌≡◌, ℕ, ◌+◌, ◌-◌, ◌<◌, ◌≤◌, ◌^◌, [], ◌∷◌, ◌++◌, List, Some, length, slice_index, IfOk, IfSome};
 ghost use Rattle.std.specs.Fn.{FnReturnsAt};
 ghost use Rattle.std.specs.List.{All};
+ghost use Rattle.pager_model.specs.Bounds.{most_spaces};
 ghost use Rattle.pager_model.specs.declared.entry.Entry.{Entry as Item};
 ghost use Rattle.pager_model.specs.Counts.{counts};
 ghost use Rattle.pager_model.specs.Legal.{IsLegal, space_at};
@@ -48,7 +49,7 @@ impl Model for Stacks {
 impl Stacks {
     /// The stacks of so many spaces before any entry.
     pub fn create(alloc: Global, spaces: usize) -> Result<Stacks, NoMemory>
-        requires { spaces ≤ 16 }
+        requires { spaces ≤ most_spaces }
         ensures spaces { IfOk result (λ s. length s.tiles ≡ spaces) }
         ensures unused { IfOk result (λ s. s.entries ≡ 0) }
         ensures stands { IfOk result (λ s. (g : Given) → length g.told ≡ spaces → StandAfter g s []) }
@@ -126,7 +127,7 @@ impl Stacks {
 
 /// So many stacks of holes.
 fn blank_stacks(alloc: Global, spaces: usize) -> Result<Vec<Stack>, NoMemory>
-    requires { spaces ≤ 16 }
+    requires { spaces ≤ most_spaces }
     ensures spaces { IfOk result (λ stacks. length stacks.items ≡ spaces) }
     ensures blank { IfOk result (λ stacks. All (λ s. IsBlank 1024 s) stacks.items) }
 {

@@ -13,34 +13,42 @@ use Rattle.trace_reader.proofs.CutTexts.{not_refused}
 use Rattle.trace_reader.proofs.UniqueTexts.{one_plan}
 
 -- a trace that was read and has more spaces than there are stores is refused so
-pub refused_stores : (form : Form) (left after : Option (List ℕ)) (trace : Plan) (stores : ℕ) (refusal : Option TraceFault) → WasRead trace left after → Admits form trace
-    → (stores < trace.spaces) × (refusal ≡ Some (TooFewStores stores trace.spaces)) → IfSome left (λ bytes. IsSomeAnd refusal (IsRefused form stores bytes))
+pub refused_stores : (form : Form) (left after : Option (List ℕ)) (trace : Plan) (stores : ℕ) (refusal : Option TraceFault)
+    → WasRead trace left after → Admits form trace
+    → (stores < trace.spaces) × (refusal ≡ Some (TooFewStores stores trace.spaces))
+    → IfSome left (λ bytes. IsSomeAnd refusal (IsRefused form stores bytes))
 refused_stores form None after trace stores refusal read takes few = tt
 refused_stores form (Some bytes) after trace stores refusal read takes few =
     subst (λ refusal. IsSomeAnd refusal (IsRefused form stores bytes)) (sym few.1) (inr (inr (trace, read.0, takes, few.0, refl)))
 
 -- and one that has more processors than one, by a form that is for one alone
-pub refused_processors : (form : Form) (left after : Option (List ℕ)) (trace : Plan) (stores : ℕ) (refusal : Option TraceFault) → WasRead trace left after → IsForOneProcessor form
-    → (1 < trace.processors) × (refusal ≡ Some (OneProcessor trace.processors)) → IfSome left (λ bytes. IsSomeAnd refusal (IsRefused form stores bytes))
+pub refused_processors : (form : Form) (left after : Option (List ℕ)) (trace : Plan) (stores : ℕ) (refusal : Option TraceFault)
+    → WasRead trace left after → IsForOneProcessor form
+    → (1 < trace.processors) × (refusal ≡ Some (OneProcessor trace.processors))
+    → IfSome left (λ bytes. IsSomeAnd refusal (IsRefused form stores bytes))
 refused_processors form None after trace stores refusal read one more = tt
 refused_processors form (Some bytes) after trace stores refusal read one more =
     subst (λ refusal. IsSomeAnd refusal (IsRefused form stores bytes)) (sym more.1) (inr (inl (trace, read.0, one, more.0, refl)))
 
 -- a trace whose text runs has stores enough, and the form is for it
-pub runs_read : (form : Form) (left after : Option (List ℕ)) (trace : Plan) (stores : ℕ) → IsSomeAnd left (IsRunnable form stores) → WasRead trace left after → Admits form trace × (trace.spaces ≤ stores)
+pub runs_read : (form : Form) (left after : Option (List ℕ)) (trace : Plan) (stores : ℕ) → IsSomeAnd left (IsRunnable form stores)
+    → WasRead trace left after → Admits form trace × (trace.spaces ≤ stores)
 runs_read form None after trace stores runs read = absurd runs
 runs_read form (Some bytes) after trace stores runs read =
     let same : runs.0 ≡ trace = one_plan runs.0 trace runs.1.0 read.0.0 (sym runs.1.1 ∙ read.0.1) in
     subst (λ plan. Admits form plan × (plan.spaces ≤ stores)) same (runs.2, runs.3)
 
 -- a trace's text is refused for a failed read or for want of memory alone
-pub not_refused_text : (form : Form) (left : Option (List ℕ)) (fault : TraceFault) (stores status : ℕ) → IsSomeAnd left (IsRunnable form stores) → IfSome left (λ bytes. IsCause (refusal_of bytes) fault) → status ≡ status_of fault → (fault ≡ ReadFault → ⊥) → status ≡ MEMORY
+pub not_refused_text : (form : Form) (left : Option (List ℕ)) (fault : TraceFault) (stores status : ℕ)
+    → IsSomeAnd left (IsRunnable form stores) → IfSome left (λ bytes. IsCause (refusal_of bytes) fault) → status ≡ status_of fault
+    → (fault ≡ ReadFault → ⊥) → status ≡ MEMORY
 not_refused_text form None fault stores status runs cause is read = absurd runs
 not_refused_text form (Some bytes) fault stores status runs cause is read =
     let none : refusal_of bytes ≡ None = ap refusal_of runs.1.1 ∙ not_refused runs.0 runs.1.0 in
     by_fault fault none cause is read
   where
-    by_fault : (fault : TraceFault) → refusal_of bytes ≡ None → IsCause (refusal_of bytes) fault → status ≡ status_of fault → (fault ≡ ReadFault → ⊥) → status ≡ MEMORY
+    by_fault : (fault : TraceFault) → refusal_of bytes ≡ None → IsCause (refusal_of bytes) fault → status ≡ status_of fault
+        → (fault ≡ ReadFault → ⊥) → status ≡ MEMORY
     by_fault ReadFault none cause is read = absurd (read refl)
     by_fault NoMemory none cause is read = is
     by_fault TooLong none cause is read = absurd (none-some _ (sym none ∙ cause))
@@ -51,7 +59,9 @@ not_refused_text form (Some bytes) fault stores status runs cause is read =
     by_fault (OneProcessor processors) none cause is read = absurd cause
 
 -- and what is refused of a text is what the text is refused for
-pub refused_text : (form : Form) (left : Option (List ℕ)) (fault : TraceFault) (stores status : ℕ) (refusal : Option TraceFault) → IfSome left (λ bytes. IsCause (refusal_of bytes) fault) → status ≡ status_of fault → refusal ≡ Some fault → status ≡ REFUSED → IfSome left (λ bytes. IsSomeAnd refusal (IsRefused form stores bytes))
+pub refused_text : (form : Form) (left : Option (List ℕ)) (fault : TraceFault) (stores status : ℕ) (refusal : Option TraceFault)
+    → IfSome left (λ bytes. IsCause (refusal_of bytes) fault) → status ≡ status_of fault → refusal ≡ Some fault → status ≡ REFUSED
+    → IfSome left (λ bytes. IsSomeAnd refusal (IsRefused form stores bytes))
 refused_text form None fault stores status refusal cause is told refused = tt
 refused_text form (Some bytes) fault stores status refusal cause is told refused =
     subst (λ refusal. IsSomeAnd refusal (IsRefused form stores bytes)) (sym told) (inl (by_fault fault cause (sym is ∙ refused)))
@@ -78,12 +88,14 @@ status_told (TooFewStores stores spaces) = inl refl
 status_told (OneProcessor processors) = inl refl
 
 -- a text that was read is one that can be run, where its trace is
-pub was_runnable : (form : Form) (stores : ℕ) (left after : Option (List ℕ)) (plan : Plan) → WasRead plan left after → Admits form plan → plan.spaces ≤ stores → WasRunnable form stores left after
+pub was_runnable : (form : Form) (stores : ℕ) (left after : Option (List ℕ)) (plan : Plan) → WasRead plan left after → Admits form plan
+    → plan.spaces ≤ stores → WasRunnable form stores left after
 was_runnable form stores None after plan read admitted enough = tt
 was_runnable form stores (Some bytes) after plan read admitted enough = ((plan, read.0, admitted, enough), read.1)
 
 -- a refusal for want of stores, which are fewer than the spaces
-pub counts_stores : (refusal : Option TraceFault) (stores spaces : ℕ) → refusal ≡ Some (TooFewStores stores spaces) → stores < spaces → CountsStores stores refusal
+pub counts_stores : (refusal : Option TraceFault) (stores spaces : ℕ) → refusal ≡ Some (TooFewStores stores spaces) → stores < spaces
+    → CountsStores stores refusal
 counts_stores refusal stores spaces is few = λ told wanted also.
     let same : Some (TooFewStores stores spaces) ≡ Some (TooFewStores told wanted) = sym is ∙ also in
     let count : told ≡ stores = cc in
@@ -95,15 +107,18 @@ pub counts_none : (refusal : Option TraceFault) (stores : ℕ) → refusal ≡ N
 counts_none refusal stores none = λ told wanted is. absurd (none-some _ (sym none ∙ is))
 
 -- a refusal for more processors than one
-pub counts_processors : (form : Form) (refusal : Option TraceFault) (processors : ℕ) → refusal ≡ Some (OneProcessor processors) → IsForOneProcessor form → 1 < processors → CountsProcessors form refusal
+pub counts_processors : (form : Form) (refusal : Option TraceFault) (processors : ℕ) → refusal ≡ Some (OneProcessor processors)
+    → IsForOneProcessor form → 1 < processors → CountsProcessors form refusal
 counts_processors form refusal processors is one more = λ told also.
     let same : Some (OneProcessor processors) ≡ Some (OneProcessor told) = sym is ∙ also in
     let count : told ≡ processors = cc in
     (one, omega (arith, more, count))
 
 -- another refusal is none for processors
-pub another_fault : (form : Form) (refusal : Option TraceFault) (fault : TraceFault) → refusal ≡ Some fault → ((processors : ℕ) → fault ≡ OneProcessor processors → ⊥) → CountsProcessors form refusal
-another_fault form refusal fault is other = λ processors also. absurd (other processors (same_Some fault (OneProcessor processors) (sym is ∙ also)))
+pub another_fault : (form : Form) (refusal : Option TraceFault) (fault : TraceFault) → refusal ≡ Some fault
+    → ((processors : ℕ) → fault ≡ OneProcessor processors → ⊥) → CountsProcessors form refusal
+another_fault form refusal fault is other = λ processors also. absurd
+    (other processors (same_Some fault (OneProcessor processors) (sym is ∙ also)))
 
 -- and without one none was wanted
 pub counts_none_for_processors : (form : Form) (refusal : Option TraceFault) → refusal ≡ None → CountsProcessors form refusal

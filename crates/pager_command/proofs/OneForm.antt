@@ -95,7 +95,8 @@ large_is_no_form words number seed is form =
     let same : 108 ≡ letter form.0 = ap first_letter (sym is.are ∙ form.1.are) ∙ begins form.0 in
     (others form.0).0 same
 
-pub making_is_not_large : (words : List (Bor (List ℕ))) (m : Making) (number seed : ℕ) → AreMakingWords words m → AreLargeWords words number seed → ⊥
+pub making_is_not_large : (words : List (Bor (List ℕ))) (m : Making) (number seed : ℕ) → AreMakingWords words m
+    → AreLargeWords words number seed → ⊥
 making_is_not_large words m number seed is large =
     let same : 109 ≡ 108 = ap first_letter (sym is.are ∙ large.are) in
     omega (arith, same)
@@ -105,7 +106,8 @@ one_number : (m n : ℕ) → m < 2 ^ 32 → n < 2 ^ 32 → decimal m ≡ decimal
 one_number m n below other = decimal_injective m n (omega (arith, below)) (omega (arith, other))
 
 -- what can be made has numbers of at most 32 bits
-pub below_32_bits : (calls processors spaces frames : ℕ) → CanMake calls processors spaces frames → (calls < 2 ^ 32) × (processors < 2 ^ 32) × (spaces < 2 ^ 32) × (frames < 2 ^ 32)
+pub below_32_bits : (calls processors spaces frames : ℕ) → CanMake calls processors spaces frames
+    → (calls < 2 ^ 32) × (processors < 2 ^ 32) × (spaces < 2 ^ 32) × (frames < 2 ^ 32)
 below_32_bits calls processors spaces frames can =
     (omega (arith, can.calls_in.1), omega (arith, can.processors_in.1), omega (arith, can.spaces_in.1), omega (arith, can.frames_in.1))
 
@@ -114,10 +116,12 @@ making_of number calls processors spaces frames =
     record { number = number; calls = calls; processors = processors; spaces = spaces; frames = frames }
 
 -- the same words ask for the same trace
-pub same_making : (a b : Making) → a.number < 2 ^ 64 → b.number < 2 ^ 64 → a.calls < 2 ^ 32 → a.processors < 2 ^ 32 → a.spaces < 2 ^ 32 → a.frames < 2 ^ 32 → CanMake b.calls b.processors b.spaces b.frames → making_words a ≡ making_words b → a ≡ b
+pub same_making : (a b : Making) → a.number < 2 ^ 64 → b.number < 2 ^ 64 → a.calls < 2 ^ 32 → a.processors < 2 ^ 32 → a.spaces < 2 ^ 32
+    → a.frames < 2 ^ 32 → CanMake b.calls b.processors b.spaces b.frames → making_words a ≡ making_words b → a ≡ b
 same_making a b number also calls processors spaces frames can same =
     let below = below_32_bits b.calls b.processors b.spaces b.frames can in
-    let at : (i : ℕ) → get_or (making_words a) i [] ≡ get_or (making_words b) i [] = λ i. ap (λ (ws : List (List ℕ)). get_or ws i []) same in
+    let at : (i : ℕ) → get_or (making_words a) i [] ≡ get_or (making_words b) i [] =
+    λ i. ap (λ (ws : List (List ℕ)). get_or ws i []) same in
     let number_is : a.number ≡ b.number = decimal_injective a.number b.number number also (at 1) in
     let calls_are : a.calls ≡ b.calls = one_number a.calls b.calls calls below.0 (at 2) in
     let processors_are : a.processors ≡ b.processors = one_number a.processors b.processors processors below.1 (at 3) in
@@ -135,7 +139,9 @@ one_making words a b is also =
     same_making a b is.number also.number below.0 below.1 below.2 below.3 also.can (sym is.are ∙ also.are)
 
 -- the same words ask for the same number and seed
-pub one_large : (words : List (Bor (List ℕ))) (number seed number' seed' : ℕ) → AreLargeWords words number seed → AreLargeWords words number' seed' → (number ≡ number') × (seed ≡ seed')
+pub one_large : (words : List (Bor (List ℕ))) (number seed number' seed' : ℕ) → AreLargeWords words number seed
+    → AreLargeWords words number' seed' → (number ≡ number') × (seed ≡ seed')
 one_large words number seed number' seed' is also =
-    let at : (i : ℕ) → get_or (large_words number seed) i [] ≡ get_or (large_words number' seed') i [] = λ i. ap (λ (ws : List (List ℕ)). get_or ws i []) (sym is.are ∙ also.are) in
+    let at : (i : ℕ) → get_or (large_words number seed) i [] ≡ get_or (large_words number' seed') i [] =
+    λ i. ap (λ (ws : List (List ℕ)). get_or ws i []) (sym is.are ∙ also.are) in
     (decimal_injective number number' is.number_in also.number_in (at 1), decimal_injective seed seed' is.seed_in also.seed_in (at 2))

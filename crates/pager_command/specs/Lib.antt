@@ -2,3 +2,4 @@ pub mod Forms
 pub mod Runs
 pub mod MadeRuns
 pub mod Messages
+pub mod Views

@@ -1,5 +1,5 @@
 -- What the commands that make a trace promise.
-use Rattle.std.specs.Prelude.{ℕ, ◌≡◌, ◌≢◌, ◌<◌, ◌≤◌, ◌⊎◌, List, [], length, map, Option, Some, None}
+use Rattle.std.specs.Prelude.{ℕ, ◌≡◌, ◌≢◌, ◌<◌, ◌≤◌, ◌⊎◌, List, [], length, map, Some, None}
 use Rattle.io_core.specs.Faults.{Rose}
 use Rattle.pager_model.specs.declared.entry.Numbered.{Numbered}
 use Rattle.pager_model.specs.Counts.{counts}
@@ -15,8 +15,8 @@ use Rattle.report_text.specs.Written.{WroteAll, WrotePart}
 use Rattle.trace_make.specs.Made.{made}
 use Rattle.trace_reader.specs.declared.fault.TraceFault.TheVariants.{TooFewStores}
 use Rattle.pager_command.specs.declared.form.Making.{Making}
-use Rattle.pager_command.specs.declared.outcome.Outcome.{Outcome}
 use Rattle.pager_command.specs.declared.status.TheConstants.{DONE, REFUSED, MEMORY, WRITE_FAULT}
+use Rattle.pager_command.specs.Views.{Ending, OutViews}
 
 -- the text of the trace that is to be made
 abbrev pub made_text : Making → List ℕ
@@ -30,49 +30,59 @@ large_trace number = made number 100000 4 4 8192
 abbrev pub counts_text : Plan → List Stored → List Numbered → List ℕ
 counts_text plan stores history = summary_text (counts (setting_over plan stores) (entries_in history))
 
--- What making a trace and writing its text promises. A sink tells its bytes by `taken` and its faults by `writes`, and a store itself by
--- `seen`.
-pub record MakesText {K P : Type 0} (taken : K → Option (List ℕ)) (writes : K → ℕ) (seen : P → Stored) (m : Making) (sink sink' : K) (stores : List P) (outcome : Outcome P) : Type 0 where
+-- What making a trace and writing its text promises.
+pub record MakesText {K P : Type 0} (out : OutViews K P) (m : Making) (stores : List P) (end : Ending K P) : Type 0 where
   -- it is done, there was no memory, or a write failed
-  pub statuses : (outcome.status ≡ DONE) ⊎ ((outcome.status ≡ MEMORY) ⊎ (outcome.status ≡ WRITE_FAULT))
+  pub statuses : (end.outcome.status ≡ DONE) ⊎ ((end.outcome.status ≡ MEMORY) ⊎ (end.outcome.status ≡ WRITE_FAULT))
   -- unless a write fails, it is done or there was no memory
-  pub complete : (Rose (writes sink) (writes sink') → ⊥) → (outcome.status ≡ DONE) ⊎ (outcome.status ≡ MEMORY)
+  pub complete : (Rose (out.writes end.before) (out.writes end.after) → ⊥)
+      → (end.outcome.status ≡ DONE) ⊎ (end.outcome.status ≡ MEMORY)
   -- nothing was refused or run
-  pub no_refusal : outcome.refusal ≡ None
-  pub no_history : outcome.history.items ≡ []
+  pub no_refusal : end.outcome.refusal ≡ None
+  pub no_history : end.outcome.history.items ≡ []
   -- the trace is the one that is made from the number
-  pub trace : (outcome.status ≡ DONE) ⊎ (outcome.status ≡ WRITE_FAULT) → outcome.trace ≡ Some (made m.number m.calls m.processors m.spaces m.frames)
-  pub no_trace : outcome.status ≢ DONE → outcome.status ≢ WRITE_FAULT → outcome.trace ≡ None
+  pub trace : (end.outcome.status ≡ DONE) ⊎ (end.outcome.status ≡ WRITE_FAULT)
+      → end.outcome.trace ≡ Some (made m.number m.calls m.processors m.spaces m.frames)
+  pub no_trace : end.outcome.status ≢ DONE → end.outcome.status ≢ WRITE_FAULT → end.outcome.trace ≡ None
   -- the stores are as they were
-  pub same_stores : map seen outcome.stores.items ≡ map seen stores
+  pub same_stores : map out.seen end.outcome.stores.items ≡ map out.seen stores
   -- the sink has gained the text
-  pub wrote : outcome.status ≡ DONE → WroteAll (made_text m) (taken sink) (taken sink')
+  pub wrote : end.outcome.status ≡ DONE → WroteAll (made_text m) (out.taken end.before) (out.taken end.after)
   -- the sink failed, and has gained a beginning of the text
-  pub part : outcome.status ≡ WRITE_FAULT → WrotePart (made_text m) (taken sink) (taken sink')
-  pub write_fault : outcome.status ≡ WRITE_FAULT → Rose (writes sink) (writes sink')
+  pub part : end.outcome.status ≡ WRITE_FAULT → WrotePart (made_text m) (out.taken end.before) (out.taken end.after)
+  pub write_fault : end.outcome.status ≡ WRITE_FAULT → Rose (out.writes end.before) (out.writes end.after)
   -- there was no memory, and nothing was written
-  pub unwritten : outcome.status ≡ MEMORY → sink' ≡ sink
+  pub unwritten : end.outcome.status ≡ MEMORY → end.after ≡ end.before
 
 -- What making the large trace, running it in drawn turns and writing the counts promises.
-pub record RunsLarge {K P : Type 0} (taken : K → Option (List ℕ)) (writes : K → ℕ) (seen : P → Stored) (number seed : ℕ) (sink sink' : K) (stores : List P) (outcome : Outcome P) : Type 0 where
+pub record RunsLarge {K P : Type 0} (out : OutViews K P) (number seed : ℕ) (stores : List P) (end : Ending K P) : Type 0 where
   -- it is done, there were too few stores or no memory, or a write failed
-  pub statuses : (outcome.status ≡ DONE) ⊎ ((outcome.status ≡ REFUSED) ⊎ ((outcome.status ≡ MEMORY) ⊎ (outcome.status ≡ WRITE_FAULT)))
+  pub statuses : (end.outcome.status ≡ DONE)
+      ⊎ ((end.outcome.status ≡ REFUSED) ⊎ ((end.outcome.status ≡ MEMORY) ⊎ (end.outcome.status ≡ WRITE_FAULT)))
   -- with a store for each space, and unless a write fails, it is done or there was no memory
-  pub complete : 4 ≤ length stores → (Rose (writes sink) (writes sink') → ⊥) → (outcome.status ≡ DONE) ⊎ (outcome.status ≡ MEMORY)
+  pub complete : 4 ≤ length stores → (Rose (out.writes end.before) (out.writes end.after) → ⊥)
+      → (end.outcome.status ≡ DONE) ⊎ (end.outcome.status ≡ MEMORY)
   -- it is refused exactly where there are fewer stores
-  pub few : length stores < 4 → outcome.status ≡ REFUSED
-  pub refused : outcome.status ≡ REFUSED → (length stores < 4) × (outcome.refusal ≡ Some (TooFewStores (length stores) 4))
-  pub no_refusal : outcome.status ≢ REFUSED → outcome.refusal ≡ None
+  pub few : length stores < 4 → end.outcome.status ≡ REFUSED
+  pub refused : end.outcome.status ≡ REFUSED
+      → (length stores < 4) × (end.outcome.refusal ≡ Some (TooFewStores (length stores) 4))
+  pub no_refusal : end.outcome.status ≢ REFUSED → end.outcome.refusal ≡ None
   -- where no run was made nothing was written, and the stores are as they were
-  pub unwritten : outcome.status ≢ DONE → outcome.status ≢ WRITE_FAULT → sink' ≡ sink
-  pub no_trace : outcome.status ≢ DONE → outcome.status ≢ WRITE_FAULT → (outcome.trace ≡ None) × (outcome.history.items ≡ [])
-  pub same_stores : outcome.status ≢ DONE → outcome.status ≢ WRITE_FAULT → map seen outcome.stores.items ≡ map seen stores
+  pub unwritten : end.outcome.status ≢ DONE → end.outcome.status ≢ WRITE_FAULT → end.after ≡ end.before
+  pub no_trace : end.outcome.status ≢ DONE → end.outcome.status ≢ WRITE_FAULT
+      → (end.outcome.trace ≡ None) × (end.outcome.history.items ≡ [])
+  pub same_stores : end.outcome.status ≢ DONE → end.outcome.status ≢ WRITE_FAULT
+      → map out.seen end.outcome.stores.items ≡ map out.seen stores
   -- a run that was made is of the large trace, in the turns of the seed
-  pub trace : (outcome.status ≡ DONE) ⊎ (outcome.status ≡ WRITE_FAULT) → outcome.trace ≡ Some (large_trace number)
-  pub run : (outcome.status ≡ DONE) ⊎ (outcome.status ≡ WRITE_FAULT) → IsReplay (large_trace number) (map seen stores) outcome.history.items (map seen outcome.stores.items)
-  pub seeded : (outcome.status ≡ DONE) ⊎ (outcome.status ≡ WRITE_FAULT) → IsSeeded (large_trace number) seed (entries_in outcome.history.items)
+  pub trace : (end.outcome.status ≡ DONE) ⊎ (end.outcome.status ≡ WRITE_FAULT) → end.outcome.trace ≡ Some (large_trace number)
+  pub run : (end.outcome.status ≡ DONE) ⊎ (end.outcome.status ≡ WRITE_FAULT)
+      → IsReplay (large_trace number) (map out.seen stores) end.outcome.history.items (map out.seen end.outcome.stores.items)
+  pub seeded : (end.outcome.status ≡ DONE) ⊎ (end.outcome.status ≡ WRITE_FAULT)
+      → IsSeeded (large_trace number) seed (entries_in end.outcome.history.items)
   -- the sink has gained the counts of that run
-  pub wrote : outcome.status ≡ DONE → WroteAll (counts_text (large_trace number) (map seen stores) outcome.history.items) (taken sink) (taken sink')
+  pub wrote : end.outcome.status ≡ DONE → WroteAll
+      (counts_text (large_trace number) (map out.seen stores) end.outcome.history.items) (out.taken end.before) (out.taken end.after)
   -- the sink failed, and has gained a beginning of them
-  pub part : outcome.status ≡ WRITE_FAULT → WrotePart (counts_text (large_trace number) (map seen stores) outcome.history.items) (taken sink) (taken sink')
-  pub write_fault : outcome.status ≡ WRITE_FAULT → Rose (writes sink) (writes sink')
+  pub part : end.outcome.status ≡ WRITE_FAULT → WrotePart
+      (counts_text (large_trace number) (map out.seen stores) end.outcome.history.items) (out.taken end.before) (out.taken end.after)
+  pub write_fault : end.outcome.status ≡ WRITE_FAULT → Rose (out.writes end.before) (out.writes end.after)

@@ -12,7 +12,6 @@ use Rattle.pager_model.specs.Plans.{Plan}
 use Rattle.pager_model.specs.PrintedText.{out_text}
 use Rattle.pager_model.specs.TraceText.{IsTextOf}
 use Rattle.pager_model.specs.Stored.{Stored}
-use Rattle.pager_core.specs.declared.run_parts.Gathered.{Gathered}
 use Rattle.replay_core.specs.Replays.{IsReplay, AreItsCounts}
 use Rattle.report_text.specs.declared.report.Parts.{Parts}
 use Rattle.report_text.specs.CurveText.{curves_text}
@@ -24,6 +23,7 @@ use Rattle.pager_command.specs.declared.form.Form.TheVariants.{Order, Turns, Rep
 use Rattle.pager_command.specs.declared.outcome.Outcome.{Outcome}
 use Rattle.pager_command.specs.declared.status.TheConstants.{DONE, USAGE, REFUSED, READ_FAULT, MEMORY, WRITE_FAULT}
 use Rattle.pager_command.specs.Forms.{ComesBy, IsForOneProcessor, Admits}
+use Rattle.pager_command.specs.Views.{Ending, Ends, OutViews, Replayed, Views}
 use Rattle.trace_reader.specs.declared.fault.TraceFault.{TraceFault}
 use Rattle.trace_reader.specs.declared.fault.TraceFault.TheVariants.{ReadFault, TooFewStores, OneProcessor, NoMemory}
 use Rattle.trace_reader.specs.Refusals.{refusal_of}
@@ -85,9 +85,11 @@ Prints (Order parts) plan stores history text = text ≡ report_of parts plan st
 Prints (Turns seed parts) plan stores history text = text ≡ report_of parts plan stores history
 Prints (Replay parts) plan stores history text = text ≡ report_of parts plan stores history
 Prints (Planned size) plan stores history text =
-    (planned : Option Emptying) × IsPlanned (frames_at (setting_over plan stores) (entries_in history)) plan.frames size planned × (text ≡ plan_text planned)
+    (planned : Option Emptying) × IsPlanned (frames_at (setting_over plan stores) (entries_in history)) plan.frames size planned
+    × (text ≡ plan_text planned)
 Prints Curve plan stores history text =
-    (tiles : List ℕ) × (pages : List ℕ) × AreCurves (setting_over plan stores) (entries_in history) tiles pages × (text ≡ curves_text tiles pages)
+    (tiles : List ℕ) × (pages : List ℕ) × AreCurves (setting_over plan stores) (entries_in history) tiles pages
+    × (text ≡ curves_text tiles pages)
 
 -- where the sink tells its bytes, it has gained what the run prints
 abbrev pub PrintedAll : Form → Plan → List Stored → List Numbered → Option (List ℕ) → Option (List ℕ) → Type 0
@@ -123,7 +125,8 @@ CountsProcessors form refusal = (processors : ℕ) → refusal ≡ Some (OneProc
 
 -- Why no run by a form is made over so many stores: the bytes are refused as they should be, a read failed, or there was no memory. The bytes and the
 -- faults are the source's, before and after.
-pub record IsStopped (form : Form) (left left' : Option (List ℕ)) (faults faults' stores status : ℕ) (refusal : Option TraceFault) : Type 0 where
+pub record IsStopped (form : Form) (left left' : Option (List ℕ)) (faults faults' stores status : ℕ)
+    (refusal : Option TraceFault) : Type 0 where
   pub statuses : (status ≡ REFUSED) ⊎ ((status ≡ READ_FAULT) ⊎ (status ≡ MEMORY))
   pub told : IsTold status refusal
   pub few_stores : CountsStores stores refusal
@@ -135,49 +138,60 @@ pub record IsStopped (form : Form) (left left' : Option (List ℕ)) (faults faul
   pub complete : IsSomeAnd left (IsRunnable form stores) → (Rose faults faults' → ⊥) → status ≡ MEMORY
 
 -- A run of the trace over these stores, one for each space at least, was made, and this was gathered of it. A store tells itself by `seen`.
-pub record WasRun {P : Type 0} (seen : P → Stored) (plan : Plan) (stores : List Stored) (gathered : Gathered P) : Type 0 where
-  pub enough : plan.spaces ≤ length stores
-  pub run : IsReplay plan stores gathered.history.items (map seen gathered.stores.items)
-  pub counts : AreItsCounts plan stores gathered.history.items gathered.summary
+pub record WasRun {P : Type 0} (seen : P → Stored) (replay : Replayed P) : Type 0 where
+  pub enough : replay.plan.spaces ≤ length replay.stores
+  pub run : IsReplay replay.plan replay.stores replay.gathered.history.items (map seen replay.gathered.stores.items)
+  pub counts : AreItsCounts replay.plan replay.stores replay.gathered.history.items replay.gathered.summary
 
 -- How a run by a form ends, once it is made: what it prints was written, or a part of it, or there was no memory for it.
-pub record EndsRun {K P : Type 0} (taken : K → Option (List ℕ)) (writes : K → ℕ) (form : Form) (plan : Plan) (stores : List Stored) (gathered : Gathered P) (sink sink' : K) (outcome : Outcome P) : Type 0 where
-  pub ended : IsEndOf form outcome.status
-  pub refusal : outcome.refusal ≡ None
-  pub trace : outcome.trace ≡ Some plan
-  pub history : outcome.history ≡ gathered.history
-  pub kept : outcome.stores ≡ gathered.stores
-  pub unwritten : outcome.status ≡ MEMORY → sink' ≡ sink
-  pub wrote : outcome.status ≡ DONE → PrintedAll form plan stores gathered.history.items (taken sink) (taken sink')
-  pub part : outcome.status ≡ WRITE_FAULT → PrintedPart form plan stores gathered.history.items (taken sink) (taken sink')
-  pub write_fault : outcome.status ≡ WRITE_FAULT → Rose (writes sink) (writes sink')
+pub record EndsRun {K P : Type 0} (out : OutViews K P) (form : Form) (replay : Replayed P) (end : Ending K P) : Type 0 where
+  pub ended : IsEndOf form end.outcome.status
+  pub refusal : end.outcome.refusal ≡ None
+  pub trace : end.outcome.trace ≡ Some replay.plan
+  pub history : end.outcome.history ≡ replay.gathered.history
+  pub kept : end.outcome.stores ≡ replay.gathered.stores
+  pub unwritten : end.outcome.status ≡ MEMORY → end.after ≡ end.before
+  pub wrote : end.outcome.status ≡ DONE
+      → PrintedAll form replay.plan replay.stores replay.gathered.history.items (out.taken end.before) (out.taken end.after)
+  pub part : end.outcome.status ≡ WRITE_FAULT
+      → PrintedPart form replay.plan replay.stores replay.gathered.history.items (out.taken end.before) (out.taken end.after)
+  pub write_fault : end.outcome.status ≡ WRITE_FAULT → Rose (out.writes end.before) (out.writes end.after)
 
--- What a run by a form promises, whichever threads make its entries. A source tells its bytes by `left` and its faults by `reads`, a sink its
--- bytes by `taken` and its faults by `writes`, and a store itself by `seen`.
-pub record RunsBy {T K P : Type 0} (left : T → Option (List ℕ)) (reads : T → ℕ) (taken : K → Option (List ℕ)) (writes : K → ℕ) (seen : P → Stored) (form : Form) (source source' : T) (sink sink' : K) (stores : List P) (outcome : Outcome P) : Type 0 where
+-- What a run by a form promises, whichever threads make its entries.
+pub record RunsBy {T K P : Type 0} (views : Views T K P) (form : Form) (before after : Ends T K) (stores : List P)
+    (outcome : Outcome P) : Type 0 where
   pub statuses : IsStatus outcome.status
   pub no_usage : outcome.status ≢ USAGE
   pub told : IsTold outcome.status outcome.refusal
   pub few_stores : CountsStores (length stores) outcome.refusal
   pub one_processor : CountsProcessors form outcome.refusal
-  pub refused : outcome.status ≡ REFUSED → IfSome (left source) (λ bytes. IsSomeAnd outcome.refusal (IsRefused form (length stores) bytes))
-  pub read_fault : outcome.status ≡ READ_FAULT → Rose (reads source) (reads source')
-  pub no_read_fault : outcome.status ≢ READ_FAULT → reads source' ≡ reads source
-  pub write_fault : outcome.status ≡ WRITE_FAULT → Rose (writes sink) (writes sink')
-  pub memory : outcome.status ≡ MEMORY → outcome.refusal ≡ None → WasRunnable form (length stores) (left source) (left source')
-  pub complete : IsSomeAnd (left source) (IsRunnable form (length stores)) → (Rose (reads source) (reads source') → ⊥) → (Rose (writes sink) (writes sink') → ⊥) → (outcome.status ≡ DONE) ⊎ (outcome.status ≡ MEMORY)
+  pub refused : outcome.status ≡ REFUSED
+      → IfSome (views.left before.source) (λ bytes. IsSomeAnd outcome.refusal (IsRefused form (length stores) bytes))
+  pub read_fault : outcome.status ≡ READ_FAULT → Rose (views.reads before.source) (views.reads after.source)
+  pub no_read_fault : outcome.status ≢ READ_FAULT → views.reads after.source ≡ views.reads before.source
+  pub write_fault : outcome.status ≡ WRITE_FAULT → Rose (views.out.writes before.sink) (views.out.writes after.sink)
+  pub memory : outcome.status ≡ MEMORY → outcome.refusal ≡ None
+      → WasRunnable form (length stores) (views.left before.source) (views.left after.source)
+  pub complete : IsSomeAnd (views.left before.source) (IsRunnable form (length stores))
+      → (Rose (views.reads before.source) (views.reads after.source) → ⊥)
+      → (Rose (views.out.writes before.sink) (views.out.writes after.sink) → ⊥)
+      → (outcome.status ≡ DONE) ⊎ (outcome.status ≡ MEMORY)
   -- nothing was written
-  pub unwritten : outcome.status ≢ DONE → outcome.status ≢ WRITE_FAULT → sink' ≡ sink
+  pub unwritten : outcome.status ≢ DONE → outcome.status ≢ WRITE_FAULT → after.sink ≡ before.sink
   -- a run was made exactly where there is a trace
   pub no_trace : outcome.trace ≡ None → outcome.history.items ≡ []
-  pub same_stores : outcome.trace ≡ None → map seen outcome.stores.items ≡ map seen stores
+  pub same_stores : outcome.trace ≡ None → map views.out.seen outcome.stores.items ≡ map views.out.seen stores
   pub made : (outcome.status ≡ DONE) ⊎ (outcome.status ≡ WRITE_FAULT) → IsSome outcome.trace
   pub ended : IsSome outcome.trace → IsEndOf form outcome.status
   pub unrefused : IsSome outcome.trace → outcome.refusal ≡ None
   -- it was made of a trace that the form is for, over a store for each space
-  pub trace : IfSome outcome.trace (λ plan. WasRead plan (left source) (left source') × (plan.spaces ≤ length stores) × IsReplay plan (map seen stores) outcome.history.items (map seen outcome.stores.items))
+  pub trace : IfSome outcome.trace (λ plan. WasRead plan (views.left before.source) (views.left after.source)
+      × (plan.spaces ≤ length stores)
+      × IsReplay plan (map views.out.seen stores) outcome.history.items (map views.out.seen outcome.stores.items))
   pub admitted : IfSome outcome.trace (λ plan. Admits form plan)
   pub ordered : IfSome outcome.trace (λ plan. ComesBy form plan (entries_in outcome.history.items))
   -- what it prints was written, or a part of it
-  pub wrote : outcome.status ≡ DONE → IfSome outcome.trace (λ plan. PrintedAll form plan (map seen stores) outcome.history.items (taken sink) (taken sink'))
-  pub part : outcome.status ≡ WRITE_FAULT → IfSome outcome.trace (λ plan. PrintedPart form plan (map seen stores) outcome.history.items (taken sink) (taken sink'))
+  pub wrote : outcome.status ≡ DONE → IfSome outcome.trace (λ plan. PrintedAll form plan (map views.out.seen stores)
+      outcome.history.items (views.out.taken before.sink) (views.out.taken after.sink))
+  pub part : outcome.status ≡ WRITE_FAULT → IfSome outcome.trace (λ plan. PrintedPart form plan (map views.out.seen stores)
+      outcome.history.items (views.out.taken before.sink) (views.out.taken after.sink))

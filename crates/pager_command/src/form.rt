@@ -6,14 +6,8 @@ ghost use Rattle.pager_command.specs.Forms.{AreLargeWords, AreMakingWords, AreOf
 ghost use Rattle.trace_make.specs.Made.{CanMake};
 
 use itoa::Buffer;
-use pager_model::Size;
+use pager_model::{MOST_CALLS, MOST_FRAMES, MOST_PROCESSORS, MOST_SPACES, Size};
 use report_text::Parts;
-
-/// The most frames of a trace.
-const MOST_FRAMES: u32 = 32_768;
-
-/// The most calls of a trace.
-const MOST_CALLS: u32 = 262_144;
 
 /// What the program is asked to do.
 #[derive(Clone, Copy)]
@@ -68,8 +62,8 @@ impl Making {
     {
         (512..=MOST_FRAMES).contains(&self.frames)
             && self.frames % 512 == 0
-            && (1..=16).contains(&self.processors)
-            && (1..=16).contains(&self.spaces)
+            && (1..=MOST_PROCESSORS).contains(&self.processors)
+            && (1..=MOST_SPACES).contains(&self.spaces)
             && (self.spaces..=MOST_CALLS).contains(&self.calls)
     }
 }

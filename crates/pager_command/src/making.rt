@@ -9,6 +9,7 @@ ghost use Rattle.replay_core.specs.Replays.{IsReplay, AreItsCounts};
 ghost use Rattle.report_text.specs.Written.{WroteAll, WrotePart};
 ghost use Rattle.trace_make.specs.Made.{CanMake};
 ghost use Rattle.pager_command.specs.MadeRuns.{MakesText, RunsLarge, large_trace};
+ghost use Rattle.pager_command.specs.Views.{ending, out_views};
 
 use crate::form::Making;
 use crate::outcome::{Outcome, status_of_write, stopped};
@@ -43,7 +44,7 @@ pub fn write_made<K: Sink, S: Store + Send + Drop>(
     stores: Vec<S>,
 ) -> Outcome<S>
     requires { CanMake making.calls making.processors making.spaces making.frames }
-    ensures { MakesText K.taken K.faults S.seen making sink.old sink.new stores.items result }
+    ensures { MakesText (out_views K.taken K.faults S.seen) making stores.items (ending sink.old sink.new result) }
 {
     let Making {
         number,
@@ -74,7 +75,7 @@ pub fn run_large<K: Sink, S: Store + Send + Drop>(
     sink: &mut K,
     stores: Vec<S>,
 ) -> Outcome<S>
-    ensures { RunsLarge K.taken K.faults S.seen number seed sink.old sink.new stores.items result }
+    ensures { RunsLarge (out_views K.taken K.faults S.seen) number seed stores.items (ending sink.old sink.new result) }
 {
     let count = stores.len() as u64;
     if count < u64::from(LARGE_SPACES) {
@@ -99,7 +100,8 @@ fn replay_large<S: Store + Send + Drop>(
 ) -> Result<(Trace, Gathered<S>), Vec<S>>
     requires enough { LARGE_SPACES ≤ length stores.items }
     ensures trace { IfOk result (λ made. made.0 ≡ large_trace number) }
-    ensures run { IfOk result (λ made. IsReplay made.0 (map S.seen stores.items) made.1.history.items (map S.seen made.1.stores.items)) }
+    ensures run { IfOk result (λ made.
+        IsReplay made.0 (map S.seen stores.items) made.1.history.items (map S.seen made.1.stores.items)) }
     ensures seeded { IfOk result (λ made. IsSeeded made.0 seed (entries_in made.1.history.items)) }
     ensures counts { IfOk result (λ made. AreItsCounts made.0 (map S.seen stores.items) made.1.history.items made.1.summary) }
     ensures back { IfErr result (λ back. map S.seen back.items ≡ map S.seen stores.items) }

@@ -20,6 +20,7 @@ ghost use Rattle.pager_command.specs.declared.form.Making.{Making as ToMake};
 ghost use Rattle.pager_command.specs.Forms.{AreLargeWords, AreMakingWords, AreWords, IsCommand, IsForm, IsInTurns, ComesBy, Admits};
 ghost use Rattle.pager_command.specs.MadeRuns.{MakesText, RunsLarge};
 ghost use Rattle.pager_command.specs.Runs.{CountsProcessors, CountsStores, EndsRun, IsEndOf, IsRefused, IsRunnable, IsStatus, IsStopped, IsTold, PrintedAll, PrintedPart, RunsBy, WasRead, WasRun, WasRunnable, status_of};
+ghost use Rattle.pager_command.specs.Views.{ending, ends, out_views, replayed, views};
 
 use crate::form::{Command, Form, command_of};
 use crate::making::{run_large, write_made};
@@ -109,9 +110,11 @@ pub fn run<T: Source, K: Sink, S: Store + Send + Drop, R: Threads + Wait + Sync>
 
     // A trace that is made from a number, and not read.
     ensures makes { (m : ToMake) → AreMakingWords words.now m
-        → (source.new ≡ source.old) × MakesText K.taken K.faults S.seen m sink.old sink.new stores.items result }
+        → (source.new ≡ source.old)
+        × MakesText (out_views K.taken K.faults S.seen) m stores.items (ending sink.old sink.new result) }
     ensures large { (number seed : ℕ) → AreLargeWords words.now number seed
-        → (source.new ≡ source.old) × RunsLarge K.taken K.faults S.seen number seed sink.old sink.new stores.items result }
+        → (source.new ≡ source.old)
+        × RunsLarge (out_views K.taken K.faults S.seen) number seed stores.items (ending sink.old sink.new result) }
 {
     let Some(command) = command_of(words) else {
         return stopped(alloc, USAGE, None, stores);
@@ -135,7 +138,8 @@ fn run_in_turns<T: Source, K: Sink, S: Store + Send + Drop>(
     stores: Vec<S>,
 ) -> Outcome<S>
     requires in_turns { IsInTurns form }
-    ensures { RunsBy T.left T.faults K.taken K.faults S.seen form source.old source.new sink.old sink.new stores.items result }
+    ensures { RunsBy (views T.left T.faults K.taken K.faults S.seen) form
+        (ends source.old sink.old) (ends source.new sink.new) stores.items result }
 {
     let trace = match trace_to_run(alloc, &form, source, stores.len()) {
         Ok(trace) => trace,
@@ -156,7 +160,8 @@ fn run_in_threads<T: Source, K: Sink, S: Store + Send + Drop, R: Threads + Wait 
     sink: &mut K,
     stores: Vec<S>,
 ) -> Outcome<S>
-    ensures { RunsBy T.left T.faults K.taken K.faults S.seen (Asked.Replay parts) source.old source.new sink.old sink.new stores.items result }
+    ensures { RunsBy (views T.left T.faults K.taken K.faults S.seen) (Asked.Replay parts)
+        (ends source.old sink.old) (ends source.new sink.new) stores.items result }
 {
     let form = Form::Replay { parts };
     let trace = match trace_to_run(alloc, &form, source, stores.len()) {
@@ -188,7 +193,9 @@ fn trace_to_run<T: Source>(
     ensures admitted { IfOk result (λ trace. Admits form.now trace) }
     ensures enough { IfOk result (λ trace. trace.spaces ≤ stores) }
     ensures no_fault { IfOk result (λ _. T.faults source.new ≡ T.faults source.old) }
-    ensures stopped { IfErr result (λ stop. IsStopped form.now (T.left source.old) (T.left source.new) (T.faults source.old) (T.faults source.new) stores stop.status stop.refusal) }
+    ensures stopped { IfErr result (λ stop.
+        IsStopped form.now (T.left source.old) (T.left source.new) (T.faults source.old) (T.faults source.new) stores
+        stop.status stop.refusal) }
 {
     let trace = match read_trace(alloc, source) {
         Ok(trace) => trace,
@@ -253,9 +260,9 @@ fn write_run<K: Sink, S: Store + Send + Drop>(
     gathered: Gathered<S>,
 ) -> Outcome<S>
     requires admitted { Admits form trace }
-    requires run { (stores : List Stored) × WasRun S.seen trace stores gathered }
-    ensures { (stores : List Stored) → WasRun S.seen trace stores gathered
-        → EndsRun K.taken K.faults form trace stores gathered sink.old sink.new result }
+    requires run { (stores : List Stored) × WasRun S.seen (replayed trace stores gathered) }
+    ensures { (stores : List Stored) → WasRun S.seen (replayed trace stores gathered)
+        → EndsRun (out_views K.taken K.faults S.seen) form (replayed trace stores gathered) (ending sink.old sink.new result) }
 {
     match form {
         Form::Order { parts } => report_run(sink, trace, gathered, parts),
@@ -274,9 +281,9 @@ fn curve_run<K: Sink, S: Store + Send + Drop>(
     gathered: Gathered<S>,
 ) -> Outcome<S>
     requires one { trace.processors ≡ 1 }
-    requires run { (stores : List Stored) × WasRun S.seen trace stores gathered }
-    ensures { (stores : List Stored) → WasRun S.seen trace stores gathered
-        → EndsRun K.taken K.faults Asked.Curve trace stores gathered sink.old sink.new result }
+    requires run { (stores : List Stored) × WasRun S.seen (replayed trace stores gathered) }
+    ensures { (stores : List Stored) → WasRun S.seen (replayed trace stores gathered)
+        → EndsRun (out_views K.taken K.faults S.seen) Asked.Curve (replayed trace stores gathered) (ending sink.old sink.new result) }
 {
     let Gathered {
         history,
@@ -324,9 +331,9 @@ fn plan_run<K: Sink, S: Store + Send + Drop>(
     gathered: Gathered<S>,
     size: Size,
 ) -> Outcome<S>
-    requires run { (stores : List Stored) × WasRun S.seen trace stores gathered }
-    ensures { (stores : List Stored) → WasRun S.seen trace stores gathered
-        → EndsRun K.taken K.faults (Asked.Plan size) trace stores gathered sink.old sink.new result }
+    requires run { (stores : List Stored) × WasRun S.seen (replayed trace stores gathered) }
+    ensures { (stores : List Stored) → WasRun S.seen (replayed trace stores gathered)
+        → EndsRun (out_views K.taken K.faults S.seen) (Asked.Plan size) (replayed trace stores gathered) (ending sink.old sink.new result) }
 {
     let Gathered {
         history,
@@ -382,9 +389,11 @@ fn report_run<K: Sink, S: Store + Send + Drop>(
     ensures history { result.history ≡ gathered.history }
     ensures stores { result.stores ≡ gathered.stores }
     ensures wrote { result.status ≡ DONE
-        → WroteAll (out_text (has_history parts) trace.processors gathered.history.items gathered.summary) (K.taken sink.old) (K.taken sink.new) }
+        → WroteAll (out_text (has_history parts) trace.processors gathered.history.items gathered.summary)
+        (K.taken sink.old) (K.taken sink.new) }
     ensures part { result.status ≡ WRITE_FAULT
-        → WrotePart (out_text (has_history parts) trace.processors gathered.history.items gathered.summary) (K.taken sink.old) (K.taken sink.new) }
+        → WrotePart (out_text (has_history parts) trace.processors gathered.history.items gathered.summary)
+        (K.taken sink.old) (K.taken sink.new) }
     ensures rose { result.status ≡ WRITE_FAULT → Rose (K.faults sink.old) (K.faults sink.new) }
 {
     let Gathered {

@@ -19,6 +19,7 @@ use Rattle.pager_model.specs.Order.Purpose.{ForAccess, ForTurn}
 use Rattle.pager_model.specs.Order.Doing.{Idle, Looking, Filling, Unfilling, Claiming, Emptied, Unwritten, Holding}
 use Rattle.pager_model.specs.Showing.{IsTurn}
 use Rattle.pager_locks.specs.Calls.{MakesTurn}
+use Rattle.pager_locks.proofs.CountedCalls.{from_none}
 use Rattle.paging_daemon.specs.Counts.{is_written, is_clean, is_fault, is_unclaim, written_in, clean_in, faults_in, unclaims_in, made_since}
 
 -- how many evictions of the turn have paged their pages out at most
@@ -71,7 +72,8 @@ record Ends (mark n : ℕ) (doing : Doing) (q : Progress) (what : What) : Type 0
 abbrev Goes : ℕ → ℕ → Doing → Progress → What → Type 0
 Goes mark made doing q what = InTurn mark q.doing × (Same made doing q what ⊎ Ends mark made doing q what)
 
-led : (b : Bool) (made : ℕ) (doing : Doing) (q : Progress) → leads b made doing ≡ Some q → (b ≡ true) × (record { made = made; doing = doing } ≡ q)
+led : (b : Bool) (made : ℕ) (doing : Doing) (q : Progress) → leads b made doing ≡ Some q
+    → (b ≡ true) × (record { made = made; doing = doing } ≡ q)
 led true made doing q is = (refl, same_Some (record { made = made; doing = doing }) q is)
 led false made doing q is = absurd (none-some q is)
 
@@ -105,7 +107,15 @@ outs : (mark m : ℕ) (d : Doing) (q : Progress) (s page : ℕ) (written : Bool)
     → Goes mark m d q (Out page written)
 outs mark m (Claiming (ForTurn low evictions) v) q s page written place is =
     goes_to mark m _ (Out page written) _ m (Emptied (ForTurn low evictions) v) q is
-    (λ _. (place, inl (record { made = refl; outs = (let one = one_out written page in omega (arith, one)); unclaims = refl; faults = omega arith })))
+    (λ _. (
+      place,
+      inl (record {
+        made = refl;
+        outs = (let one = one_out written page in omega (arith, one));
+        unclaims = refl;
+        faults = omega arith;
+      }),
+    ))
 outs mark m (Claiming (ForAccess a) v) q s page written place is = absurd place
 outs mark m d q s page written place is = absurd (none-some q is)
 
@@ -123,7 +133,8 @@ takes : (mark m : ℕ) (d : Doing) (q : Progress) (s page frame : ℕ) → InTur
 takes mark m Idle q s page frame place is = place
 takes mark m d q s page frame place is = none-some q is
 
-gives : (mark m : ℕ) (d : Doing) (q : Progress) (s page frame : ℕ) → InTurn mark d → after_give m d s page frame ≡ Some q → Goes mark m d q (Give page frame)
+gives : (mark m : ℕ) (d : Doing) (q : Progress) (s page frame : ℕ) → InTurn mark d → after_give m d s page frame ≡ Some q
+    → Goes mark m d q (Give page frame)
 gives mark m (Emptied (ForTurn low evictions) v) q s page frame place is =
     goes_to mark m _ (Give page frame) _ m (Holding (ForTurn low evictions) v) q is
     (λ _. (place, inl (record { made = refl; outs = omega arith; unclaims = refl; faults = omega arith })))
@@ -138,8 +149,12 @@ clears mark m d q s first len place is = none-some q is
 claims : (mark m : ℕ) (d : Doing) (q : Progress) (space : Option ℕ) (v page frame : ℕ) (need : Option Need) → InTurn mark d
     → after_claim m d space (record { space = v; page = page; frame = frame }) need ≡ Some q → Goes mark m d q (Claim v page frame need)
 claims mark m (Looking low evictions) q None v page frame None place is =
-    goes_to mark m _ (Claim v page frame None) _ m (Claiming (ForTurn low evictions) (record { space = v; page = page; frame = frame })) q is
-    (λ fewer. ((place.0, (let less = ltb-true evictions low fewer in omega (arith, less, place.0))), inl (record { made = refl; outs = omega arith; unclaims = refl; faults = omega arith })))
+    goes_to mark m _ (Claim v page frame None) _ m (Claiming (ForTurn low evictions)
+    (record { space = v; page = page; frame = frame })) q is
+    (λ fewer. (
+      (place.0, (let less = ltb-true evictions low fewer in omega (arith, less, place.0))),
+      inl (record { made = refl; outs = omega arith; unclaims = refl; faults = omega arith }),
+    ))
 claims mark m (Looking low evictions) q None v page frame (Some need) place is = absurd (none-some q is)
 claims mark m (Looking low evictions) q (Some s) v page frame need place is = absurd (none-some q is)
 claims mark m Idle q space v page frame need place is = absurd place
@@ -150,10 +165,16 @@ uses mark m (Holding (ForAccess a) v) q s page frame place is = place
 uses mark m (Holding (ForTurn low evictions) v) q s page frame place is = none-some q is
 uses mark m d q s page frame place is = none-some q is
 
-drops : (mark m : ℕ) (d : Doing) (q : Progress) (frame : ℕ) → InTurn mark d → after_drop m d frame ≡ Some q → Goes mark m d q (DropHeld frame)
+drops : (mark m : ℕ) (d : Doing) (q : Progress) (frame : ℕ) → InTurn mark d → after_drop m d frame ≡ Some q
+    → Goes mark m d q (DropHeld frame)
 drops mark m (Holding (ForTurn low evictions) v) q frame place is =
-    goes_to mark m _ (DropHeld frame) true m (Looking low (evictions + 1)) q (led_if (eqb frame v.frame) (leads true m (Looking low (evictions + 1))) q is)
-    (λ _. ((place.0, (let less = place.1 in omega (arith, less))), inl (record { made = refl; outs = omega arith; unclaims = refl; faults = omega arith })))
+    goes_to mark m _ (DropHeld frame) true m (Looking low (evictions + 1)) q
+    (led_if (eqb frame v.frame) (leads true m (Looking low (evictions + 1))) q is)
+    (λ _. (
+      (place.0, (let less = place.1 in omega (arith, less))),
+      inl
+          (record { made = refl; outs = omega arith; unclaims = refl; faults = omega arith }),
+    ))
 drops mark m (Holding (ForAccess a) v) q frame place is = absurd place
 drops mark m d q frame place is = absurd (none-some q is)
 
@@ -164,31 +185,76 @@ gots mark m (Claiming (ForTurn low evictions) v) q frame place is =
 gots mark m (Claiming (ForAccess a) v) q frame place is = absurd place
 gots mark m d q frame place is = absurd (none-some q is)
 
-unclaims : (mark m : ℕ) (d : Doing) (q : Progress) (s frame : ℕ) → InTurn mark d → after_unclaim m d s frame ≡ Some q → Goes mark m d q (Unclaim frame)
+unclaims : (mark m : ℕ) (d : Doing) (q : Progress) (s frame : ℕ) → InTurn mark d → after_unclaim m d s frame ≡ Some q
+    → Goes mark m d q (Unclaim frame)
 unclaims mark m (Claiming (ForTurn low evictions) v) q s frame place is =
-    goes_to mark m _ (Unclaim frame) true (m + 1) (Looking low 0) q (led_if (eqb s v.space && eqb frame v.frame) (leads true (m + 1) (Looking low 0)) q is)
-    (λ _. ((place.0, omega arith), inr (record { made = refl; outs = refl; most = (let less = place.1 in omega (arith, less)); none_used = refl; unclaims = omega arith; faults = refl; given_up = omega arith; none_failed = refl })))
+    goes_to mark m _ (Unclaim frame) true (m + 1) (Looking low 0) q (led_if (eqb s v.space && eqb frame v.frame)
+    (leads true (m + 1) (Looking low 0)) q is)
+    (λ _. (
+      (place.0, omega arith),
+      inr
+          (record {
+            made = refl;
+            outs = refl;
+            most = (let less = place.1 in omega (arith, less));
+            none_used = refl;
+            unclaims = omega arith;
+            faults = refl;
+            given_up = omega arith;
+            none_failed = refl;
+          }),
+    ))
 unclaims mark m (Unwritten (ForTurn low evictions) v count) q s frame place is =
-    goes_to mark m _ (Unclaim frame) true (m + 1) (Looking low 0) q (led_if (eqb s v.space && eqb frame v.frame) (leads true (m + 1) (Looking low 0)) q is)
-    (λ _. ((place.0, omega arith), inr (record { made = refl; outs = refl; most = (let less = place.1 in omega (arith, less)); none_used = refl; unclaims = omega arith; faults = refl; given_up = omega arith; none_failed = refl })))
+    goes_to mark m _ (Unclaim frame) true (m + 1) (Looking low 0) q (led_if (eqb s v.space && eqb frame v.frame)
+    (leads true (m + 1) (Looking low 0)) q is)
+    (λ _. (
+      (place.0, omega arith),
+      inr
+          (record {
+            made = refl;
+            outs = refl;
+            most = (let less = place.1 in omega (arith, less));
+            none_used = refl;
+            unclaims = omega arith;
+            faults = refl;
+            given_up = omega arith;
+            none_failed = refl;
+          }),
+    ))
 unclaims mark m (Claiming (ForAccess a) v) q s frame place is = absurd place
 unclaims mark m (Unwritten (ForAccess a) v count) q s frame place is = absurd place
 unclaims mark m d q s frame place is = absurd (none-some q is)
 
-refuses : (mark m : ℕ) (d : Doing) (q : Progress) (wired claimed held : ℕ) → InTurn mark d → after_refusal m d wired claimed held ≡ Some q → ⊥
+refuses : (mark m : ℕ) (d : Doing) (q : Progress) (wired claimed held : ℕ) → InTurn mark d → after_refusal m d wired claimed held ≡ Some q
+    → ⊥
 refuses mark m Idle q wired claimed held place is = place
 refuses mark m d q wired claimed held place is = none-some q is
 
-rests : (mark m : ℕ) (d : Doing) (q : Progress) (short : Bool) → InTurn mark d → after_rest m d short ≡ Some q → Goes mark m d q (Rest short)
+rests : (mark m : ℕ) (d : Doing) (q : Progress) (short : Bool) → InTurn mark d → after_rest m d short ≡ Some q
+    → Goes mark m d q (Rest short)
 rests mark m (Looking low evictions) q short place is =
     goes_to mark m _ (Rest short) _ (m + 1) (Looking low 0) q is
-    (λ _. ((place.0, omega arith), inr (record { made = refl; outs = refl; most = place.1; none_used = refl; unclaims = omega arith; faults = refl; given_up = omega arith; none_failed = refl })))
+    (λ _. (
+      (place.0, omega arith),
+      inr
+          (record {
+            made = refl;
+            outs = refl;
+            most = place.1;
+            none_used = refl;
+            unclaims = omega arith;
+            faults = refl;
+            given_up = omega arith;
+            none_failed = refl;
+          }),
+    ))
 rests mark m d q short place is = absurd (none-some q is)
 
 -- one entry
 goes : (mark : ℕ) (p q : Progress) (space : Option ℕ) (what : What) → InTurn mark p.doing → progress_after p space what ≡ Some q
     → Goes mark p.made p.doing q what
-goes mark p q space (Answer number call answered) place is = absurd (answers mark p.made p.doing q number call answered.reply (eqb number p.made) place is)
+goes mark p q space (Answer number call answered) place is = absurd (answers mark p.made p.doing q number call answered.reply
+    (eqb number p.made) place is)
 goes mark p q (Some s) (Out page written) place is = outs mark p.made p.doing q s page written place is
 goes mark p q (Some s) (Failed page writing count) place is = fails mark p.made p.doing q s page writing count place is
 goes mark p q (Some s) (Take page frame want) place is = absurd (takes mark p.made p.doing q s page frame place is)
@@ -208,10 +274,6 @@ goes mark p q None (Give page frame) place is = absurd (none-some q is)
 goes mark p q None (Clear first len) place is = absurd (none-some q is)
 goes mark p q None (UseHeld page frame want) place is = absurd (none-some q is)
 goes mark p q None (Unclaim frame) place is = absurd (none-some q is)
-
-from_none : (es : List Entry) (q : Progress) → progress_from None es ≡ Some q → ⊥
-from_none [] q is = none-some q is
-from_none (e ∷ es) q is = from_none es q is
 
 -- A row of entries that leads to where no eviction has begun: they end no turn, or one.
 record Counted (mark : ℕ) (es : List Entry) (p q : Progress) : Type 0 where
@@ -277,14 +339,16 @@ module _ (mark : ℕ) (q : Progress) (none_used : used q.doing ≡ 0) (none_fail
   })
   counted (e ∷ es) p place is = by (progress_after p e.space e.what) refl (λ m place is. counted es m place is)
     where
-      by : (o : Option Progress) → progress_after p e.space e.what ≡ o → ((m : Progress) → InTurn mark m.doing → progress_from (Some m) es ≡ Some q → Counted mark es m q) → Counted mark (e ∷ es) p q
+      by : (o : Option Progress) → progress_after p e.space e.what ≡ o
+          → ((m : Progress) → InTurn mark m.doing → progress_from (Some m) es ≡ Some q → Counted mark es m q) → Counted mark (e ∷ es) p q
       by None none again = absurd (from_none es q (sym (ap (λ o. progress_from o es) none) ∙ is))
       by (Some m) some again =
           let one = goes mark p m e.space e.what place some in
           counted_more e es p m one.1 (again m one.0 (sym (ap (λ o. progress_from o es) some) ∙ is))
 
 -- between two turns a daemon is in the next, of which it has made nothing
-looks : (mark n : ℕ) → 1 ≤ mark → InTurn mark (at_rest mark n).doing × (used (at_rest mark n).doing ≡ 0) × (failed (at_rest mark n).doing ≡ 0)
+looks : (mark n : ℕ) → 1 ≤ mark → InTurn mark (at_rest mark n).doing × (used (at_rest mark n).doing ≡ 0)
+    × (failed (at_rest mark n).doing ≡ 0)
 looks zero n some = absurd (omega (arith, some))
 looks (suc k) n some = ((refl, omega arith), refl, refl)
 
@@ -313,7 +377,8 @@ pub since-turn : (old new : PassState) (mark : ℕ) (makes : MakesTurn old new m
 since-turn old new mark makes = ap (drop (length old.entries)) makes.entries ∙ drop_append old.entries makes.piece
 
 -- what is left of a slice from a place on
-pub sliced : {X : Type 0} (old new xs ys : List X) → xs ≡ old → ys ≡ new → take (length ys - length xs) (drop (length xs) ys) ≡ drop (length old) new
+pub sliced : {X : Type 0} (old new xs ys : List X) → xs ≡ old → ys ≡ new
+    → take (length ys - length xs) (drop (length xs) ys) ≡ drop (length old) new
 sliced old new xs ys same_xs same_ys =
     ap (λ k. take k (drop (length xs) ys)) (sym (length-drop (length xs) ys))
     ∙ take-length (drop (length xs) ys)
@@ -322,4 +387,5 @@ sliced old new xs ys same_xs same_ys =
 
 pub TurnCounts-since : (old new : PassState) (mark : ℕ) → 1 ≤ mark → MakesTurn old new mark → TurnCounts mark (made_since old new)
 TurnCounts-since old new mark some makes =
-    subst (λ (l : List Numbered). TurnCounts mark (entries_in l)) (sym (since-turn old new mark makes)) (TurnCounts-turn old.processor mark (entries_in makes.piece) some makes.turn)
+    subst (λ (l : List Numbered). TurnCounts mark (entries_in l)) (sym (since-turn old new mark makes))
+    (TurnCounts-turn old.processor mark (entries_in makes.piece) some makes.turn)

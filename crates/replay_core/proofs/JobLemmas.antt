@@ -1,5 +1,5 @@
 -- The jobs of a processor, done one after another, and the passes of all of them.
-use Rattle.std.proofs.Common.{◌≡◌, ℕ, zero, suc, ◌+◌, ◌*◌, ◌<◌, List, [], ◌∷◌, ◌++◌, length, map, reverse, take, get_or, slice_get, filter_map, option_map, option_to_list, Option, Some, None, IsSome, refl, ap, ap₂, sym, subst, ◌∙◌, inl, inr, arith, append_assoc, length-append}
+use Rattle.std.proofs.Common.{◌≡◌, ℕ, zero, suc, ◌+◌, ◌*◌, ◌<◌, List, [], ◌∷◌, ◌++◌, length, map, reverse, take, get_or, slice_get, option_map, option_to_list, Option, Some, None, IsSome, refl, ap, ap₂, sym, subst, ◌∙◌, inl, inr, arith, append_assoc, length-append}
 use Rattle.std.specs.List.{All, enumerate_from, range_with_len}
 use Rattle.std.proofs.lemmas.List.{append-nil, length_push, take_more, map-append, reverse-append, get_or-map, ext_get_or}
 use Rattle.std.proofs.lemmas.List.Elements.{filter_map-append}
@@ -22,6 +22,7 @@ use Rattle.pager_model.specs.Showing.{answers_in, answer_in}
 use Rattle.pager_model.proofs.Histories.{progress_from-append}
 use Rattle.pager_core.specs.Machines.{CanDo}
 use Rattle.pager_core.specs.Running.{AreOfMark, FitsMark, call_of, calls_among, entries_of_job, jobs_at, IsNumbered, IsWholeRun}
+use Rattle.pager_laws.proofs.HistoryLists.{filter_map-push}
 use Rattle.pager_core.proofs.Lists.{enumerate-push}
 use Rattle.pager_core.proofs.MachineTurns.{all_calls, take_are}
 use Rattle.pager_core.proofs.WholeRuns.{IsWholeRun-legal}
@@ -35,21 +36,22 @@ abbrev numbers : List Job → List (ℕ × Call)
 numbers jobs = enumerate_from 0 (calls_among jobs)
 
 calls_push : (jobs : List Job) (job : Job) → calls_among (jobs ++ job ∷ []) ≡ calls_among jobs ++ option_to_list (call_of job)
-calls_push jobs job = filter_map-append call_of jobs (job ∷ []) ∙ ap (λ l. calls_among jobs ++ l) (one (call_of job))
-  where
-    one : {X : Type 0} (o : Option X) → filter_map (λ (x : Option X). x) (o ∷ []) ≡ option_to_list o
-    one None = refl
-    one (Some x) = refl
+calls_push jobs job = filter_map-push call_of jobs job
 
 -- and after one more
-HasDone-more : (j : JournalName) (old p q : PassState) (jobs more : List Job) (job : Job) → HasDone j old jobs p → AreOfMark (mark_of j.setting old.processor) jobs → FitsMark (mark_of j.setting old.processor) job → DoesJob j.setting p q job → more ≡ jobs ++ job ∷ [] → HasDone j old more q
+HasDone-more : (j : JournalName) (old p q : PassState) (jobs more : List Job) (job : Job) → HasDone j old jobs p
+    → AreOfMark (mark_of j.setting old.processor) jobs → FitsMark (mark_of j.setting old.processor) job → DoesJob j.setting p q job
+    → more ≡ jobs ++ job ∷ [] → HasDone j old more q
 HasDone-more j old p q jobs more (ToCall call) has are fits (reply, makes) is =
     let mark = mark_of j.setting old.processor in
-    let was : progress_of 0 (entries_in p.entries) ≡ Some (at_rest 0 (length jobs)) = subst (λ m. progress_of m (entries_in p.entries) ≡ Some (at_rest m (length jobs))) fits has.progress in
-    let number : makes.sequence.made ≡ length jobs = ap (λ (x : Progress). x.made) (same_Some (at_rest 0 makes.sequence.made) (at_rest 0 (length jobs)) (sym makes.before ∙ was)) in
+    let was : progress_of 0 (entries_in p.entries) ≡ Some (at_rest 0 (length jobs)) =
+    subst (λ m. progress_of m (entries_in p.entries) ≡ Some (at_rest m (length jobs))) fits has.progress in
+    let number : makes.sequence.made ≡ length jobs = ap (λ (x : Progress). x.made)
+    (same_Some (at_rest 0 makes.sequence.made) (at_rest 0 (length jobs)) (sym makes.before ∙ was)) in
     let long : length more ≡ length jobs + 1 = ap length is ∙ length_push jobs (ToCall call) in
     let calls : length (calls_among jobs) ≡ length jobs = all_calls jobs (subst (λ m. AreOfMark m jobs) fits are) in
-    let split : entries_in q.entries ≡ entries_in p.entries ++ entries_in makes.piece = ap entries_in makes.entries ∙ map-append (λ (x : Numbered). x.entry) p.entries makes.piece in
+    let split : entries_in q.entries ≡ entries_in p.entries ++ entries_in makes.piece = ap entries_in makes.entries
+    ∙ map-append (λ (x : Numbered). x.entry) p.entries makes.piece in
     record {
       journal = makes.journal ∙ has.journal;
       processor = makes.processor ∙ has.processor;
@@ -66,19 +68,25 @@ HasDone-more j old p q jobs more (ToCall call) has are fits (reply, makes) is =
           ∙ filter_map-append (λ (x : Entry). answer_in x.what) (entries_in p.entries) (entries_in makes.piece)
           ∙ ap (λ l. l ++ answers_in (entries_in makes.piece)) has.answers
           ∙ ap (λ l. numbers jobs ++ l) (makes.sequence.answer ∙ ap (λ n. (n, call) ∷ []) number)
-          ∙ sym (ap numbers is ∙ ap (enumerate_from 0) (calls_push jobs (ToCall call)) ∙ enumerate-push 0 (calls_among jobs) call ∙ ap (λ k. numbers jobs ++ (k, call) ∷ []) (let same : 0 + length (calls_among jobs) ≡ length jobs = omega (arith, calls) in same));
+          ∙ sym (ap numbers is ∙ ap (enumerate_from 0) (calls_push jobs (ToCall call)) ∙ enumerate-push 0 (calls_among jobs) call
+          ∙ ap (λ k. numbers jobs ++ (k, call) ∷ []) (let same : 0 + length (calls_among jobs) ≡ length jobs = omega (arith, calls) in
+          same));
       few = (
-          let both : length q.entries ≡ length p.entries + length makes.piece = ap length makes.entries ∙ length-append p.entries makes.piece in
+          let both : length q.entries ≡ length p.entries + length makes.piece = ap length makes.entries
+          ∙ length-append p.entries makes.piece in
           let all : room_for more ≡ room_for jobs + 8 = ap room_for is ∙ sum_by_push entries_of_job jobs (ToCall call) in
           let few = has.few in
           let one = makes.few in
           omega (arith, all, both, few, one));
     }
 HasDone-more j old p q jobs more (Turn low) has are fits makes is =
-    let was : progress_of low (entries_in p.entries) ≡ Some (at_rest low (length jobs)) = subst (λ m. progress_of m (entries_in p.entries) ≡ Some (at_rest m (length jobs))) fits.0 has.progress in
-    let number : makes.turn.made ≡ length jobs = ap (λ (x : Progress). x.made) (same_Some (at_rest low makes.turn.made) (at_rest low (length jobs)) (sym makes.before ∙ was)) in
+    let was : progress_of low (entries_in p.entries) ≡ Some (at_rest low (length jobs)) =
+    subst (λ m. progress_of m (entries_in p.entries) ≡ Some (at_rest m (length jobs))) fits.0 has.progress in
+    let number : makes.turn.made ≡ length jobs = ap (λ (x : Progress). x.made)
+    (same_Some (at_rest low makes.turn.made) (at_rest low (length jobs)) (sym makes.before ∙ was)) in
     let long : length more ≡ length jobs + 1 = ap length is ∙ length_push jobs (Turn low) in
-    let split : entries_in q.entries ≡ entries_in p.entries ++ entries_in makes.piece = ap entries_in makes.entries ∙ map-append (λ (x : Numbered). x.entry) p.entries makes.piece in
+    let split : entries_in q.entries ≡ entries_in p.entries ++ entries_in makes.piece = ap entries_in makes.entries
+    ∙ map-append (λ (x : Numbered). x.entry) p.entries makes.piece in
     record {
       journal = makes.journal ∙ has.journal;
       processor = makes.processor ∙ has.processor;
@@ -94,40 +102,47 @@ HasDone-more j old p q jobs more (Turn low) has are fits makes is =
           ∙ append-nil (numbers jobs)
           ∙ sym (ap numbers is ∙ ap (enumerate_from 0) (calls_push jobs (Turn low) ∙ append-nil (calls_among jobs)));
       few = (
-          let both : length q.entries ≡ length p.entries + length makes.piece = ap length makes.entries ∙ length-append p.entries makes.piece in
+          let both : length q.entries ≡ length p.entries + length makes.piece = ap length makes.entries
+          ∙ length-append p.entries makes.piece in
           let all : room_for more ≡ room_for jobs + (4 * low + 1) = ap room_for is ∙ sum_by_push entries_of_job jobs (Turn low) in
           let few = has.few in
           let one = makes.few in
           omega (arith, all, both, few, one));
     }
 
--- In the middle of the jobs: so many are done.
-module _ (j : JournalName) (old p : PassState) (jobs : List Job) (n : ℕ) (d : Job) (may : MayDo j old jobs) (has : HasDone j old (take n jobs) p) (below : n < length jobs) where
-  own_mark : mark_of j.setting p.processor ≡ mark_of j.setting old.processor
-  own_mark = ap (mark_of j.setting) has.processor
+-- In the middle of a processor's jobs: so many are done, and one more is left.
+pub record Midway (j : JournalName) (old p : PassState) (jobs : List Job) (n : ℕ) : Type 0 where
+  pub may : MayDo j old jobs
+  pub has : HasDone j old (take n jobs) p
+  pub below : n < length jobs
 
-  here : slice_get jobs n ≡ Some (get_or jobs n d)
-  here = slice_get-get_or jobs n d below
+module _ (j : JournalName) (old p : PassState) (jobs : List Job) (n : ℕ) (d : Job) (mid : Midway j old p jobs n) where
+  own_mark : mark_of j.setting p.processor ≡ mark_of j.setting old.processor
+  own_mark = ap (mark_of j.setting) mid.has.processor
 
   fits_next : FitsMark (mark_of j.setting old.processor) (get_or jobs n d)
-  fits_next = may.kinds n (get_or jobs n d) here
-
-  taken_kinds : AreOfMark (mark_of j.setting old.processor) (take n jobs)
-  taken_kinds = take_are (mark_of j.setting old.processor) jobs n may.kinds
+  fits_next = mid.may.kinds n (get_or jobs n d) (slice_get-get_or jobs n d mid.below)
 
   -- the next one may be done
   pub may_next : MayDoNext j p (get_or jobs n d)
   may_next = record {
-    journal = has.journal;
+    journal = mid.has.journal;
     fits = subst (λ m. FitsMark m (get_or jobs n d)) (sym own_mark) fits_next;
-    whole = subst (λ m. IsWhole m (entries_in p.entries)) (sym own_mark) (length (take n jobs), has.progress);
-    room = (let few = has.few in let more = sum_by_more_le entries_of_job jobs n d below in let room = may.room in let same = has.room in omega (arith, few, more, room, same));
-    can = may.can n d below;
+    whole = subst (λ m. IsWhole m (entries_in p.entries)) (sym own_mark) (length (take n jobs), mid.has.progress);
+    room = (
+        let few = mid.has.few in
+        let more = sum_by_more_le entries_of_job jobs n d mid.below in
+        let room = mid.may.room in
+        let same = mid.has.room in
+        omega (arith, few, more, room, same));
+    can = mid.may.can n d mid.below;
   }
 
   -- and once it is, one more is done
   pub HasDone-after : (q : PassState) → DoesJob j.setting p q (get_or jobs n d) → HasDone j old (take (n + 1) jobs) q
-  HasDone-after q does = HasDone-more j old p q (take n jobs) (take (n + 1) jobs) (get_or jobs n d) has taken_kinds fits_next does (take_more jobs n d below)
+  HasDone-after q does =
+      HasDone-more j old p q (take n jobs) (take (n + 1) jobs) (get_or jobs n d) mid.has
+      (take_are (mark_of j.setting old.processor) jobs n mid.may.kinds) fits_next does (take_more jobs n d mid.below)
 
 -- nothing is done yet
 pub HasDone-none : (j : JournalName) (p : PassState) (jobs : List Job) → MayDo j p jobs → HasDone j p [] p
@@ -146,10 +161,13 @@ abbrev pub pass_of : Worker → Option PassState
 pass_of w = w.pass
 
 -- the last of the passes that are left goes to the next worker
-pub handed : (before all : List (Option PassState)) (left fewer : List PassState) (o : Option PassState) → before ++ map Some (reverse left) ≡ all → left ≡ fewer ++ option_to_list o → IsSome o → (before ++ o ∷ []) ++ map Some (reverse fewer) ≡ all
+pub handed : (before all : List (Option PassState)) (left fewer : List PassState) (o : Option PassState)
+    → before ++ map Some (reverse left) ≡ all → left ≡ fewer ++ option_to_list o → IsSome o
+    → (before ++ o ∷ []) ++ map Some (reverse fewer) ≡ all
 handed before all left fewer None are split some = cc
 handed before all left fewer (Some p) are split some =
-    append_assoc before (Some p ∷ []) (map Some (reverse fewer)) ∙ ap (λ l. before ++ map Some l) (sym (ap reverse split ∙ reverse-append fewer (p ∷ []))) ∙ are
+    append_assoc before (Some p ∷ []) (map Some (reverse fewer)) ∙ ap (λ l. before ++ map Some l)
+    (sym (ap reverse split ∙ reverse-append fewer (p ∷ []))) ∙ are
 
 -- The passes of all jobs.
 
@@ -157,23 +175,33 @@ pub length-new_passes : (j : JournalName) (c : ℕ) (rooms : List ℕ) → lengt
 length-new_passes j c [] = refl
 length-new_passes j c (r ∷ rooms) = ap suc (length-new_passes j (suc c) rooms)
 
-new_pass_at : (j : JournalName) (c : ℕ) (rooms : List ℕ) (i room : ℕ) → slice_get rooms i ≡ Some room → slice_get (new_passes j c rooms) i ≡ Some (new_pass j (c + i) room)
+new_pass_at : (j : JournalName) (c : ℕ) (rooms : List ℕ) (i room : ℕ) → slice_get rooms i ≡ Some room
+    → slice_get (new_passes j c rooms) i ≡ Some (new_pass j (c + i) room)
 new_pass_at j c [] i room at = cc
-new_pass_at j c (r ∷ rooms) zero room at = ap₂ (λ n x. Some (new_pass j n x)) (let none : c ≡ c + 0 = omega arith in none) (same_Some r room at)
-new_pass_at j c (r ∷ rooms) (suc i) room at = new_pass_at j (suc c) rooms i room at ∙ ap (λ n. Some (new_pass j n room)) (let same : suc c + i ≡ c + suc i = omega arith in same)
+new_pass_at j c (r ∷ rooms) zero room at = ap₂ (λ n x. Some (new_pass j n x)) (let none : c ≡ c + 0 = omega arith in none)
+    (same_Some r room at)
+new_pass_at j c (r ∷ rooms) (suc i) room at = new_pass_at j (suc c) rooms i room at
+    ∙ ap (λ n. Some (new_pass j n room)) (let same : suc c + i ≡ c + suc i = omega arith in same)
 
-module _ (j : JournalName) (passes : List PassState) (workers : List Worker) (may : MayDoAll j passes (jobs_in workers)) (given : map pass_of workers ≡ map Some passes) where
+module _ (j : JournalName) (passes : List PassState) (workers : List Worker) (may : MayDoAll j passes (jobs_in workers))
+    (given : map pass_of workers ≡ map Some passes) where
   -- a worker has the new pass of its processor
   worker_pass : (c : ℕ) (w : Worker) → slice_get workers c ≡ Some w → w.pass ≡ Some (new_pass j c (room_for w.jobs.items))
   worker_pass c w at =
-      let own : slice_get (jobs_in workers) c ≡ Some w.jobs.items = slice_get-map (λ (x : Worker). x.jobs.items) workers c ∙ ap (option_map (λ (x : Worker). x.jobs.items)) at in
-      let room : slice_get (map room_for (jobs_in workers)) c ≡ Some (room_for w.jobs.items) = slice_get-map room_for (jobs_in workers) c ∙ ap (option_map room_for) own in
-      let pass : slice_get passes c ≡ Some (new_pass j c (room_for w.jobs.items)) = ap (λ l. slice_get l c) may.passes ∙ new_pass_at j 0 (map room_for (jobs_in workers)) c (room_for w.jobs.items) room ∙ ap (λ n. Some (new_pass j n (room_for w.jobs.items))) (let same : 0 + c ≡ c = omega arith in same) in
-      same_Some _ _ (sym (ap (option_map pass_of) at) ∙ sym (slice_get-map pass_of workers c) ∙ ap (λ l. slice_get l c) given ∙ slice_get-map Some passes c ∙ ap (option_map Some) pass)
+      let own : slice_get (jobs_in workers) c ≡ Some w.jobs.items = slice_get-map (λ (x : Worker). x.jobs.items) workers c
+      ∙ ap (option_map (λ (x : Worker). x.jobs.items)) at in
+      let room : slice_get (map room_for (jobs_in workers)) c ≡ Some (room_for w.jobs.items) = slice_get-map room_for (jobs_in workers) c
+      ∙ ap (option_map room_for) own in
+      let pass : slice_get passes c ≡ Some (new_pass j c (room_for w.jobs.items)) = ap (λ l. slice_get l c) may.passes
+      ∙ new_pass_at j 0 (map room_for (jobs_in workers)) c (room_for w.jobs.items) room
+      ∙ ap (λ n. Some (new_pass j n (room_for w.jobs.items))) (let same : 0 + c ≡ c = omega arith in same) in
+      same_Some _ _ (sym (ap (option_map pass_of) at) ∙ sym (slice_get-map pass_of workers c) ∙ ap (λ l. slice_get l c) given
+      ∙ slice_get-map Some passes c ∙ ap (option_map Some) pass)
 
   own_jobs : (c : ℕ) (w : Worker) → slice_get workers c ≡ Some w → jobs_at (jobs_in workers) c ≡ w.jobs.items
   own_jobs c w at =
-      get_or_from_slice_get (jobs_in workers) c w.jobs.items [] (slice_get-map (λ (x : Worker). x.jobs.items) workers c ∙ ap (option_map (λ (x : Worker). x.jobs.items)) at)
+      get_or_from_slice_get (jobs_in workers) c w.jobs.items [] (slice_get-map (λ (x : Worker). x.jobs.items) workers c
+      ∙ ap (option_map (λ (x : Worker). x.jobs.items)) at)
 
   pub are_ready : All (IsReady j) workers
   are_ready = λ c d below.
@@ -194,7 +222,8 @@ module _ (j : JournalName) (passes : List PassState) (workers : List Worker) (ma
       }
 
   -- after the jobs
-  module _ (after : List Worker) (done : (c : ℕ) (d : Worker) → c < length workers → IsDoneFrom j (get_or workers c d) (get_or after c d)) (same : length after ≡ length workers) where
+  module _ (after : List Worker) (done : (c : ℕ) (d : Worker) → c < length workers → IsDoneFrom j (get_or workers c d) (get_or after c d))
+      (same : length after ≡ length workers) where
     pub have_passes : All HasPass after
     have_passes = λ c d below. (let one = done c d (omega (arith, below, same)) in (one.pass, one.there))
 
@@ -213,8 +242,11 @@ module _ (j : JournalName) (passes : List PassState) (workers : List Worker) (ma
                     let here = there.1 in
                     let pass : get_or back c d ≡ one.pass =
                     same_Some _ _ (same_Some _ _
-                    (sym (ap (option_map Some) (slice_get-get_or back c d (omega (arith, count, same, here)))) ∙ sym (slice_get-map Some back c) ∙ ap (λ l. slice_get l c) are ∙ slice_get-map pass_of after c ∙ ap (option_map pass_of) (slice_get-get_or after c w (omega (arith, same, here))) ∙ ap Some one.there)) in
-                    subst (λ (p : PassState). HasDone j (new_pass j c (room_for (jobs_at (jobs_in workers) c))) (jobs_at (jobs_in workers) c) p) (sym pass)
+                    (sym (ap (option_map Some) (slice_get-get_or back c d (omega (arith, count, same, here))))
+                    ∙ sym (slice_get-map Some back c) ∙ ap (λ l. slice_get l c) are ∙ slice_get-map pass_of after c
+                    ∙ ap (option_map pass_of) (slice_get-get_or after c w (omega (arith, same, here))) ∙ ap Some one.there)) in
+                    subst (λ (p : PassState). HasDone j (new_pass j c (room_for (jobs_at (jobs_in workers) c)))
+                    (jobs_at (jobs_in workers) c) p) (sym pass)
                     (subst (λ own. HasDone j (new_pass j c (room_for own)) own one.pass) (sym (own_jobs c w there.2))
                     (subst (λ (p : PassState). HasDone j p w.jobs.items one.pass) was one.done))
                 | inr past ↦ absurd (let out = past.0 in omega (arith, below, many, out))
@@ -259,11 +291,13 @@ module _ (j : JournalName) (jobs : List (List Job)) (passes : List PassState) (h
       let has = have.done c d (let count = have.count in omega (arith, below, count)) in
       subst (λ k. IsWhole (mark_of j.setting k) (entries_in p.entries)) (sym has.processor) (length (jobs_at jobs c), has.progress)
 
-  pub run_done : (h : List Numbered) → IsNumbered h → IsLegal j.setting (entries_in h) → All (λ (p : PassState). IsOwnOf p (entries_in h)) passes → length j.setting.marks ≡ length jobs → IsWholeRun j.setting jobs h
+  pub run_done : (h : List Numbered) → IsNumbered h → IsLegal j.setting (entries_in h)
+      → All (λ (p : PassState). IsOwnOf p (entries_in h)) passes → length j.setting.marks ≡ length jobs → IsWholeRun j.setting jobs h
   run_done h numbered legal own many =
       let count = have.count in
       let entries : (c : ℕ) → c < length jobs → entries_of c (entries_in h) ≡ entries_in (get_or passes c none_yet).entries =
-      (λ c below. ap (λ k. entries_of k (entries_in h)) (sym (have.done c none_yet below).processor) ∙ sym (own c none_yet (omega (arith, below, count))).1) in
+      (λ c below. ap (λ k. entries_of k (entries_in h)) (sym (have.done c none_yet below).processor)
+      ∙ sym (own c none_yet (omega (arith, below, count))).1) in
       IsWholeRun-legal j.setting jobs h legal numbered
       (λ c below. ap answers_in (entries c below) ∙ (have.done c none_yet below).answers)
       (λ c below. ap (progress_of (mark_of j.setting c)) (entries c below) ∙ (have.done c none_yet below).progress)

@@ -34,11 +34,15 @@ pub state_on-none : (x : ℕ) → x ≡ state_on x []
 unfolding state_on
 state_on-none x = refl
 
-IsDrawn-push : (plan : Plan) (x : ℕ) (h es : List Entry) (e : Entry) → IsDrawn plan x h es → picked plan (h ++ es) (state_on x es) ≡ Some e.processor → IsDrawn plan x h (es ++ e ∷ [])
+IsDrawn-push : (plan : Plan) (x : ℕ) (h es : List Entry) (e : Entry) → IsDrawn plan x h es
+    → picked plan (h ++ es) (state_on x es) ≡ Some e.processor → IsDrawn plan x h (es ++ e ∷ [])
 unfolding state_on
 IsDrawn-push plan x h [] e was is = (subst (λ l. picked plan l x ≡ Some e.processor) (append-nil h) is, tt)
-IsDrawn-push plan x h (y ∷ es) e was is =
-    (was.0, IsDrawn-push plan (next_state x) (h ++ y ∷ []) es e was.1 (subst (λ l. picked plan l (state_on (next_state x) es) ≡ Some e.processor) (sym (append_assoc h (y ∷ []) es)) is))
+IsDrawn-push plan x h (y ∷ es) e was is = (
+  was.0,
+  IsDrawn-push plan (next_state x) (h ++ y ∷ []) es e was.1
+      (subst (λ l. picked plan l (state_on (next_state x) es) ≡ Some e.processor) (sym (append_assoc h (y ∷ []) es)) is),
+)
 
 -- The entries so far are drawn from the seed, and this is the generator's state.
 pub record Drawing (plan : Plan) (stores : List Stored) (seed : ℕ) (run : Running) (state : ℕ) : Type 0 where
@@ -46,7 +50,8 @@ pub record Drawing (plan : Plan) (stores : List Stored) (seed : ℕ) (run : Runn
   pub seeded : IsSeeded plan seed (entries_in run.history)
   pub state_is : state ≡ state_on seed (entries_in run.history)
 
-pub Drawing-start : (plan : Plan) (stores : List Stored) (seed : ℕ) (run : Running) → IsRunOf plan stores run → run.history ≡ [] → Drawing plan stores seed run seed
+pub Drawing-start : (plan : Plan) (stores : List Stored) (seed : ℕ) (run : Running) → IsRunOf plan stores run → run.history ≡ []
+    → Drawing plan stores seed run seed
 Drawing-start plan stores seed run of none =
     record {
       of = of;
@@ -55,27 +60,30 @@ Drawing-start plan stores seed run of none =
     }
 
 -- one drawn turn more
-module _ (plan : Plan) (stores : List Stored) (seed : ℕ) (run new : Running) (x : ℕ) (now : Drawing plan stores seed run x) (step : FirstStepped run new (drawn_order run x)) where
+module _ (plan : Plan) (stores : List Stored) (seed : ℕ) (run : Running) (x : ℕ) (now : Drawing plan stores seed run x) where
   known_drawn : AllByRecursion (λ c. c < actors plan) (drawn_order run x)
   known_drawn =
       subst (λ n. AllByRecursion (λ c. c < n) (drawn_order run x)) (length-jobs plan run.jobs now.of.jobs)
       (all_turned (λ c. c < length run.jobs) (drawn x (length (flying_in run))) (flying_in run) (flying_known run))
 
-  pub Drawing-step : (state : ℕ) → state ≡ next_state x → Drawing plan stores seed new state
-  Drawing-step state is =
+  pub Drawing-step : (new : Running) → FirstStepped run new (drawn_order run x) → (state : ℕ) → state ≡ next_state x
+      → Drawing plan stores seed new state
+  Drawing-step new step state is =
       let h = entries_in run.history in
       let e = step.more.entry in
       let found_there : picked plan h x ≡ Some e.processor =
-      ap (λ l. find (can_step plan h) (turned (drawn x (length l)) l)) (left_same plan stores run now.of) ∙ found plan stores run new (drawn_order run x) now.of step known_drawn in
+      ap (λ l. find (can_step plan h) (turned (drawn x (length l)) l)) (left_same plan stores run now.of)
+      ∙ found plan stores run new (drawn_order run x) now.of step known_drawn in
       let more : entries_in new.history ≡ h ++ e ∷ [] = entries_step run new step.actor step.more in
       record {
         of = IsRunOf-step plan stores run new (drawn_order run x) now.of step;
-        seeded = subst (IsSeeded plan seed) (sym more) (IsDrawn-push plan seed [] h e now.seeded (subst (λ s. picked plan h s ≡ Some e.processor) now.state_is found_there));
+        seeded = subst (IsSeeded plan seed) (sym more) (IsDrawn-push plan seed [] h e now.seeded
+            (subst (λ s. picked plan h s ≡ Some e.processor) now.state_is found_there));
         state_is = is ∙ ap next_state now.state_is ∙ sym (state_on-push seed h e) ∙ ap (state_on seed) (sym more);
       }
 
-  pub fewer_drawn : all_left new < all_left run
-  fewer_drawn = fewer_left plan stores run new (drawn_order run x) now.of step known_drawn
+  pub fewer_drawn : (new : Running) → FirstStepped run new (drawn_order run x) → all_left new < all_left run
+  fewer_drawn new step = fewer_left plan stores run new (drawn_order run x) now.of step known_drawn
 
 -- Listed turns.
 
@@ -88,43 +96,62 @@ pub record Following (plan : Plan) (stores : List Stored) (schedule : List ℕ) 
   pub of : IsRunOf plan stores run
   pub ahead : Ahead plan schedule (drop k schedule) (entries_in run.history)
 
-pub Following-start : (plan : Plan) (stores : List Stored) (schedule : List ℕ) (run : Running) → IsRunOf plan stores run → run.history ≡ [] → Following plan stores schedule 0 run
+pub Following-start : (plan : Plan) (stores : List Stored) (schedule : List ℕ) (run : Running) → IsRunOf plan stores run → run.history ≡ []
+    → Following plan stores schedule 0 run
 Following-start plan stores schedule run of none =
     record { of = of; ahead = subst (λ h. Ahead plan schedule schedule (entries_in h)) (sym none) (λ es follows. follows) }
 
--- one turn more, of a processor that can step, or of one that can't
-module _ (plan : Plan) (stores : List Stored) (schedule : List ℕ) (k n : ℕ) (run : Running) (now : Following plan stores schedule k run) (known : n < actors plan) (at : drop k schedule ≡ n ∷ drop (k + 1) schedule) where
-  ahead_at : Ahead plan schedule (n ∷ drop (k + 1) schedule) (entries_in run.history)
-  ahead_at = subst (λ l. Ahead plan schedule l (entries_in run.history)) at now.ahead
+-- The schedule has a turn at this place, of one of the processors.
+pub record NextTurn (plan : Plan) (schedule : List ℕ) (k : ℕ) : Type 0 where
+  pub below : k < length schedule
+  pub known : get_or schedule k 0 < actors plan
 
-  pub Following-stepped : (new : Running) → (IsStuck run n → ⊥) → OneMore run new n → new.given ≡ run.given → new.jobs ≡ run.jobs → new.unused ≡ run.unused → IsLawful new → Following plan stores schedule (k + 1) new
+-- one turn more, of a processor that can step, or of one that can't
+module _ (plan : Plan) (stores : List Stored) (schedule : List ℕ) (k : ℕ) (run : Running)
+    (now : Following plan stores schedule k run) (next : NextTurn plan schedule k) where
+  abbrev n : ℕ
+  n = get_or schedule k 0
+
+  ahead_at : Ahead plan schedule (n ∷ drop (k + 1) schedule) (entries_in run.history)
+  ahead_at = subst (λ l. Ahead plan schedule l (entries_in run.history)) (drop_more schedule k 0 next.below) now.ahead
+
+  pub Following-stepped : (new : Running) → (IsStuck run n → ⊥) → OneMore run new n → new.given ≡ run.given → new.jobs ≡ run.jobs
+      → new.unused ≡ run.unused → IsLawful new → Following plan stores schedule (k + 1) new
   Following-stepped new free more given calls unused lawful =
       let h = entries_in run.history in
-      let can = can_step_free plan stores run now.of n known free in
+      let can = can_step_free plan stores run now.of n next.known free in
       record {
         of = record { given = given ∙ now.of.given; unused = unused ∙ now.of.unused; jobs = calls ∙ now.of.jobs; lawful = lawful };
         ahead = subst (Ahead plan schedule (drop (k + 1) schedule)) (sym (entries_step run new n more))
             (λ es follows. subst (Follows plan schedule []) (sym (append_assoc h (more.entry ∷ []) es))
-            (ahead_at (more.entry ∷ es) (λ yes. (more.entry, es, refl, more.of_actor, follows), λ cannot. absurd (true≢false (sym can ∙ cannot)))));
+            (ahead_at (more.entry ∷ es) (
+              λ yes. (more.entry, es, refl, more.of_actor, follows),
+              λ cannot. absurd (true≢false (sym can ∙ cannot)),
+            )));
       }
 
   pub Following-passed : (new : Running) → new ≡ run → IsStuck run n → Following plan stores schedule (k + 1) new
   Following-passed new same stuck =
-      let cannot = cannot_step plan stores run now.of n known stuck in
+      let cannot = cannot_step plan stores run now.of n next.known stuck in
       subst (Following plan stores schedule (k + 1)) (sym same)
       (record { of = now.of; ahead = λ es follows. ahead_at es (λ can. absurd (true≢false (sym can ∙ cannot)), λ no. follows) })
 
-pub Following-turn : (plan : Plan) (stores : List Stored) (schedule : List ℕ) (k : ℕ) (run : Running) → Following plan stores schedule k run → k < length schedule → get_or schedule k 0 < actors plan → (new : Running) (turn : Turn)
-    → (turn ≡ HasNone → (new ≡ run) × (flight_at run.flights (get_or schedule k 0) ≡ None)) → (flight_at run.flights (get_or schedule k 0) ≡ None → turn ≡ HasNone)
-    → ((space : ℕ) → turn ≡ Waits space → (new ≡ run) × MustWait run (get_or schedule k 0) space) → ((space : ℕ) → MustWait run (get_or schedule k 0) space → turn ≡ Waits space)
-    → (turn ≡ Stepped → OneMore run new (get_or schedule k 0)) → (new.given ≡ run.given) × (new.jobs ≡ run.jobs) → new.unused ≡ run.unused → IsLawful new → Following plan stores schedule (k + 1) new
-Following-turn plan stores schedule k run now below known new Stepped ended not_ended waits not_waiting stepped same unused lawful =
+pub Following-turn : (plan : Plan) (stores : List Stored) (schedule : List ℕ) (k : ℕ) (run : Running)
+    → Following plan stores schedule k run → NextTurn plan schedule k → (new : Running) (turn : Turn)
+    → (turn ≡ HasNone → (new ≡ run) × (flight_at run.flights (get_or schedule k 0) ≡ None))
+    → (flight_at run.flights (get_or schedule k 0) ≡ None → turn ≡ HasNone)
+    → ((space : ℕ) → turn ≡ Waits space → (new ≡ run) × MustWait run (get_or schedule k 0) space)
+    → ((space : ℕ) → MustWait run (get_or schedule k 0) space → turn ≡ Waits space)
+    → (turn ≡ Stepped → OneMore run new (get_or schedule k 0)) → (new.given ≡ run.given) × (new.jobs ≡ run.jobs) → new.unused ≡ run.unused
+    → IsLawful new → Following plan stores schedule (k + 1) new
+Following-turn plan stores schedule k run now next new Stepped ended not_ended waits not_waiting stepped same unused lawful =
     let n = get_or schedule k 0 in
-    Following-stepped plan stores schedule k n run now known (drop_more schedule k 0 below) new (free_by run n Stepped not_ended not_waiting refl) (stepped refl) same.0 same.1 unused lawful
-Following-turn plan stores schedule k run now below known new HasNone ended not_ended waits not_waiting stepped same unused lawful =
-    Following-passed plan stores schedule k (get_or schedule k 0) run now known (drop_more schedule k 0 below) new (ended refl).0 (inl (ended refl).1)
-Following-turn plan stores schedule k run now below known new (Waits space) ended not_ended waits not_waiting stepped same unused lawful =
-    Following-passed plan stores schedule k (get_or schedule k 0) run now known (drop_more schedule k 0 below) new (waits space refl).0 (inr (space, (waits space refl).1))
+    Following-stepped plan stores schedule k run now next new (free_by run n Stepped not_ended not_waiting refl)
+    (stepped refl) same.0 same.1 unused lawful
+Following-turn plan stores schedule k run now next new HasNone ended not_ended waits not_waiting stepped same unused lawful =
+    Following-passed plan stores schedule k run now next new (ended refl).0 (inl (ended refl).1)
+Following-turn plan stores schedule k run now next new (Waits space) ended not_ended waits not_waiting stepped same unused lawful =
+    Following-passed plan stores schedule k run now next new (waits space refl).0 (inr (space, (waits space refl).1))
 
 -- The schedule's turns are made, and the entries after them are of the lowest that could step.
 pub record Lowering (plan : Plan) (stores : List Stored) (schedule : List ℕ) (run : Running) : Type 0 where
@@ -135,7 +162,8 @@ pub record Lowering (plan : Plan) (stores : List Stored) (schedule : List ℕ) (
   pub lowest : AreLowest plan before after
   pub ahead : (es : List Entry) → AreLowest plan before es → IsScheduled plan schedule (before ++ es)
 
-pub Lowering-start : (plan : Plan) (stores : List Stored) (schedule : List ℕ) (k : ℕ) (run : Running) → Following plan stores schedule k run → length schedule ≤ k → Lowering plan stores schedule run
+pub Lowering-start : (plan : Plan) (stores : List Stored) (schedule : List ℕ) (k : ℕ) (run : Running)
+    → Following plan stores schedule k run → length schedule ≤ k → Lowering plan stores schedule run
 Lowering-start plan stores schedule k run now all =
     record {
       of = now.of;
@@ -146,13 +174,19 @@ Lowering-start plan stores schedule k run now all =
       ahead = subst (λ l. Ahead plan schedule l (entries_in run.history)) (drop_all k schedule all) now.ahead;
     }
 
-AreLowest-push : (plan : Plan) (h es : List Entry) (e : Entry) → AreLowest plan h es → find (can_step plan (h ++ es)) (range_with_len 0 (actors plan)) ≡ Some e.processor → AreLowest plan h (es ++ e ∷ [])
-AreLowest-push plan h [] e was is = (subst (λ l. find (can_step plan l) (range_with_len 0 (actors plan)) ≡ Some e.processor) (append-nil h) is, tt)
-AreLowest-push plan h (y ∷ es) e was is =
-    (was.0, AreLowest-push plan (h ++ y ∷ []) es e was.1 (subst (λ l. find (can_step plan l) (range_with_len 0 (actors plan)) ≡ Some e.processor) (sym (append_assoc h (y ∷ []) es)) is))
+AreLowest-push : (plan : Plan) (h es : List Entry) (e : Entry) → AreLowest plan h es
+    → find (can_step plan (h ++ es)) (range_with_len 0 (actors plan)) ≡ Some e.processor → AreLowest plan h (es ++ e ∷ [])
+AreLowest-push plan h [] e was is =
+    (subst (λ l. find (can_step plan l) (range_with_len 0 (actors plan)) ≡ Some e.processor) (append-nil h) is, tt)
+AreLowest-push plan h (y ∷ es) e was is = (
+  was.0,
+  AreLowest-push plan (h ++ y ∷ []) es e was.1
+      (subst (λ l. find (can_step plan l) (range_with_len 0 (actors plan)) ≡ Some e.processor) (sym (append_assoc h (y ∷ []) es)) is),
+)
 
 -- one turn more of the lowest
-module _ (plan : Plan) (stores : List Stored) (schedule : List ℕ) (run new : Running) (now : Lowering plan stores schedule run) (step : FirstStepped run new (range_with_len 0 (actors plan))) where
+module _ (plan : Plan) (stores : List Stored) (schedule : List ℕ) (run new : Running) (now : Lowering plan stores schedule run)
+    (step : FirstStepped run new (range_with_len 0 (actors plan))) where
   pub Lowering-step : Lowering plan stores schedule new
   Lowering-step =
       let e = step.more.entry in
@@ -163,7 +197,8 @@ module _ (plan : Plan) (stores : List Stored) (schedule : List ℕ) (run new : R
         of = IsRunOf-step plan stores run new (range_with_len 0 (actors plan)) now.of step;
         before = now.before;
         after = now.after ++ e ∷ [];
-        entries = entries_step run new step.actor step.more ∙ ap (λ l. l ++ e ∷ []) now.entries ∙ append_assoc now.before now.after (e ∷ []);
+        entries = entries_step run new step.actor step.more ∙ ap (λ l. l ++ e ∷ []) now.entries
+            ∙ append_assoc now.before now.after (e ∷ []);
         lowest = AreLowest-push plan now.before now.after e now.lowest first;
         ahead = now.ahead;
       }
@@ -171,5 +206,6 @@ module _ (plan : Plan) (stores : List Stored) (schedule : List ℕ) (run new : R
   pub fewer_lowest : all_left new < all_left run
   fewer_lowest = fewer_left plan stores run new (range_with_len 0 (actors plan)) now.of step (range_known (actors plan))
 
-pub IsScheduled-end : (plan : Plan) (stores : List Stored) (schedule : List ℕ) (run : Running) → Lowering plan stores schedule run → IsScheduled plan schedule (entries_in run.history)
+pub IsScheduled-end : (plan : Plan) (stores : List Stored) (schedule : List ℕ) (run : Running) → Lowering plan stores schedule run
+    → IsScheduled plan schedule (entries_in run.history)
 IsScheduled-end plan stores schedule run now = subst (IsScheduled plan schedule) (sym now.entries) (now.ahead now.after now.lowest)

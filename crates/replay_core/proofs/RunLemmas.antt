@@ -9,9 +9,8 @@ use Rattle.std.specs.List.{enumerate_from, range_with_len}
 use Rattle.pager_model.specs.declared.call.Call.{Call}
 use Rattle.pager_model.specs.declared.entry.Numbered.{Numbered}
 use Rattle.pager_model.specs.declared.summary.Summary.{Summary}
-use Rattle.pager_model.specs.Agreement.{IsPartition, NothingHeld, Agrees}
 use Rattle.pager_model.specs.Counts.{counts}
-use Rattle.pager_model.specs.Legal.{IsLegal, frames_at, entries_in}
+use Rattle.pager_model.specs.Legal.{entries_in}
 use Rattle.pager_model.specs.Plans.{Plan}
 use Rattle.pager_model.specs.Settings.{Given, faults_at_entry, mark_of}
 use Rattle.pager_model.specs.Showing.{actors, calls_of, daemon_marks, jobs_of, turns_of, MakesTurns, Shows}
@@ -41,11 +40,13 @@ pub record IsRunOf (plan : Plan) (stores : List Stored) (run : Running) : Type 0
   pub lawful : IsLawful run
 
 -- each processor's jobs, and none of others
-pub jobs_known : (plan : Plan) (jobs : List (List Job)) → jobs ≡ map (λ c. jobs_of c plan) (range_with_len 0 (actors plan)) → (c : ℕ) → c < actors plan → jobs_at jobs c ≡ jobs_of c plan
+pub jobs_known : (plan : Plan) (jobs : List (List Job)) → jobs ≡ map (λ c. jobs_of c plan) (range_with_len 0 (actors plan)) → (c : ℕ)
+    → c < actors plan → jobs_at jobs c ≡ jobs_of c plan
 jobs_known plan jobs are c known =
     ap (λ l. jobs_at l c) are ∙ get_or-map-range_with_len (λ c. jobs_of c plan) 0 (actors plan) c c [] known (omega arith)
 
-pub length-jobs : (plan : Plan) (jobs : List (List Job)) → jobs ≡ map (λ c. jobs_of c plan) (range_with_len 0 (actors plan)) → length jobs ≡ actors plan
+pub length-jobs : (plan : Plan) (jobs : List (List Job)) → jobs ≡ map (λ c. jobs_of c plan) (range_with_len 0 (actors plan))
+    → length jobs ≡ actors plan
 length-jobs plan jobs are = ap length are ∙ length-map-range_with_len (λ c. jobs_of c plan) 0 (actors plan)
 
 -- A processor that makes calls is one of them, and its jobs are its calls; the daemon comes behind those.
@@ -62,7 +63,8 @@ calls_alone (call ∷ calls) = ap (λ l. call ∷ l) (calls_alone calls)
 
 pub jobs_of_calls : (plan : Plan) (c : ℕ) → c < plan.processors → jobs_of c plan ≡ map MakesCall (calls_of c plan.calls)
 jobs_of_calls plan c known =
-    ap (λ b. map MakesCall (calls_of c plan.calls) ++ cond b (turns_of plan.daemon) []) (ne_eqb c plan.processors (λ is. omega (arith, known, is)))
+    ap (λ b. map MakesCall (calls_of c plan.calls) ++ cond b (turns_of plan.daemon) [])
+    (ne_eqb c plan.processors (λ is. omega (arith, known, is)))
     ∙ append-nil (map MakesCall (calls_of c plan.calls))
 
 pub calls_of_jobs : (plan : Plan) (c : ℕ) → c < plan.processors → calls_among (jobs_of c plan) ≡ calls_of c plan.calls
@@ -70,11 +72,13 @@ calls_of_jobs plan c known = ap calls_among (jobs_of_calls plan c known) ∙ cal
 
 pub mark_of_caller : (plan : Plan) (stores : List Stored) (c : ℕ) → c < plan.processors → mark_of (setting_over plan stores) c ≡ 0
 mark_of_caller plan stores c known =
-    get_or_append_left (replicate plan.processors 0) (daemon_marks plan.daemon) 0 c (subst (λ n. c < n) (sym (length-replicate {A = ℕ} plan.processors 0)) known)
+    get_or_append_left (replicate plan.processors 0) (daemon_marks plan.daemon) 0 c
+    (subst (λ n. c < n) (sym (length-replicate {A = ℕ} plan.processors 0)) known)
     ∙ get_or-replicate plan.processors c 0 0 known
 
 -- the daemon of a trace, its mark and its turns
-pub mark_of_daemon : (plan : Plan) (stores : List Stored) (d : Daemon) → plan.daemon ≡ Some d → mark_of (setting_over plan stores) plan.processors ≡ d.low
+pub mark_of_daemon : (plan : Plan) (stores : List Stored) (d : Daemon) → plan.daemon ≡ Some d
+    → mark_of (setting_over plan stores) plan.processors ≡ d.low
 mark_of_daemon plan stores d is =
     ap (λ o. get_or (replicate plan.processors 0 ++ daemon_marks o) plan.processors 0) is ∙ behind plan.processors
   where
@@ -90,16 +94,20 @@ daemon_known plan d is =
     omega (arith, all, some, one)
 
 -- no line is of the daemon's number
-no_calls : (most : ℕ) (lines : List Line) → ((i : ℕ) (d : Line) → i < length lines → (get_or lines i d).processor < most) → calls_of most lines ≡ []
+no_calls : (most : ℕ) (lines : List Line) → ((i : ℕ) (d : Line) → i < length lines → (get_or lines i d).processor < most)
+    → calls_of most lines ≡ []
 no_calls most [] all = refl
 no_calls most (line ∷ lines) all =
     let own = all 0 line (omega arith) in
-    ap (λ b. map (λ (l : Line). l.call) (cond b (line ∷ filter (λ (l : Line). l.processor == most) lines) (filter (λ (l : Line). l.processor == most) lines))) (ne_eqb line.processor most (λ is. omega (arith, own, is)))
+    ap (λ b. map (λ (l : Line). l.call) (cond b (line ∷ filter (λ (l : Line). l.processor == most) lines)
+    (filter (λ (l : Line). l.processor == most) lines))) (ne_eqb line.processor most (λ is. omega (arith, own, is)))
     ∙ no_calls most lines (λ i d below. all (suc i) d (omega (arith, below)))
 
-pub jobs_of_daemon : (plan : Plan) → HasText plan → (d : Daemon) → plan.daemon ≡ Some d → jobs_of plan.processors plan ≡ replicate d.turns (Turn d.low)
+pub jobs_of_daemon : (plan : Plan) → HasText plan → (d : Daemon) → plan.daemon ≡ Some d
+    → jobs_of plan.processors plan ≡ replicate d.turns (Turn d.low)
 jobs_of_daemon plan has d is =
-    ap (λ calls. map MakesCall calls ++ cond (plan.processors == plan.processors) (turns_of plan.daemon) []) (no_calls plan.processors plan.calls (λ i line within. (has.lines i line within).0))
+    ap (λ calls. map MakesCall calls ++ cond (plan.processors == plan.processors) (turns_of plan.daemon) [])
+    (no_calls plan.processors plan.calls (λ i line within. (has.lines i line within).0))
     ∙ ap (λ b. cond b (turns_of plan.daemon) []) (eq-eqb plan.processors plan.processors refl)
     ∙ ap turns_of is
 
@@ -108,10 +116,12 @@ told-over : (plan : Plan) (stores : List Stored) → plan.spaces ≤ length stor
 told-over plan stores enough = length-map (take plan.spaces stores) (λ (s : Stored). s.told) ∙ length-take-le plan.spaces stores enough
 
 -- the setting's counts of faults are those of the stores
-faults_read : (spaces s : ℕ) (stores : List Stored) (store : Stored) → s < spaces → slice_get stores s ≡ Some store → get_or (map (λ (x : Stored). x.faults) (take spaces stores)) s 0 ≡ store.faults
+faults_read : (spaces s : ℕ) (stores : List Stored) (store : Stored) → s < spaces → slice_get stores s ≡ Some store
+    → get_or (map (λ (x : Stored). x.faults) (take spaces stores)) s 0 ≡ store.faults
 faults_read spaces s [] store below at = cc
 faults_read zero s (x ∷ stores) store below at = absurd (omega (arith, below))
-faults_read (suc spaces) zero (x ∷ stores) store below at = (let e : Some x ≡ Some store = at in ap (λ (y : Stored). y.faults) (same_Some x store e))
+faults_read (suc spaces) zero (x ∷ stores) store below at =
+    (let e : Some x ≡ Some store = at in ap (λ (y : Stored). y.faults) (same_Some x store e))
 faults_read (suc spaces) (suc s) (x ∷ stores) store below at = faults_read spaces s stores store (omega (arith, below)) at
 
 -- a count that rose from one on to this one or a lower one
@@ -126,11 +136,15 @@ rises_to last old count new rose within capped =
     ]
 
 -- where no store failed the history tells no failure
-module _ (plan : Plan) (stores after : List Stored) (history : List Numbered) (enough : plan.spaces ≤ length stores) (capped : AreCapped plan.spaces stores) (ends : StoresEnd (setting_over plan stores) history after) where
-  HasFailed-rose : (s count : ℕ) (old new : Stored) → s < plan.spaces → slice_get stores s ≡ Some old → EndsWith (setting_over plan stores) history s new → HasFailed (setting_over plan stores) (entries_in history) s count → Rises old.faults new.faults
+module _ (plan : Plan) (stores after : List Stored) (history : List Numbered) (enough : plan.spaces ≤ length stores)
+    (capped : AreCapped plan.spaces stores) (ends : StoresEnd (setting_over plan stores) history after) where
+  HasFailed-rose : (s count : ℕ) (old new : Stored) → s < plan.spaces → slice_get stores s ≡ Some old
+      → EndsWith (setting_over plan stores) history s new → HasFailed (setting_over plan stores) (entries_in history) s count
+      → Rises old.faults new.faults
   HasFailed-rose s count old new below at end has =
       let entry : faults_at_entry (setting_over plan stores) s ≡ old.faults = faults_read plan.spaces s stores old below at in
-      rises_to last_count old.faults count new.faults (subst (λ n. Rises n count) entry has.rose) (let within = has.within in let counts = end.counts in omega (arith, within, counts)) (capped s old below at)
+      rises_to last_count old.faults count new.faults (subst (λ n. Rises n count) entry has.rose)
+      (let within = has.within in let counts = end.counts in omega (arith, within, counts)) (capped s old below at)
 
   none_failed : NoneFailed plan.spaces stores after → (s count : ℕ) → HasFailed (setting_over plan stores) (entries_in history) s count → ⊥
   none_failed none s count has =
@@ -145,16 +159,18 @@ module _ (plan : Plan) (stores after : List Stored) (history : List Numbered) (e
       ]
 
 -- what a whole run of a trace's jobs shows
-module _ (plan : Plan) (has : HasText plan) (stores : List Stored) (given : Given) (jobs : List (List Job)) (history : List Numbered) (g : given ≡ setting_over plan stores) (are : jobs ≡ map (λ c. jobs_of c plan) (range_with_len 0 (actors plan))) (whole : IsWholeRun given jobs history) where
+module _ (plan : Plan) (has : HasText plan) (stores : List Stored) (jobs : List (List Job)) (history : List Numbered)
+    (are : jobs ≡ map (λ c. jobs_of c plan) (range_with_len 0 (actors plan)))
+    (whole : IsWholeRun (setting_over plan stores) jobs history) where
   there : (c : ℕ) → c < actors plan → c < length jobs
   there c known = subst (λ n. c < n) (sym (length-jobs plan jobs are)) known
 
-  ended_at : (c mark : ℕ) → c < actors plan → mark_of (setting_over plan stores) c ≡ mark → progress_of mark (entries_of c (entries_in history)) ≡ Some (at_rest mark (length (jobs_of c plan)))
+  ended_at : (c mark : ℕ) → c < actors plan → mark_of (setting_over plan stores) c ≡ mark
+      → progress_of mark (entries_of c (entries_in history)) ≡ Some (at_rest mark (length (jobs_of c plan)))
   ended_at c mark known is =
-      let own : mark_of given c ≡ mark = ap (λ x. mark_of x c) g ∙ is in
-      ap (λ m. progress_of m (entries_of c (entries_in history))) (sym own)
+      ap (λ m. progress_of m (entries_of c (entries_in history))) (sym is)
       ∙ whole.whole c (there c known)
-      ∙ ap (λ m. Some (at_rest m (length (jobs_at jobs c)))) own
+      ∙ ap (λ m. Some (at_rest m (length (jobs_at jobs c)))) is
       ∙ ap (λ own. Some (at_rest mark (length own))) (jobs_known plan jobs are c known)
 
   turns_made : (o : Option Daemon) → plan.daemon ≡ o → MakesTurns plan o (entries_in history)
@@ -168,41 +184,51 @@ module _ (plan : Plan) (has : HasText plan) (stores : List Stored) (given : Give
   Shows-whole = record {
     calls = λ c known.
         let knows = processor_known plan c known in (
-          whole.answers c (there c knows) ∙ ap (λ own. enumerate_from 0 (calls_among own)) (jobs_known plan jobs are c knows) ∙ ap (enumerate_from 0) (calls_of_jobs plan c known),
+          whole.answers c (there c knows) ∙ ap (λ own. enumerate_from 0 (calls_among own)) (jobs_known plan jobs are c knows)
+              ∙ ap (enumerate_from 0) (calls_of_jobs plan c known),
           (length (jobs_of c plan), ended_at c 0 knows (mark_of_caller plan stores c known)),
         );
     turns = turns_made plan.daemon refl;
   }
 
 -- a whole run of its jobs over the stores is its replay, whoever makes it
-pub IsReplay-of : (plan : Plan) → HasText plan → (stores after : List Stored) (given : Given) (jobs : List (List Job)) (history : List Numbered) → plan.spaces ≤ length stores → AreCapped plan.spaces stores → given ≡ setting_over plan stores → jobs ≡ map (λ c. jobs_of c plan) (range_with_len 0 (actors plan)) → IsWholeRun given jobs history → StoresEnd given history after → drop plan.spaces after ≡ drop plan.spaces stores → IsReplay plan stores history after
-IsReplay-of plan has stores after given jobs history enough capped g are whole ends unused =
-    let legal : IsLegal (setting_over plan stores) (entries_in history) = subst (λ g. IsLegal g (entries_in history)) g whole.legal in
-    let ended : StoresEnd (setting_over plan stores) history after = subst (λ g. StoresEnd g history after) g ends in
+pub IsReplay-of : (plan : Plan) → HasText plan → (stores after : List Stored) (given : Given) (jobs : List (List Job))
+    (history : List Numbered) → plan.spaces ≤ length stores → AreCapped plan.spaces stores → given ≡ setting_over plan stores
+    → jobs ≡ map (λ c. jobs_of c plan) (range_with_len 0 (actors plan)) → IsWholeRun given jobs history
+    → StoresEnd given history after → drop plan.spaces after ≡ drop plan.spaces stores → IsReplay plan stores history after
+IsReplay-of plan has stores after given jobs history enough capped g are run_whole run_ends unused =
+    let whole : IsWholeRun (setting_over plan stores) jobs history = subst (λ g. IsWholeRun g jobs history) g run_whole in
+    let ends : StoresEnd (setting_over plan stores) history after = subst (λ g. StoresEnd g history after) g run_ends in
+    let legal = whole.legal in
     record {
       numbered = whole.numbered;
       legal = legal;
-      shows = Shows-whole plan has stores given jobs history g are whole;
+      shows = Shows-whole plan has stores jobs history are whole;
       laws = KeepsLawsAllAlong-legal (setting_over plan stores) (entries_in history) legal;
       oldest = PreemptsOldest-legal (setting_over plan stores) (entries_in history) legal;
       refusals = RefusesRightly-legal (setting_over plan stores) (entries_in history) legal;
       never_short = IsNeverShort-legal (setting_over plan stores) (entries_in history) legal;
       answered = AllAnswered-legal (setting_over plan stores) (entries_in history) legal;
-      served = λ none. AllServed-legal (setting_over plan stores) (entries_in history) legal (none_failed plan stores after history enough capped ended none);
-      partition = subst (λ g. IsPartition g.frames (frames_at g (entries_in history))) g whole.partition;
-      none_held = subst (λ g. NothingHeld (frames_at g (entries_in history))) g whole.none_held;
-      agrees = subst (λ g. Agrees g (entries_in history)) g whole.agrees;
-      stores = ended;
+      served = λ none. AllServed-legal (setting_over plan stores) (entries_in history) legal
+          (none_failed plan stores after history enough capped ends none);
+      partition = whole.partition;
+      none_held = whole.none_held;
+      agrees = whole.agrees;
+      stores = ends;
       unused = unused;
     }
 
 -- as a machine's is
-pub IsReplay-whole : (plan : Plan) → HasText plan → (stores after : List Stored) (run : Running) → plan.spaces ≤ length stores → AreCapped plan.spaces stores → IsRunOf plan stores run → IsWholeRun run.given run.jobs run.history → StoresEnd run.given run.history after → drop (length run.given.told) after ≡ run.unused → IsReplay plan stores run.history after
+pub IsReplay-whole : (plan : Plan) → HasText plan → (stores after : List Stored) (run : Running) → plan.spaces ≤ length stores
+    → AreCapped plan.spaces stores → IsRunOf plan stores run → IsWholeRun run.given run.jobs run.history
+    → StoresEnd run.given run.history after → drop (length run.given.told) after ≡ run.unused → IsReplay plan stores run.history after
 IsReplay-whole plan has stores after run enough capped now whole ends unused =
     IsReplay-of plan has stores after run.given run.jobs run.history enough capped now.given now.jobs whole ends
     (sym (ap (λ n. drop n after) (ap (λ (g : Given). length g.told) now.given ∙ told-over plan stores enough)) ∙ unused ∙ now.unused)
 
 -- its counts are the run's
-pub AreItsCounts-whole : (plan : Plan) (stores : List Stored) (run : Running) (history : List Numbered) (summary : Summary) → IsRunOf plan stores run → history ≡ run.history → summary ≡ counts run.given (entries_in run.history) → AreItsCounts plan stores history summary
+pub AreItsCounts-whole : (plan : Plan) (stores : List Stored) (run : Running) (history : List Numbered) (summary : Summary)
+    → IsRunOf plan stores run → history ≡ run.history → summary ≡ counts run.given (entries_in run.history)
+    → AreItsCounts plan stores history summary
 AreItsCounts-whole plan stores run history summary now same are =
     subst (λ l. AreItsCounts plan stores l summary) (sym same) (subst (λ g. summary ≡ counts g (entries_in run.history)) now.given are)

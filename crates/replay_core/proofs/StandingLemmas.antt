@@ -23,6 +23,7 @@ use Rattle.pager_core.specs.declared.flight.Purpose.{Purpose}
 use Rattle.pager_core.specs.declared.flight.Purpose.TheVariants.{Call as OfCall, Turn as OfTurn}
 use Rattle.pager_core.specs.Rows.{is_between, own_space, row_of, space_under}
 use Rattle.pager_core.specs.Running.{Running, jobs_at, flight_at, progress_of_actor, progress_by_flight, job_in, kept_by, IsKeptByOther, IsOfJob, IsLawful}
+use Rattle.pager_laws.proofs.Partition.{is_that-same}
 use Rattle.pager_core.proofs.NextFlights.{keeps_by_place, keeps_under, made_going, under_by_place}
 use Rattle.pager_model.specs.Locks.{under_in}
 use Rattle.pager_model.specs.TurnOrders.{Standing, own_of, standing_by, standing_at, is_kept_by, is_kept_by_other, has_left, can_go, can_step}
@@ -59,11 +60,15 @@ made_by jobs f of = made_going f of.going
 
 standing_job : (jobs : List Job) (f : Flight) → IsOfJob jobs f → standing_by jobs (row_of f).progress ≡ standing_of (Some f)
 standing_job jobs f of =
-    ap (option_and_then (λ job. (let s : Standing = record { own = own_of job; doing = (row_of f).progress.doing } in Some s))) (ap (slice_get jobs) (made_by jobs f of) ∙ of.job)
+    ap (option_and_then (λ job. (let s : Standing = record { own = own_of job; doing = (row_of f).progress.doing } in Some s)))
+    (ap (slice_get jobs) (made_by jobs f of) ∙ of.job)
     ∙ ap (λ own. (let s : Standing = record { own = own; doing = (row_of f).progress.doing } in Some s)) (own_of_job f.purpose)
 
-standing_flight : (mark : ℕ) (jobs : List Job) (o : Option Flight) → ((f : Flight) → o ≡ Some f → IsOfJob jobs f) → standing_by jobs (progress_by_flight mark jobs o) ≡ standing_of o
-standing_flight mark jobs None of = ap (option_and_then (λ job. (let s : Standing = record { own = own_of job; doing = (progress_by_flight mark jobs None).doing } in Some s))) (slice_get_past jobs (length jobs) (omega arith))
+standing_flight : (mark : ℕ) (jobs : List Job) (o : Option Flight) → ((f : Flight) → o ≡ Some f → IsOfJob jobs f)
+    → standing_by jobs (progress_by_flight mark jobs o) ≡ standing_of o
+standing_flight mark jobs None of = ap
+    (option_and_then (λ job. (let s : Standing = record { own = own_of job; doing = (progress_by_flight mark jobs None).doing } in
+    Some s))) (slice_get_past jobs (length jobs) (omega arith))
 standing_flight mark jobs (Some f) of = standing_job jobs f (of f refl)
 
 -- Tests.
@@ -72,15 +77,12 @@ is_some_of : (o : Option Flight) → is_some (standing_of o) ≡ is_some o
 is_some_of None = refl
 is_some_of (Some f) = refl
 
-kept_some : (space : ℕ) (kept : Option ℕ) → is_that space kept ≡ true → kept ≡ Some space
-kept_some space None is = absurd (false≢true is)
-kept_some space (Some s) is = ap Some (let e : s ≡ space = grind (arith, nat_tests) in e)
-
 -- the processor whose flight keeps the space
-keeper : (flights : List (Option Flight)) (c space d : ℕ) → d ≢ c → (o : Option Flight) → flight_at flights d ≡ o → is_that space (kept_by o) ≡ true → IsKeptByOther flights c space
+keeper : (flights : List (Option Flight)) (c space d : ℕ) → d ≢ c → (o : Option Flight) → flight_at flights d ≡ o
+    → is_that space (kept_by o) ≡ true → IsKeptByOther flights c space
 keeper flights c space d differs None flies kept = absurd (false≢true kept)
 keeper flights c space d differs (Some f) flies kept =
-    record { other = d; differs = differs; flight = f; flies = flies; keeps = kept_some space (row_of f).keeps kept }
+    record { other = d; differs = differs; flight = f; flies = flies; keeps = is_that-same space (row_of f).keeps kept }
 
 -- a processor whose flight is there is known
 pub known_flight : (run : Running) (c : ℕ) (f : Flight) → IsLawful run → flight_at run.flights c ≡ Some f → c < length run.jobs
@@ -99,17 +101,20 @@ module _ (plan : Plan) (stores : List Stored) (run : Running) (is : IsRunOf plan
   standing_is : (c : ℕ) → c < actors plan → standing_at plan (entries_in run.history) c ≡ standing_of (flight_at run.flights c)
   standing_is c known =
       let mark : mark_of run.given c ≡ mark_of (setting_over plan stores) c = ap (λ (g : Given). mark_of g c) is.given in
-      let progress : progress_of (mark_of (setting_over plan stores) c) (entries_of c (entries_in run.history)) ≡ Some (progress_of_actor run c) =
+      let progress : progress_of (mark_of (setting_over plan stores) c) (entries_of c (entries_in run.history))
+      ≡ Some (progress_of_actor run c) =
       ap (λ m. progress_of m (entries_of c (entries_in run.history))) (sym mark) ∙ is.lawful.progress c (known_in c known) in
       ap (option_and_then (standing_by (jobs_of c plan))) progress
       ∙ ap (λ l. standing_by l (progress_of_actor run c)) (sym (jobs_known plan run.jobs is.jobs c known))
       ∙ standing_flight (mark_of run.given c) (jobs_at run.jobs c) (flight_at run.flights c) (λ f flies. is.lawful.flying c f flies)
 
-  kept_is : (space : ℕ) (o : Option Flight) → ((f : Flight) → o ≡ Some f → is_between f.purpose f.phase ≡ true) → is_kept_by space (standing_of o) ≡ is_that space (kept_by o)
+  kept_is : (space : ℕ) (o : Option Flight) → ((f : Flight) → o ≡ Some f → is_between f.purpose f.phase ≡ true)
+      → is_kept_by space (standing_of o) ≡ is_that space (kept_by o)
   kept_is space None fits = refl
   kept_is space (Some f) fits = ap (is_that space) (sym (keeps_by_place f (fits f refl)))
 
-  kept_at : (space d : ℕ) → d < actors plan → is_kept_by space (standing_at plan (entries_in run.history) d) ≡ is_that space (kept_by (flight_at run.flights d))
+  kept_at : (space d : ℕ) → d < actors plan → is_kept_by space (standing_at plan (entries_in run.history) d)
+      ≡ is_that space (kept_by (flight_at run.flights d))
   kept_at space d known =
       ap (is_kept_by space) (standing_is d known)
       ∙ kept_is space (flight_at run.flights d) (λ f flies. is.lawful.between d f flies)
@@ -120,15 +125,20 @@ module _ (plan : Plan) (stores : List Stored) (run : Running) (is : IsRunOf plan
       let one = one_of (λ d. not (d == c) && is_kept_by space (standing_at plan (entries_in run.history) d)) (actors plan) test in
       let both = and_parts (not (one.0 == c)) (is_kept_by space (standing_at plan (entries_in run.history) one.0)) one.2 in
       let kept : is_that space (kept_by (flight_at run.flights one.0)) ≡ true = sym (kept_at space one.0 one.1) ∙ both.1 in
-      keeper run.flights c space one.0 (let differs = both.0 in λ same. absurd (let here : (one.0 == c) ≡ true = grind (arith, nat_tests) in false≢true (ap not (sym here) ∙ differs))) (flight_at run.flights one.0) refl kept
+      keeper run.flights c space one.0 (let differs = both.0 in λ same. absurd
+      (let here : (one.0 == c) ≡ true = grind (arith, nat_tests) in false≢true (ap not (sym here) ∙ differs)))
+      (flight_at run.flights one.0) refl kept
 
   test_from_kept : (c space : ℕ) → IsKeptByOther run.flights c space → is_kept_by_other plan (entries_in run.history) c (Some space) ≡ true
   test_from_kept c space kept =
-      let known : kept.other < actors plan = subst (λ n. kept.other < n) (length-jobs plan run.jobs is.jobs) (known_flight run kept.other kept.flight is.lawful kept.flies) in
+      let known : kept.other < actors plan = subst (λ n. kept.other < n) (length-jobs plan run.jobs is.jobs)
+      (known_flight run kept.other kept.flight is.lawful kept.flies) in
       let differs : (kept.other == c) ≡ false = (let apart = kept.differs in grind (arith, nat_tests)) in
-      let that : is_that space (kept_by (flight_at run.flights kept.other)) ≡ true = ap (λ o. is_that space (kept_by o)) kept.flies ∙ ap (is_that space) kept.keeps ∙ eq-eqb space space refl in
+      let that : is_that space (kept_by (flight_at run.flights kept.other)) ≡ true = ap (λ o. is_that space (kept_by o)) kept.flies
+      ∙ ap (is_that space) kept.keeps ∙ eq-eqb space space refl in
       any_of (λ d. not (d == c) && is_kept_by space (standing_at plan (entries_in run.history) d)) (actors plan) kept.other known
-      (ap (λ b. not b && is_kept_by space (standing_at plan (entries_in run.history) kept.other)) differs ∙ kept_at space kept.other known ∙ that)
+      (ap (λ b. not b && is_kept_by space (standing_at plan (entries_in run.history) kept.other)) differs ∙ kept_at space kept.other known
+      ∙ that)
 
   -- the space that a flight's next step is made under
   abbrev under_at : Flight → Option ℕ
@@ -139,7 +149,8 @@ module _ (plan : Plan) (stores : List Stored) (run : Running) (is : IsRunOf plan
       let of = is.lawful.flying c f flies in
       under_by_place f (is.lawful.between c f flies) of.going
 
-  can_is : (c : ℕ) (f : Flight) → c < actors plan → flight_at run.flights c ≡ Some f → can_step plan (entries_in run.history) c ≡ not (is_kept_by_other plan (entries_in run.history) c (under_at f))
+  can_is : (c : ℕ) (f : Flight) → c < actors plan → flight_at run.flights c ≡ Some f
+      → can_step plan (entries_in run.history) c ≡ not (is_kept_by_other plan (entries_in run.history) c (under_at f))
   can_is c f known flies = ap (can_go plan (entries_in run.history) c) (standing_is c known ∙ ap standing_of flies)
 
   -- a processor that has a call left, by its flight
@@ -155,15 +166,19 @@ module _ (plan : Plan) (stores : List Stored) (run : Running) (is : IsRunOf plan
       can_is c must.flight known must.flies
       ∙ ap not (subst (λ o. is_kept_by_other plan (entries_in run.history) c o ≡ true) under (test_from_kept c space must.kept))
 
-  stuck_by : (c : ℕ) (f : Flight) → flight_at run.flights c ≡ Some f → (o : Option ℕ) → space_under (row_of f).needs ≡ o → is_kept_by_other plan (entries_in run.history) c o ≡ true → IsStuck run c
+  stuck_by : (c : ℕ) (f : Flight) → flight_at run.flights c ≡ Some f → (o : Option ℕ) → space_under (row_of f).needs ≡ o
+      → is_kept_by_other plan (entries_in run.history) c o ≡ true → IsStuck run c
   stuck_by c f flies None under test = absurd (false≢true test)
-  stuck_by c f flies (Some space) under test = inr (space, record { flight = f; flies = flies; under = under; kept = kept_from_test c space test })
+  stuck_by c f flies (Some space) under test = inr
+      (space, record { flight = f; flies = flies; under = under; kept = kept_from_test c space test })
 
-  can_flying : (c : ℕ) → c < actors plan → (IsStuck run c → ⊥) → (o : Option Flight) → flight_at run.flights c ≡ o → can_step plan (entries_in run.history) c ≡ true
+  can_flying : (c : ℕ) → c < actors plan → (IsStuck run c → ⊥) → (o : Option Flight) → flight_at run.flights c ≡ o
+      → can_step plan (entries_in run.history) c ≡ true
   can_flying c known free None flies = absurd (free (inl flies))
   can_flying c known free (Some f) flies =
       can_is c f known flies
-      ∙ ap not (false_from_ne_true (is_kept_by_other plan (entries_in run.history) c (under_at f)) (λ test. free (stuck_by c f flies (under_at f) (under_is c f flies) test)))
+      ∙ ap not (false_from_ne_true (is_kept_by_other plan (entries_in run.history) c (under_at f))
+      (λ test. free (stuck_by c f flies (under_at f) (under_is c f flies) test)))
 
   pub can_step_free : (c : ℕ) → c < actors plan → (IsStuck run c → ⊥) → can_step plan (entries_in run.history) c ≡ true
   can_step_free c known free = can_flying c known free (flight_at run.flights c) refl
@@ -171,14 +186,16 @@ module _ (plan : Plan) (stores : List Stored) (run : Running) (is : IsRunOf plan
 -- Some processor can step.
 
 -- who keeps the space that a stuck processor waits for
-waits_for : (run : Running) (c : ℕ) (f : Flight) → flight_at run.flights c ≡ Some f → IsStuck run c → (space : ℕ) × (space_under (row_of f).needs ≡ Some space) × IsKeptByOther run.flights c space
+waits_for : (run : Running) (c : ℕ) (f : Flight) → flight_at run.flights c ≡ Some f → IsStuck run c
+    → (space : ℕ) × (space_under (row_of f).needs ≡ Some space) × IsKeptByOther run.flights c space
 waits_for run c f flies (inl none) = absurd (none-some f (sym none ∙ flies))
 waits_for run c f flies (inr (space, must)) =
     let same : must.flight ≡ f = same_Some _ _ (sym must.flies ∙ flies) in
     (space, subst (λ (g : Flight). space_under (row_of g).needs ≡ Some space) same must.under, must.kept)
 
 -- where one has a call left they aren't all stuck: one that keeps a space doesn't wait
-pub not_all_stuck : (run : Running) (c : ℕ) (f : Flight) → IsLawful run → flight_at run.flights c ≡ Some f → ((d : ℕ) (g : Flight) → flight_at run.flights d ≡ Some g → IsStuck run d) → ⊥
+pub not_all_stuck : (run : Running) (c : ℕ) (f : Flight) → IsLawful run → flight_at run.flights c ≡ Some f
+    → ((d : ℕ) (g : Flight) → flight_at run.flights d ≡ Some g → IsStuck run d) → ⊥
 not_all_stuck run c f lawful flies all =
     let waits = waits_for run c f flies (all c f flies) in
     let kept : IsKeptByOther run.flights c waits.0 = waits.2 in
@@ -187,4 +204,5 @@ not_all_stuck run c f lawful flies all =
     let under = keeps_under g waits.0 kept.keeps in
     let again : IsKeptByOther run.flights kept.other then.0 = then.2 in
     let same : then.0 ≡ waits.0 = same_Some _ _ (sym then.1 ∙ under) in
-    again.differs (lawful.one_keeper waits.0 again.other kept.other again.flight g again.flies kept.flies (again.keeps ∙ ap Some same) kept.keeps)
+    again.differs (lawful.one_keeper waits.0 again.other kept.other again.flight g again.flies kept.flies
+    (again.keeps ∙ ap Some same) kept.keeps)

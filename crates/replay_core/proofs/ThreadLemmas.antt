@@ -35,7 +35,8 @@ module _ (plan : Plan) (trace : HasText plan) (jobs : List (List Job)) (are : jo
   few_jobs : All (λ (own : List Job). room_for own ≤ most_entries) jobs
   few_jobs = λ c d below.
       let known : c < actors plan = (let many = length-jobs plan jobs are in omega (arith, below, many)) in
-      let same : get_or jobs c d ≡ jobs_of c plan = ap (λ l. get_or l c d) are ∙ get_or-map-range_with_len (λ k. jobs_of k plan) 0 (actors plan) c c d known (omega arith) in
+      let same : get_or jobs c d ≡ jobs_of c plan = ap (λ l. get_or l c d) are
+      ∙ get_or-map-range_with_len (λ k. jobs_of k plan) 0 (actors plan) c c d known (omega arith) in
       let few = few_entries_of plan trace c in
       let room = ap room_for same in
       omega (arith, room, few)
@@ -49,7 +50,8 @@ module _ (plan : Plan) (trace : HasText plan) (jobs : List (List Job)) (are : jo
       omega (arith, same, few)
 
   pub few_rooms : All (λ r. r ≤ 2 ^ 31) (map room_for jobs)
-  few_rooms = All-map (λ r. r ≤ 2 ^ 31) room_for jobs (All-weaker (λ (own : List Job). room_for own ≤ most_entries) (λ own. room_for own ≤ 2 ^ 31) (λ own few. omega (arith, few)) jobs few_jobs)
+  few_rooms = All-map (λ r. r ≤ 2 ^ 31) room_for jobs (All-weaker (λ (own : List Job). room_for own ≤ most_entries)
+      (λ own. room_for own ≤ 2 ^ 31) (λ own few. omega (arith, few)) jobs few_jobs)
 
   can_each : (c : ℕ) → All (CanDo plan.spaces) (jobs_at jobs c)
   can_each c = λ n d below.
@@ -72,7 +74,8 @@ module _ (plan : Plan) (trace : HasText plan) (jobs : List (List Job)) (are : jo
   ]
 
   -- what the pager that is made for them is made of
-  pub as_many : (marks rooms : List ℕ) → marks ≡ marks_of plan → rooms ≡ map room_for jobs → (1 ≤ length marks) × (length marks ≤ 17) × (length rooms ≡ length marks)
+  pub as_many : (marks rooms : List ℕ) → marks ≡ marks_of plan → rooms ≡ map room_for jobs
+      → (1 ≤ length marks) × (length marks ≤ 17) × (length rooms ≡ length marks)
   as_many marks rooms marks_are rooms_are =
       let some = processor_known plan 0 (let few = trace.processors_in in omega (arith, few.0)) in
       let few = actors_few plan trace in
@@ -81,7 +84,10 @@ module _ (plan : Plan) (trace : HasText plan) (jobs : List (List Job)) (are : jo
       (omega (arith, some, all), omega (arith, few, all), omega (arith, all, own))
 
   -- and that it is one for them
-  pub is_prepared : (prepared : PreparedState) (stores : List Stored) (rooms : List ℕ) → prepared.journal.name.setting ≡ given_over plan.frames plan.sizes (marks_of plan) stores → length stores ≡ plan.spaces → rooms ≡ map room_for jobs → prepared.passes ≡ new_passes prepared.journal.name 0 rooms → prepared.journal.room ≡ sum rooms → IsPreparedFor prepared jobs
+  pub is_prepared : (prepared : PreparedState) (stores : List Stored) (rooms : List ℕ)
+      → prepared.journal.name.setting ≡ given_over plan.frames plan.sizes (marks_of plan) stores → length stores ≡ plan.spaces
+      → rooms ≡ map room_for jobs → prepared.passes ≡ new_passes prepared.journal.name 0 rooms → prepared.journal.room ≡ sum rooms
+      → IsPreparedFor prepared jobs
   is_prepared prepared stores rooms setting count rooms_are passes room =
       record {
         may = record {
@@ -89,12 +95,14 @@ module _ (plan : Plan) (trace : HasText plan) (jobs : List (List Job)) (are : jo
           count = ap (λ (g : Given). length g.marks) setting ∙ sym (length-jobs plan jobs are);
           kinds = λ c. subst (λ m. AreOfMark m (jobs_at jobs c)) (sym (ap (λ (g : Given). mark_of g c) setting)) (kinds_each c);
           can = λ c.
-              subst (λ n. All (CanDo n) (jobs_at jobs c)) (sym (ap (λ (g : Given). length g.told) setting ∙ length-map stores (λ (s : Stored). s.told) ∙ count)) (can_each c);
+              subst (λ n. All (CanDo n) (jobs_at jobs c))
+              (sym (ap (λ (g : Given). length g.told) setting ∙ length-map stores (λ (s : Stored). s.told) ∙ count)) (can_each c);
         };
         room = (let same = ap sum rooms_are in omega (arith, same, room));
       }
 
-IsSomeAnd-append : {X : Type 0} (P : X → Type 0) (xs ys : List X) (i : ℕ) → IsSomeAnd (slice_get xs i) P → IsSomeAnd (slice_get (xs ++ ys) i) P
+IsSomeAnd-append : {X : Type 0} (P : X → Type 0) (xs ys : List X) (i : ℕ) → IsSomeAnd (slice_get xs i) P
+    → IsSomeAnd (slice_get (xs ++ ys) i) P
 IsSomeAnd-append P [] ys i at = absurd at
 IsSomeAnd-append P (x ∷ xs) ys zero at = at
 IsSomeAnd-append P (x ∷ xs) ys (suc i) at = IsSomeAnd-append P xs ys i at
@@ -106,7 +114,8 @@ pub record AreParted {P : Type 0} (plan : Plan) (stores own others : List P) : T
   pub rest : others ≡ drop plan.spaces stores
 
 -- as they were parted
-pub are_parted : {P : Type 0} (plan : Plan) {stores own others : List P} {count : ℕ} → plan.spaces ≤ length stores → count ≡ plan.spaces → (own ≡ take count stores) × (others ≡ drop count stores) → AreParted plan stores own others
+pub are_parted : {P : Type 0} (plan : Plan) {stores own others : List P} {count : ℕ} → plan.spaces ≤ length stores → count ≡ plan.spaces
+    → (own ≡ take count stores) × (others ≡ drop count stores) → AreParted plan stores own others
 are_parted plan {stores = stores} enough same parts =
     record {
       enough = enough;
@@ -135,7 +144,8 @@ module _ {P : Type 0} (seen : P → Stored) {plan : Plan} {stores own others : L
       ∙ ap₂ (λ xs ys. map seen (xs ++ ys)) parted.first parted.rest
       ∙ ap (map seen) (take-append-drop plan.spaces stores)
 
-  unused_joined : (after : List P) → length after ≡ plan.spaces → drop plan.spaces (map seen (after ++ others)) ≡ drop plan.spaces (map seen stores)
+  unused_joined : (after : List P) → length after ≡ plan.spaces → drop plan.spaces (map seen (after ++ others))
+      ≡ drop plan.spaces (map seen stores)
   unused_joined after count =
       ap₂ drop (sym (length-map after seen ∙ count)) (map-append seen after others)
       ∙ drop-append_seam (map seen after) (map seen others)
@@ -147,17 +157,28 @@ module _ {P : Type 0} (seen : P → Stored) {plan : Plan} {stores own others : L
     is_setting : given ≡ setting_over plan (map seen stores)
     is_setting = setting ∙ ap (given_over plan.frames plan.sizes (marks_of plan)) own_seen
 
-    pub replayed : (jobs : List (List Job)) (history : List Numbered) (after joined : List P) → joined ≡ after ++ others → jobs ≡ map (λ c. jobs_of c plan) (range_with_len 0 (actors plan)) → AreCapped (length own) (map seen own) → IsWholeRun given jobs history → StoresEnd given history (map seen after) → length after ≡ length given.told → IsReplay plan (map seen stores) history (map seen joined)
+    pub replayed : (jobs : List (List Job)) (history : List Numbered) (after joined : List P) → joined ≡ after ++ others
+        → jobs ≡ map (λ c. jobs_of c plan) (range_with_len 0 (actors plan)) → AreCapped (length own) (map seen own)
+        → IsWholeRun given jobs history → StoresEnd given history (map seen after) → length after ≡ length given.told
+        → IsReplay plan (map seen stores) history (map seen joined)
     replayed jobs history after joined is are capped whole ends count =
-        let told : length given.told ≡ plan.spaces = ap (λ (g : Given). length g.told) setting ∙ length-map (map seen own) (λ (s : Stored). s.told) ∙ length-map own seen ∙ own_count in
+        let told : length given.told ≡ plan.spaces = ap (λ (g : Given). length g.told) setting
+        ∙ length-map (map seen own) (λ (s : Stored). s.told) ∙ length-map own seen ∙ own_count in
         let seen_joined : map seen joined ≡ map seen after ++ map seen others = ap (map seen) is ∙ map-append seen after others in
-        IsReplay-of plan trace (map seen stores) (map seen joined) given jobs history (let all = length-map stores seen in let enough = parted.enough in omega (arith, all, enough)) (capped_own capped) is_setting are whole
-        (λ s below. subst (λ l. IsSomeAnd (slice_get l s) (EndsWith given history s)) (sym seen_joined) (IsSomeAnd-append (EndsWith given history s) (map seen after) (map seen others) s (ends s below)))
+        IsReplay-of plan trace (map seen stores) (map seen joined) given jobs history
+        (let all = length-map stores seen in let enough = parted.enough in omega (arith, all, enough))
+        (capped_own capped) is_setting are whole
+        (λ s below. subst (λ l. IsSomeAnd (slice_get l s) (EndsWith given history s)) (sym seen_joined)
+        (IsSomeAnd-append (EndsWith given history s) (map seen after) (map seen others) s (ends s below)))
         (ap (λ l. drop plan.spaces (map seen l)) is ∙ unused_joined after (count ∙ told))
 
-    pub counted : (history : List Numbered) (summary : Summary) → summary ≡ counts given (entries_in history) → AreItsCounts plan (map seen stores) history summary
+    pub counted : (history : List Numbered) (summary : Summary) → summary ≡ counts given (entries_in history)
+        → AreItsCounts plan (map seen stores) history summary
     counted history summary = subst (λ (g : Given). summary ≡ counts g (entries_in history)) is_setting
 
 -- the setting of a pager that was made for a trace
-pub setting_made : (plan : Plan) {frames : ℕ} {z : SizeSet} {lent marks : List ℕ} {given : Given} (stores : List Stored) → given ≡ given_over frames z lent stores → frames ≡ plan.frames → z ≡ plan.sizes → lent ≡ marks → marks ≡ marks_of plan → given ≡ given_over plan.frames plan.sizes (marks_of plan) stores
-setting_made plan stores setting same_frames same_sizes same_marks own = setting ∙ (λ i. given_over (same_frames i) (same_sizes i) ((same_marks ∙ own) i) stores)
+pub setting_made : (plan : Plan) {frames : ℕ} {z : SizeSet} {lent marks : List ℕ} {given : Given} (stores : List Stored)
+    → given ≡ given_over frames z lent stores → frames ≡ plan.frames → z ≡ plan.sizes → lent ≡ marks → marks ≡ marks_of plan
+    → given ≡ given_over plan.frames plan.sizes (marks_of plan) stores
+setting_made plan stores setting same_frames same_sizes same_marks own = setting
+    ∙ (λ i. given_over (same_frames i) (same_sizes i) ((same_marks ∙ own) i) stores)

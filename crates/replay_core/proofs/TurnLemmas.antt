@@ -17,16 +17,13 @@ use Rattle.pager_core.specs.declared.machine.Turn.TheVariants.{Ended as HasNone,
 use Rattle.pager_core.specs.Machines.{all_left}
 use Rattle.pager_core.specs.Running.{Running, jobs_at, flight_at, left_at, entries_left, MustWait, OneMore, HasEnded, IsLawful}
 use Rattle.pager_core.proofs.Lists.{sum_by-lower}
+use Rattle.pager_locks.proofs.Flights.{all-push}
 use Rattle.pager_model.specs.TurnOrders.{can_step, has_left, left_of}
 use Rattle.replay_core.specs.Turns.{flies, flying_in, IsStuck, FirstStepped}
 use Rattle.replay_core.proofs.RunLemmas.{IsRunOf, length-jobs}
 use Rattle.replay_core.proofs.StandingLemmas.{known_in, known_flight, left_is, cannot_step, can_step_free, not_all_stuck}
 
 -- What holds of each of a list.
-
-all_push : {X : Type 0} (P : X → Type 0) (xs : List X) (x : X) → AllByRecursion P xs → P x → AllByRecursion P (xs ++ x ∷ [])
-all_push P [] x all is = (is, tt)
-all_push P (y ∷ xs) x all is = (all.0, all_push P xs x all.1 is)
 
 all_parts : {X : Type 0} (P : X → Type 0) (xs ys : List X) → AllByRecursion P (xs ++ ys) → AllByRecursion P xs × AllByRecursion P ys
 all_parts P [] ys all = (tt, all)
@@ -42,10 +39,13 @@ all_at P (x ∷ xs) zero d all below = all.0
 all_at P (x ∷ xs) (suc i) d all below = all_at P xs i d all.1 (omega (arith, below))
 
 -- of the first ones and the next
-pub all_take_more : {X : Type 0} (P : X → Type 0) (xs : List X) (i : ℕ) (d : X) → i < length xs → AllByRecursion P (take i xs) → P (get_or xs i d) → AllByRecursion P (take (i + 1) xs)
-all_take_more P xs i d below all is = subst (AllByRecursion P) (sym (take_more xs i d below)) (all_push P (take i xs) (get_or xs i d) all is)
+pub all_take_more : {X : Type 0} (P : X → Type 0) (xs : List X) (i : ℕ) (d : X) → i < length xs → AllByRecursion P (take i xs)
+    → P (get_or xs i d) → AllByRecursion P (take (i + 1) xs)
+all_take_more P xs i d below all is = subst (AllByRecursion P) (sym (take_more xs i d below))
+    (all-push P (take i xs) (get_or xs i d) all is)
 
-all_both : {X : Type 0} (P Q R : X → Type 0) → ((x : X) → P x → Q x → R x) → (xs : List X) → AllByRecursion P xs → AllByRecursion Q xs → AllByRecursion R xs
+all_both : {X : Type 0} (P Q R : X → Type 0) → ((x : X) → P x → Q x → R x) → (xs : List X) → AllByRecursion P xs → AllByRecursion Q xs
+    → AllByRecursion R xs
 all_both P Q R both [] p q = tt
 all_both P Q R both (x ∷ xs) p q = (both x p.0 q.0, all_both P Q R both xs p.1 q.1)
 
@@ -93,19 +93,23 @@ rest_if : {X : Type 0} (P : X → Type 0) (x : X) (xs : List X) (b : Bool) → A
 rest_if P x xs true all = all.1
 rest_if P x xs false all = all
 
-all_tested : {X : Type 0} (P : X → Type 0) (q : X → Bool) (xs : List X) → AllByRecursion P (filter q xs) → AllByRecursion (λ x. q x ≡ true → P x) xs
+all_tested : {X : Type 0} (P : X → Type 0) (q : X → Bool) (xs : List X) → AllByRecursion P (filter q xs)
+    → AllByRecursion (λ x. q x ≡ true → P x) xs
 all_tested P q [] all = tt
 all_tested P q (x ∷ xs) all = (first_if P x (filter q xs) (q x) all, all_tested P q xs (rest_if P x (filter q xs) (q x) all))
 
-filter_same : {X : Type 0} (P : X → Type 0) (p q : X → Bool) → ((x : X) → P x → p x ≡ q x) → (xs : List X) → AllByRecursion P xs → filter p xs ≡ filter q xs
+filter_same : {X : Type 0} (P : X → Type 0) (p q : X → Bool) → ((x : X) → P x → p x ≡ q x) → (xs : List X) → AllByRecursion P xs
+    → filter p xs ≡ filter q xs
 filter_same P p q same [] all = refl
 filter_same P p q same (x ∷ xs) all =
     ap (λ b. cond b (x ∷ filter p xs) (filter p xs)) (same x all.0) ∙ ap (λ l. cond (q x) (x ∷ l) l) (filter_same P p q same xs all.1)
 
 -- one number more
-range_filter : (p : ℕ → Bool) (n : ℕ) (b : Bool) → p n ≡ b → filter p (range_with_len 0 (n + 1)) ≡ filter p (range_with_len 0 n) ++ cond b (n ∷ []) []
+range_filter : (p : ℕ → Bool) (n : ℕ) (b : Bool) → p n ≡ b → filter p (range_with_len 0 (n + 1)) ≡ filter p (range_with_len 0 n)
+    ++ cond b (n ∷ []) []
 range_filter p n b is =
-    ap (filter p) (range_with_len-more n) ∙ filter-append p (range_with_len 0 n) (n ∷ []) ∙ ap (λ b. filter p (range_with_len 0 n) ++ cond b (n ∷ []) []) is
+    ap (filter p) (range_with_len-more n) ∙ filter-append p (range_with_len 0 n) (n ∷ [])
+    ∙ ap (λ b. filter p (range_with_len 0 n) ++ cond b (n ∷ []) []) is
 
 pub filter_push : (p : ℕ → Bool) (n : ℕ) → p n ≡ true → filter p (range_with_len 0 (n + 1)) ≡ filter p (range_with_len 0 n) ++ n ∷ []
 filter_push p n is = range_filter p n true is
@@ -122,7 +126,8 @@ none_there None absent = refl
 none_there (Some f) absent = absurd (absent (λ none. none-some f (sym none)))
 
 -- the first that passes a test stands behind those that don't
-find_first : {X : Type 0} (p : X → Bool) (xs : List X) (x : X) (ys : List X) → AllByRecursion (λ y. p y ≡ false) xs → p x ≡ true → find p (xs ++ x ∷ ys) ≡ Some x
+find_first : {X : Type 0} (p : X → Bool) (xs : List X) (x : X) (ys : List X) → AllByRecursion (λ y. p y ≡ false) xs → p x ≡ true
+    → find p (xs ++ x ∷ ys) ≡ Some x
 find_first p [] x ys none is = ap (λ b. cond b (Some x) (find p ys)) is
 find_first p (y ∷ xs) x ys none is = ap (λ b. cond b (Some y) (find p (xs ++ x ∷ ys))) none.0 ∙ find_first p xs x ys none.1 is
 
@@ -133,24 +138,29 @@ flying_known run =
     all_filter (λ c. c < length run.jobs) (flies run.flights) (range_with_len 0 (length run.jobs))
     (range_known (length run.jobs))
 
-pub left_same : (plan : Plan) (stores : List Stored) (run : Running) → IsRunOf plan stores run → left_of plan (entries_in run.history) ≡ flying_in run
+pub left_same : (plan : Plan) (stores : List Stored) (run : Running) → IsRunOf plan stores run
+    → left_of plan (entries_in run.history) ≡ flying_in run
 left_same plan stores run is =
-    filter_same (λ c. c < actors plan) (has_left plan (entries_in run.history)) (flies run.flights) (left_is plan stores run is) (range_with_len 0 (actors plan))
+    filter_same (λ c. c < actors plan) (has_left plan (entries_in run.history)) (flies run.flights) (left_is plan stores run is)
+    (range_with_len 0 (actors plan))
     (range_known (actors plan))
     ∙ ap (λ n. filter (flies run.flights) (range_with_len 0 n)) (sym (length-jobs plan run.jobs is.jobs))
 
 -- where those with a call left are all stuck, none has one
-flying_stuck : (run : Running) → IsLawful run → AllByRecursion (IsStuck run) (flying_in run) → (d : ℕ) (g : Flight) → flight_at run.flights d ≡ Some g → IsStuck run d
+flying_stuck : (run : Running) → IsLawful run → AllByRecursion (IsStuck run) (flying_in run) → (d : ℕ) (g : Flight)
+    → flight_at run.flights d ≡ Some g → IsStuck run d
 flying_stuck run lawful all d g there =
     in_range (λ x. flies run.flights x ≡ true → IsStuck run x) 0 (length run.jobs) d
     (all_tested (IsStuck run) (flies run.flights) (range_with_len 0 (length run.jobs)) all)
     (omega arith) (let known = known_flight run d g lawful there in omega (arith, known)) (ap is_some there)
 
-range_stuck : (run : Running) → IsLawful run → AllByRecursion (IsStuck run) (range_with_len 0 (length run.jobs)) → (d : ℕ) (g : Flight) → flight_at run.flights d ≡ Some g → IsStuck run d
+range_stuck : (run : Running) → IsLawful run → AllByRecursion (IsStuck run) (range_with_len 0 (length run.jobs)) → (d : ℕ) (g : Flight)
+    → flight_at run.flights d ≡ Some g → IsStuck run d
 range_stuck run lawful all d g there =
     in_range (IsStuck run) 0 (length run.jobs) d all (omega arith) (let known = known_flight run d g lawful there in omega (arith, known))
 
-ended_by : (run : Running) → IsLawful run → ((d : ℕ) (g : Flight) → flight_at run.flights d ≡ Some g → IsStuck run d) → (c : ℕ) (o : Option Flight) → flight_at run.flights c ≡ o → flight_at run.flights c ≡ None
+ended_by : (run : Running) → IsLawful run → ((d : ℕ) (g : Flight) → flight_at run.flights d ≡ Some g → IsStuck run d)
+    → (c : ℕ) (o : Option Flight) → flight_at run.flights c ≡ o → flight_at run.flights c ≡ None
 ended_by run lawful all c None there = there
 ended_by run lawful all c (Some f) there = absurd (not_all_stuck run c f lawful there all)
 
@@ -169,17 +179,21 @@ some_flying run lawful going = some_of (IsStuck run) (flying_in run) (flying_can
 
 -- The step of the first that can make one.
 
-pub stuck_by : (run after : Running) (c : ℕ) (turn : Turn) → (turn ≡ HasNone → (after ≡ run) × (flight_at run.flights c ≡ None)) → ((space : ℕ) → turn ≡ Waits space → (after ≡ run) × MustWait run c space) → (turn ≡ Stepped → ⊥) → (after ≡ run) × IsStuck run c
+pub stuck_by : (run after : Running) (c : ℕ) (turn : Turn) → (turn ≡ HasNone → (after ≡ run) × (flight_at run.flights c ≡ None))
+    → ((space : ℕ) → turn ≡ Waits space → (after ≡ run) × MustWait run c space) → (turn ≡ Stepped → ⊥) → (after ≡ run) × IsStuck run c
 stuck_by run after c HasNone ended waits other = (let end = ended refl in (end.0, inl end.1))
 stuck_by run after c Stepped ended waits other = absurd (other refl)
 stuck_by run after c (Waits space) ended waits other = (let wait = waits space refl in (wait.0, inr (space, wait.1)))
 
-pub free_by : (run : Running) (c : ℕ) (turn : Turn) → (flight_at run.flights c ≡ None → turn ≡ HasNone) → ((space : ℕ) → MustWait run c space → turn ≡ Waits space) → turn ≡ Stepped → IsStuck run c → ⊥
+pub free_by : (run : Running) (c : ℕ) (turn : Turn) → (flight_at run.flights c ≡ None → turn ≡ HasNone)
+    → ((space : ℕ) → MustWait run c space → turn ≡ Waits space) → turn ≡ Stepped → IsStuck run c → ⊥
 free_by run c turn ended waits stepped (inl none) = (let e : HasNone ≡ Stepped = sym (ended none) ∙ stepped in cc)
 free_by run c turn ended waits stepped (inr (space, must)) = (let e : Waits space ≡ Stepped = sym (waits space must) ∙ stepped in cc)
 
 -- the first that could, at its place in the list
-pub FirstStepped-at : (old now new : Running) (actors : List ℕ) (i : ℕ) → now ≡ old → i < length actors → AllByRecursion (IsStuck now) (take i actors) → (IsStuck now (get_or actors i 0) → ⊥) → OneMore now new (get_or actors i 0) → (new.given ≡ now.given) × (new.jobs ≡ now.jobs) → new.unused ≡ now.unused → IsLawful new → FirstStepped old new actors
+pub FirstStepped-at : (old now new : Running) (actors : List ℕ) (i : ℕ) → now ≡ old → i < length actors
+    → AllByRecursion (IsStuck now) (take i actors) → (IsStuck now (get_or actors i 0) → ⊥) → OneMore now new (get_or actors i 0)
+    → (new.given ≡ now.given) × (new.jobs ≡ now.jobs) → new.unused ≡ now.unused → IsLawful new → FirstStepped old new actors
 FirstStepped-at old now new actors i same below stuck can more same_jobs unused lawful =
     let x = get_or actors i 0 in
     subst (λ r. FirstStepped r new actors) same
@@ -187,7 +201,8 @@ FirstStepped-at old now new actors i same below stuck can more same_jobs unused 
       passed = take i actors;
       actor = x;
       rest = drop (i + 1) actors;
-      split = sym (take-append-drop (i + 1) actors) ∙ ap (λ l. l ++ drop (i + 1) actors) (take_more actors i 0 below) ∙ append_assoc (take i actors) (x ∷ []) (drop (i + 1) actors);
+      split = sym (take-append-drop (i + 1) actors) ∙ ap (λ l. l ++ drop (i + 1) actors) (take_more actors i 0 below)
+          ∙ append_assoc (take i actors) (x ∷ []) (drop (i + 1) actors);
       stuck = stuck;
       can = can;
       more = more;
@@ -198,13 +213,16 @@ FirstStepped-at old now new actors i same below stuck can more same_jobs unused 
     })
 
 -- where none of them could they are all stuck
-pub stuck_past : (old now : Running) (actors : List ℕ) (i : ℕ) → now ≡ old → length actors ≤ i → AllByRecursion (IsStuck now) (take i actors) → AllByRecursion (IsStuck old) actors
+pub stuck_past : (old now : Running) (actors : List ℕ) (i : ℕ) → now ≡ old → length actors ≤ i
+    → AllByRecursion (IsStuck now) (take i actors) → AllByRecursion (IsStuck old) actors
 stuck_past old now actors i same past stuck =
     subst (λ r. AllByRecursion (IsStuck r) actors) same (subst (AllByRecursion (IsStuck now)) (take_all i actors past) stuck)
 
-pub entries_step : (run new : Running) (c : ℕ) (more : OneMore run new c) → entries_in new.history ≡ entries_in run.history ++ more.entry ∷ []
+pub entries_step : (run new : Running) (c : ℕ) (more : OneMore run new c)
+    → entries_in new.history ≡ entries_in run.history ++ more.entry ∷ []
 entries_step run new c more =
-    ap entries_in more.history ∙ map-append (λ (n : Numbered). n.entry) run.history (record { number = length run.history; entry = more.entry } ∷ [])
+    ap entries_in more.history ∙ map-append (λ (n : Numbered). n.entry) run.history
+    (record { number = length run.history; entry = more.entry } ∷ [])
 
 module _ (plan : Plan) (stores : List Stored) (run new : Running) (order : List ℕ) (is : IsRunOf plan stores run) (step : FirstStepped run new order) where
   pub IsRunOf-step : IsRunOf plan stores new
@@ -217,19 +235,25 @@ module _ (plan : Plan) (stores : List Stored) (run new : Running) (order : List 
       }
 
   -- the test finds the actor among them
-  pub found : AllByRecursion (λ c. c < actors plan) order → find (can_step plan (entries_in run.history)) order ≡ Some step.more.entry.processor
+  pub found : AllByRecursion (λ c. c < actors plan) order → find (can_step plan (entries_in run.history)) order
+      ≡ Some step.more.entry.processor
   found all =
-      let known = all_parts (λ c. c < actors plan) step.passed (step.actor ∷ step.rest) (subst (AllByRecursion (λ c. c < actors plan)) step.split all) in
-      let none = all_both (λ c. c < actors plan) (IsStuck run) (λ c. can_step plan (entries_in run.history) c ≡ false) (cannot_step plan stores run is) step.passed known.0 step.stuck in
+      let known = all_parts (λ c. c < actors plan) step.passed (step.actor ∷ step.rest)
+      (subst (AllByRecursion (λ c. c < actors plan)) step.split all) in
+      let none = all_both (λ c. c < actors plan) (IsStuck run) (λ c. can_step plan (entries_in run.history) c ≡ false)
+      (cannot_step plan stores run is) step.passed known.0 step.stuck in
       ap (find (can_step plan (entries_in run.history))) step.split
-      ∙ find_first (can_step plan (entries_in run.history)) step.passed step.actor step.rest none (can_step_free plan stores run is step.actor known.1.0 step.can)
+      ∙ find_first (can_step plan (entries_in run.history)) step.passed step.actor step.rest none
+      (can_step_free plan stores run is step.actor known.1.0 step.can)
       ∙ ap Some (sym step.more.of_actor)
 
   -- and less is left
   pub fewer_left : AllByRecursion (λ c. c < actors plan) order → all_left new < all_left run
   fewer_left all =
-      let known = all_parts (λ c. c < actors plan) step.passed (step.actor ∷ step.rest) (subst (AllByRecursion (λ c. c < actors plan)) step.split all) in
+      let known = all_parts (λ c. c < actors plan) step.passed (step.actor ∷ step.rest)
+      (subst (AllByRecursion (λ c. c < actors plan)) step.split all) in
       let below : step.actor < length run.jobs = known_in plan stores run is step.actor known.1.0 in
       subst (λ n. sum_by (left_at new) (range_with_len 0 n) < all_left run) (sym (ap length step.same_jobs))
       (sum_by-lower (left_at run) (left_at new) step.actor 0 (length run.jobs) (omega arith) (omega (arith, below)) step.more.fewer
-      (λ d other. ap (λ l. entries_left (jobs_at l d) (flight_at new.flights d)) step.same_jobs ∙ ap (entries_left (jobs_at run.jobs d)) (step.more.others d other)))
+      (λ d other. ap (λ l. entries_left (jobs_at l d) (flight_at new.flights d)) step.same_jobs
+      ∙ ap (entries_left (jobs_at run.jobs d)) (step.more.others d other)))

@@ -49,7 +49,8 @@ pub record HasDone (j : JournalName) (old : PassState) (jobs : List Job) (p : Pa
   pub journal : p.journal ≡ j
   pub processor : p.processor ≡ old.processor
   pub room : p.room ≡ old.room
-  pub progress : progress_of (mark_of j.setting old.processor) (entries_in p.entries) ≡ Some (at_rest (mark_of j.setting old.processor) (length jobs))
+  pub progress : progress_of (mark_of j.setting old.processor) (entries_in p.entries) ≡ Some
+      (at_rest (mark_of j.setting old.processor) (length jobs))
   pub answers : answers_in (entries_in p.entries) ≡ enumerate_from 0 (calls_among jobs)
   pub few : length p.entries ≤ room_for jobs
 
@@ -78,7 +79,8 @@ pub record MayDoAll (j : JournalName) (own : List PassState) (jobs : List (List 
 -- they have done them
 pub record HaveDone (j : JournalName) (jobs : List (List Job)) (passes : List PassState) : Type 0 where
   pub count : length passes ≡ length jobs
-  pub done : (c : ℕ) (d : PassState) → c < length jobs → HasDone j (new_pass j c (room_for (jobs_at jobs c))) (jobs_at jobs c) (slice_index_or passes c d)
+  pub done : (c : ℕ) (d : PassState) → c < length jobs → HasDone j (new_pass j c (room_for (jobs_at jobs c))) (jobs_at jobs c)
+      (slice_index_or passes c d)
 
 -- a pager that isn't opened yet, whose passes may do these jobs, and whose journal has room for their entries
 pub record IsPreparedFor (prepared : PreparedState) (jobs : List (List Job)) : Type 0 where

@@ -73,7 +73,8 @@ pub record DidJob (old new : Running) (actor number : ℕ) : Type 0 where
 -- it did its next job, where it had one left
 abbrev pub DidNext : Running → Running → ℕ → Type 0
 DidNext old new actor =
-    ((flight_at old.flights actor ≢ None) × DidJob old new actor (progress_of_actor old actor).made) ⊎ ((flight_at old.flights actor ≡ None) × (new ≡ old))
+    ((flight_at old.flights actor ≢ None) × DidJob old new actor (progress_of_actor old actor).made)
+    ⊎ ((flight_at old.flights actor ≡ None) × (new ≡ old))
 
 -- it did so many of its jobs one after another, from this number on
 abbrev pub DidJobs : ℕ → Running → Running → ℕ → ℕ → Type 0

@@ -11,14 +11,11 @@ ghost use Rattle.replay_core.specs.Jobs.{DoesJob, HasDone, HasPass, HaveDone, Is
 use journal_core::Pass;
 use pager_core::Gathered;
 use pager_locks::{Named, Pager, Prepared, Running};
-use pager_model::Job;
+use pager_model::{Job, MOST_ACTORS};
 use std::sync::Wait;
 use std::thread;
 use std::thread::Threads;
 use store_core::Store;
-
-/// The most processors of a pager.
-const MOST_THREADS: usize = 17;
 
 /// A processor's jobs, and its pass while they are done.
 #[derive(Drop)]
@@ -89,7 +86,7 @@ fn do_each<N: Named + Send + Sync, S: Store + Send + Drop, R: Threads + Wait + S
         requires { IsReady N.journal worker.now }
         ensures { IsDoneFrom N.journal worker.entry.now worker.exit.now }
     { do_own(rt, pager, worker) };
-    thread::for_each_mut(rt, workers, MOST_THREADS, &each);
+    thread::for_each_mut(rt, workers, MOST_ACTORS, &each);
 }
 
 /// Does all jobs of a worker.

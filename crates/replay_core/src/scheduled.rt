@@ -2,15 +2,16 @@
 
 ghost use Rattle.std.specs.Prelude.{◌≡◌, ◌<◌, ◌≤◌, IfOk, IfErr, length, map};
 ghost use Rattle.std.specs.List.{All, range_with_len};
+ghost use Rattle.pager_model.specs.Bounds.{most_actors};
 ghost use Rattle.pager_model.specs.Legal.{entries_in};
 ghost use Rattle.pager_model.specs.Showing.{actors};
 ghost use Rattle.pager_model.specs.TurnOrders.{IsScheduled};
 ghost use Rattle.replay_core.specs.Replays.{IsReplay, AreItsCounts};
 
-use crate::stepping::{MOST_PROCESSORS, step_first};
+use crate::stepping::step_first;
 use arrayvec::ArrayVec;
 use pager_core::{Gathered, Machine};
-use pager_model::Trace;
+use pager_model::{MOST_ACTORS, Trace};
 use std::alloc::Global;
 use store_core::Store;
 
@@ -42,8 +43,8 @@ pub fn replay_schedule<S: Store + Send + Drop>(
 }
 
 /// The numbers below this one.
-fn all_below(count: u32) -> ArrayVec<u32, MOST_PROCESSORS>
-    requires { count ≤ 17 }
+fn all_below(count: u32) -> ArrayVec<u32, MOST_ACTORS>
+    requires { count ≤ most_actors }
     ensures { result.items ≡ range_with_len 0 count }
 {
     let mut actors = ArrayVec::new();

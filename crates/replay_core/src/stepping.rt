@@ -8,9 +8,6 @@ ghost use Rattle.replay_core.specs.Turns.{IsStuck, FirstStepped};
 use pager_core::{Machine, Turn};
 use store_core::Store;
 
-/// The most processors of a trace, with its daemon.
-pub const MOST_PROCESSORS: usize = 17;
-
 /// Gives the actors turns, in order, until one has made an entry. One of them can.
 pub fn step_first<S: Store + Send + Drop>(machine: &mut Machine<S>, actors: &[u32])
     requires known { AllByRecursion (λ c. c < length machine.old.jobs) actors.now }

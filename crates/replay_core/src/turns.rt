@@ -1,16 +1,17 @@
 //! Turns that are drawn from a seed.
 
 ghost use Rattle.std.specs.Prelude.{◌≡◌, ◌≤◌, IfOk, IfErr, length, map};
+ghost use Rattle.pager_model.specs.Bounds.{most_actors};
 ghost use Rattle.pager_model.specs.Legal.{entries_in};
 ghost use Rattle.pager_core.specs.Running.{HasEnded, IsLawful};
 ghost use Rattle.pager_model.specs.TurnOrders.{IsSeeded, next_state};
 ghost use Rattle.replay_core.specs.Replays.{IsReplay, AreItsCounts};
 ghost use Rattle.replay_core.specs.Turns.{flying_in, drawn_order, FirstStepped};
 
-use crate::stepping::{MOST_PROCESSORS, step_first};
+use crate::stepping::step_first;
 use arrayvec::ArrayVec;
 use pager_core::{Gathered, Machine};
-use pager_model::{Generator, Trace};
+use pager_model::{Generator, MOST_ACTORS, Trace};
 use std::alloc::Global;
 use store_core::Store;
 
@@ -45,7 +46,7 @@ fn step_drawn<S: Store + Send + Drop>(
     generator: &mut Generator,
 )
     requires all { length machine.old.jobs ≡ actors }
-    requires few { actors ≤ 17 }
+    requires few { actors ≤ most_actors }
     requires lawful { IsLawful machine.old }
     requires going { HasEnded machine.old → ⊥ }
     ensures stepped { FirstStepped machine.old machine.new (drawn_order machine.old generator.old) }
@@ -58,12 +59,9 @@ fn step_drawn<S: Store + Send + Drop>(
 }
 
 /// The processors that have a call or a turn left, ascending.
-fn left_in<S: Store + Send + Drop>(
-    machine: &Machine<S>,
-    actors: u32,
-) -> ArrayVec<u32, MOST_PROCESSORS>
+fn left_in<S: Store + Send + Drop>(machine: &Machine<S>, actors: u32) -> ArrayVec<u32, MOST_ACTORS>
     requires all { length machine.now.jobs ≡ actors }
-    requires few { actors ≤ 17 }
+    requires few { actors ≤ most_actors }
     ensures { result.items ≡ flying_in machine.now }
 {
     let mut left = ArrayVec::new();

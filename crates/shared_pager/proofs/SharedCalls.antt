@@ -24,7 +24,8 @@ pub record AreTheTwo (j : JournalName) (left : List PassState) (a b : PassState)
   pub second : b ≡ new_pass j 1 8
   pub none_left : left ≡ []
 
-pub the_two : (j : JournalName) (xs ys : List PassState) (a b : PassState) → new_passes j 0 (8 ∷ 8 ∷ []) ≡ xs ++ b ∷ [] → xs ≡ ys ++ a ∷ [] → AreTheTwo j ys a b
+pub the_two : (j : JournalName) (xs ys : List PassState) (a b : PassState) → new_passes j 0 (8 ∷ 8 ∷ []) ≡ xs ++ b ∷ [] → xs ≡ ys ++ a ∷ []
+    → AreTheTwo j ys a b
 the_two j xs ys a b all fewer =
     let last = same_ends (new_pass j 0 8 ∷ []) xs (new_pass j 1 8) b all in
     let first = same_ends [] ys (new_pass j 0 8) a (last.0 ∙ fewer) in
@@ -37,11 +38,13 @@ MayCall-new j c p is mark = subst (MayCall j) (sym is) (record { journal = refl;
 listed : (ys all more : List PassState) (a b : PassState) → ys ≡ [] → all ≡ ys ++ a ∷ [] → more ≡ all ++ b ∷ [] → more ≡ a ∷ b ∷ []
 listed ys all more a b none first second = second ∙ ap (λ l. l ++ b ∷ []) (first ∙ ap (λ l. l ++ a ∷ []) none)
 
-pub All-both : (P : PassState → Type 0) (ys all more : List PassState) (a b : PassState) → ys ≡ [] → all ≡ ys ++ a ∷ [] → more ≡ all ++ b ∷ [] → P a → P b → All P more
+pub All-both : (P : PassState → Type 0) (ys all more : List PassState) (a b : PassState) → ys ≡ [] → all ≡ ys ++ a ∷ []
+    → more ≡ all ++ b ∷ [] → P a → P b → All P more
 All-both P ys all more a b none first second of_a of_b =
     subst (All P) (sym (listed ys all more a b none first second)) (All-push P (a ∷ []) b (All-push P [] a (All-nil P) of_a) of_b)
 
-pub from_both : (P : PassState → Type 0) (ys all more : List PassState) (a b : PassState) → ys ≡ [] → all ≡ ys ++ a ∷ [] → more ≡ all ++ b ∷ [] → All P more → P a × P b
+pub from_both : (P : PassState → Type 0) (ys all more : List PassState) (a b : PassState) → ys ≡ [] → all ≡ ys ++ a ∷ []
+    → more ≡ all ++ b ∷ [] → All P more → P a × P b
 from_both P ys all more a b none first second of =
     let both : All P (a ∷ b ∷ []) = subst (All P) (listed ys all more a b none first second) of in
     (both 0 a (omega arith), both 1 a (omega arith))
@@ -57,6 +60,8 @@ module _ (j : JournalName) (c : ℕ) (p q : PassState) (call : Call) (reply : Re
   pub answers-made : (h : List Entry) → IsOwnOf q h → answers_in (entries_of c h) ≡ (0, call) ∷ []
   answers-made h own =
       let first : makes.sequence.made ≡ 0 =
-      ap (λ (x : Progress). x.made) (same_Some (at_rest 0 makes.sequence.made) (at_rest 0 0) (sym makes.before ∙ ap (λ (x : PassState). progress_of 0 (entries_in x.entries)) new)) in
+      ap (λ (x : Progress). x.made) (same_Some (at_rest 0 makes.sequence.made) (at_rest 0 0)
+      (sym makes.before ∙ ap (λ (x : PassState). progress_of 0 (entries_in x.entries)) new)) in
       let entries : q.entries ≡ makes.piece = makes.entries ∙ ap (λ (x : PassState). x.entries ++ makes.piece) new in
-      ap (λ n. answers_in (entries_of n h)) (sym number) ∙ ap answers_in (sym own.1) ∙ ap (λ (l : List Numbered). answers_in (entries_in l)) entries ∙ makes.sequence.answer ∙ ap (λ n. (n, call) ∷ []) first
+      ap (λ n. answers_in (entries_of n h)) (sym number) ∙ ap answers_in (sym own.1)
+      ∙ ap (λ (l : List Numbered). answers_in (entries_in l)) entries ∙ makes.sequence.answer ∙ ap (λ n. (n, call) ∷ []) first

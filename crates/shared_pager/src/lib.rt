@@ -2,6 +2,7 @@
 #![tactic(auto)]
 
 ghost use Rattle.std.specs.Prelude.{◌≡◌, ◌≤◌, [], ◌∷◌, IfOk, IfErr, length, map};
+ghost use Rattle.pager_model.specs.Bounds.{most_spaces};
 ghost use Rattle.journal_core.specs.Journals.{new_passes};
 ghost use Rattle.pager_model.specs.declared.reply.Reply.{Reply as Replied};
 ghost use Rattle.pager_model.specs.Entries.{entries_of};
@@ -33,7 +34,7 @@ pub fn share<S: Store + Send + Drop, R: Threads + Wait + Sync>(
     first: &Call,
     second: &Call,
 ) -> Result<Gathered<S>, Vec<S>>
-    requires stores { (1 ≤ length stores.items) × (length stores.items ≤ 16) }
+    requires stores { (1 ≤ length stores.items) × (length stores.items ≤ most_spaces) }
     requires first { CanFly (length stores.items) first.now }
     requires second { CanFly (length stores.items) second.now }
     ensures legal { IfOk result (λ g. IsLegal (given_over 512 all_sizes (0 ∷ 0 ∷ []) (map S.seen stores.items)) (entries_in g.history.items)) }

@@ -2,20 +2,18 @@
 
 ghost use Rattle.std.specs.Prelude.{◌≡◌, ◌≢◌, ◌≤◌, ℕ, List, IfOk, IfSome, IfNone, decimal, length};
 ghost use Rattle.std.specs.Borrow.{Bor};
+ghost use Rattle.pager_model.specs.Bounds.{most_spaces};
 ghost use Rattle.pager_command.specs.Forms.{are_of};
 ghost use Rattle.superpager.specs.Asked.{AsksFolder, AsksSlots};
 
 use pager_command::small_number_of;
-use pager_model::NoMemory;
+use pager_model::{MOST_SPACES, NoMemory};
 use std::alloc::{AllocError, Global};
 use std::fs::File;
 use std::rt::Files;
 use store_core::MemoryStore;
 use store_file::FileStore;
 use swap_slots::{MemoryBlocks, SlotStore};
-
-/// The most spaces of a trace.
-const MOST_SPACES: u32 = 16;
 
 /// The most slots of a space.
 const MOST_SLOTS: u32 = 4096;
@@ -64,7 +62,7 @@ fn slots_of(word: &str) -> Option<u32>
 
 /// A store in memory for each space that a trace may have, with no copy yet. None of them is to fail.
 pub fn memory_stores(alloc: Global) -> Result<Vec<MemoryStore>, AllocError>
-    ensures { IfOk result (λ stores. length stores.items ≡ 16) }
+    ensures { IfOk result (λ stores. length stores.items ≡ most_spaces) }
 {
     let mut stores = Vec::new(alloc);
     stores.resize_with(MOST_SPACES as usize, || {
@@ -79,7 +77,7 @@ pub fn file_stores<R: Files<File = File>>(
     alloc: Global,
     folder: &str,
 ) -> Result<Vec<FileStore<File>>, NoMemory>
-    ensures { IfOk result (λ stores. length stores.items ≡ 16) }
+    ensures { IfOk result (λ stores. length stores.items ≡ most_spaces) }
 {
     let mut stores = Vec::with_capacity(alloc, MOST_SPACES as usize)?;
     for number in 0..MOST_SPACES {
@@ -91,7 +89,7 @@ pub fn file_stores<R: Files<File = File>>(
 
 /// A store over so many slots in memory for each space that a trace may have, with no copy yet.
 pub fn slot_stores(alloc: Global, slots: u32) -> Result<Vec<SlotStore<MemoryBlocks>>, NoMemory>
-    ensures { IfOk result (λ stores. length stores.items ≡ 16) }
+    ensures { IfOk result (λ stores. length stores.items ≡ most_spaces) }
 {
     let mut stores = Vec::with_capacity(alloc, MOST_SPACES as usize)?;
     for _ in 0..MOST_SPACES {

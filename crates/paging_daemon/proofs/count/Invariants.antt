@@ -8,4 +8,5 @@ invariant-loop-numbered l =
     (l.written ≡ count_by (λ (n : Numbered). is_written n.entry.what) (take l.numbered-index l.entries)) × (l.written ≤ l.numbered-index)
     × (l.clean ≡ count_by (λ (n : Numbered). is_clean n.entry.what) (take l.numbered-index l.entries)) × (l.clean ≤ l.numbered-index)
     × (l.faults ≡ count_by (λ (n : Numbered). is_fault n.entry.what) (take l.numbered-index l.entries)) × (l.faults ≤ l.numbered-index)
-    × (l.unclaims ≡ count_by (λ (n : Numbered). is_unclaim n.entry.what) (take l.numbered-index l.entries)) × (l.unclaims ≤ l.numbered-index)
+    × (l.unclaims ≡ count_by (λ (n : Numbered). is_unclaim n.entry.what) (take l.numbered-index l.entries))
+    × (l.unclaims ≤ l.numbered-index)

@@ -17,13 +17,14 @@ pub returns : goal.returns
 returns c =
     let history = entries_in c.args.history.now.items in
     let planned = λ (g : Given) (over : IsOver c.args.frames g history).
-    (let begun : IsRight (frames_at g []) c.in_ok-table.table =
-    subst (λ n. IsRight (start_frames g.sizes n (length g.marks)) c.in_ok-table.table) (sym over.frames_are)
+    (let begun : IsRight (frames_at g []) c.in_ok-table.table = subst
+    (λ n. IsRight (start_frames g.sizes n (length g.marks)) c.in_ok-table.table) (sym over.frames_are)
     (c.in_ok-table.ensures.right g.sizes (length g.marks) over.processors) in
     c.in_ok-planned.ensures (frames_at g history) (c.in_ok-follow.ensures.right g over.legal begun)) in
     record {
       planned = planned;
       empties = λ g over.
-          let sound = subst (λ n. IsSound n (length g.marks) (frames_at g history)) over.frames_are (IsKept-legal g history over.legal).sound in
+          let sound = subst (λ n. IsSound n (length g.marks) (frames_at g history)) over.frames_are
+          (IsKept-legal g history over.legal).sound in
           empties-planned c.args.frames (length g.marks) (frames_at g history) c.args.size c.in_ok-planned.planned sound (planned g over);
     }

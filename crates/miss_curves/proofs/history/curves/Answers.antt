@@ -1,26 +1,31 @@
 use Rattle.std.proofs.Common.{Result, Ok, Err}
 use Rattle.std.specs.Result.{IfOk}
+use Rattle.std.proofs.lemmas.Result.{IfOk-weaker}
 use Rattle.pager_model.specs.Legal.{entries_in}
 use Rattle.miss_curves.proofs.FollowedEntries.{AnswersAlone-run}
 use Rattle.miss_curves.proofs.history.curves.Goals as goal
 
-IfOk_all : {T E : Type 0} (r : Result T E) {P Q R S U : T → Type 0} → IfOk r P → IfOk r Q → IfOk r R → IfOk r S
-    → ((x : T) → P x → Q x → R x → S x → U x) → IfOk r U
-IfOk_all (Ok x) p q r s then = then x p q r s
-IfOk_all (Err e) p q r s then = tt
+-- what two clauses say of a value
+IfOk_both : {T E : Type 0} (r : Result T E) (P Q : T → Type 0) → IfOk r P → IfOk r Q → IfOk r (λ x. P x × Q x)
+IfOk_both (Ok x) P Q p q = (p, q)
+IfOk_both (Err e) P Q p q = tt
 
 pub returns : goal.returns
 returns c =
     let history = entries_in c.args.history.now.items in
     let counted = c.curves.ensures in
+    let tiles = IfOk_both c.curves.result _ _ counted.capacities counted.tiles in
+    let pages = IfOk_both c.curves.result _ _ counted.pages counted.usual in
     record {
-      curves = IfOk_all c.curves.result counted.capacities counted.tiles counted.pages counted.usual
-          (λ curves long tiles pages usual g run.
+      curves = IfOk-weaker c.curves.result _ _
+          (λ curves are g run.
           let stands = c.in_ok-stacks.ensures.stands g run in
           record {
-            capacities = long;
-            by_tiles = tiles g history stands;
-            by_pages = pages g history stands;
-            usual = usual g history stands run.legal (AnswersAlone-run c.args.trace.now g history c.in_ok-stacks.ensures.text c.requires.one run);
-          });
+            capacities = are.0.0;
+            by_tiles = are.0.1 g history stands;
+            by_pages = are.1.0 g history stands;
+            usual = are.1.1 g history stands run.legal
+                (AnswersAlone-run c.args.trace.now g history c.in_ok-stacks.ensures.text c.requires.one run);
+          })
+          (IfOk_both c.curves.result _ _ tiles pages);
     }

@@ -13,13 +13,14 @@ returns-clause-stands c = λ g history sizes next stands.
     let old = c.args.space.now in
     let page = c.used_page-page.result in
     let used =
-    c.use_of-used.ensures ∙ ap (λ b. use_of b c.tile_at-after.result) c.tile_at-before.ensures
+    c.use_of.ensures ∙ ap (λ b. use_of b c.tile_at-after.result) c.tile_at-before.ensures
     ∙ ap (use_of (tile_at c.args.sizes (mapping_at old.pages) page)) c.tile_at-after.ensures in
     let used_base =
-    c.use_of-used_base.ensures ∙ ap (λ b. use_of b c.tile_at-base_after.result) c.tile_at-base_before.ensures
+    c.use_of-2.ensures ∙ ap (λ b. use_of b c.tile_at-base_after.result) c.tile_at-base_before.ensures
     ∙ ap (use_of (tile_at c.base_alone-base.result (mapping_at old.pages) page)) c.tile_at-base_after.ensures
-    ∙ ap (λ z. use_of (tile_at z (mapping_at old.pages) page) (tile_at z (mapping_at c.follow-changed.new.self.pages) page)) c.base_alone-base.ensures in
+    ∙ ap (λ z. use_of (tile_at z (mapping_at old.pages) page) (tile_at z (mapping_at c.follow-changed.new.self.pages) page))
+    c.base_alone-base.ensures in
     c.tell.ensures.stands g history old.pages c.follow-changed.ensures.changed
-    (Told-followed c.args.sizes g history c.args.entry.now old c.follow-changed.new.self page c.use_of-used.result c.use_of-used_base.result sizes next c.follow-changed.ensures.follows
+    (Told-followed g history c.args.entry.now old c.follow-changed.new.self page _ sizes next c.follow-changed.ensures.follows
     c.used_page-page.ensures used used_base)
     stands

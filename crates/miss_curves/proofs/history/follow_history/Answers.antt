@@ -28,5 +28,6 @@ loop-place-preserved c =
       entries = omega (arith, c.follow_next.ensures.entries, c.loop-place.invariant.entries);
       keeps = λ g start each.
           subst (KeepsUp c.args.sizes g c.follow_next.new.stacks c.follow_next.new.spaces) (sym (entries-more history i x (omega arith) is))
-          (c.follow_next.ensures.keeps g (entries_in (take i history)) (c.loop-place.invariant.keeps g start each) (comes-at g history i x (omega arith) is each));
+          (c.follow_next.ensures.keeps g (entries_in (take i history)) (c.loop-place.invariant.keeps g start each)
+          (comes-at g history i x (omega arith) is each));
     }

@@ -33,10 +33,12 @@ returns-in-Some-clause-keeps c = λ g history keeps comes.
       sizes = keeps.sizes;
       stands =
           c.follow_entry.ensures.stands g history keeps.sizes
-          (λ t is. subst (λ n. IsNext (get_or c.args.spaces.now s old) (space_at g history n) e) (same_Some s t (sym c.in-Some.is ∙ is)) next) keeps.stands;
+          (λ t is. subst (λ n. IsNext (get_or c.args.spaces.now s old) (space_at g history n) e)
+          (same_Some s t (sym c.in-Some.is ∙ is)) next) keeps.stands;
       follow =
           FollowEach-named g history e s c.args.spaces.now c.follow_entry.new.space named.within c.in-Some.is
-          (c.follow_entry.ensures.frames ∙ keeps.follow.frames s old named.within) (c.follow_entry.ensures.follows (space_at g history s) next) keeps.follow;
+          (c.follow_entry.ensures.frames ∙ keeps.follow.frames s old named.within)
+          (c.follow_entry.ensures.follows (space_at g history s) next) keeps.follow;
     }
 
 pub returns-in-None-clause-keeps : goal.returns-in-None-clause-keeps

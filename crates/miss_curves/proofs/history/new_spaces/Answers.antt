@@ -9,5 +9,6 @@ loop-preserved c =
     let new : IsNew c.args.frames c.in_ok-space.space = record { frames_are = created.frames; follows = created.follows } in (
       search rules,
       rw c.in_ok-push.ensures.items
-          (All-append (IsNew c.args.frames) _ _ c.loop.invariant.1 (All-cons (IsNew c.args.frames) _ [] new (All-nil (IsNew c.args.frames)))),
+          (All-append (IsNew c.args.frames) _ _ c.loop.invariant.1 (All-cons (IsNew c.args.frames) _ [] new
+          (All-nil (IsNew c.args.frames)))),
     )

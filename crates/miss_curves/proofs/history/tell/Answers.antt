@@ -1,5 +1,6 @@
 use Rattle.std.proofs.Common.{subst}
 use Rattle.followed_space.specs.Changed.{IsChange}
+use Rattle.miss_curves.specs.Histories.{effect}
 use Rattle.miss_curves.proofs.ToldEntries.{tells_same}
 use Rattle.miss_curves.proofs.history.tell.Goals as goal
 
@@ -7,7 +8,8 @@ pub returns-in-Nothing-clause-stands : goal.returns-in-Nothing-clause-stands
 returns-in-Nothing-clause-stands c = λ g history old changed told stands.
     let new = c.args.space.now.pages in
     let same = subst (IsChange old new) c.in-Nothing.is changed in
-    c.follow_same.ensures.stands g history (tells_same c.args.sizes g history c.args.entry.now old new c.args.used c.args.used_base same told) stands
+    c.follow_same.ensures.stands g history
+    (tells_same g history (effect c.args.entry.now old new c.args.uses.now) same told) stands
 
 pub returns-in-Page-clause-stands : goal.returns-in-Page-clause-stands
 returns-in-Page-clause-stands c = λ g history old changed told stands.

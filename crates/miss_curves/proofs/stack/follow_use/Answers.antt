@@ -10,7 +10,8 @@ returns-clause-after g c = λ was test told all.
     let t = c.args.used.now.after in
     let left = c.take_out_used.ensures in
     c.push_front.ensures
-    ∙ ap (shifted (Some t)) (c.retain.ensures.kept was test told (subst (All (Passes was)) (sym left) (All-left was t row all)) ∙ ap (map (kept_at test)) left)
+    ∙ ap (shifted (Some t)) (c.retain.ensures.kept was test told (subst (All (Passes was)) (sym left) (All-left was t row all))
+    ∙ ap (map (kept_at test)) left)
     ∙ sym (moved_down-kept t test row)
 
 pub returns-clause-distinct : goal.returns-clause-distinct

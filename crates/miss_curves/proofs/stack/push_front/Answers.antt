@@ -7,4 +7,5 @@ returns-in-None c =
     let row = c.loop-place.places in
     let i = c.loop-place.place-index in
     let within : i < length row = omega arith in
-    shifted-stop row i c.place-item.result c.loop-place.carried c.replace.new.self within (search rules) (search rules) ∙ sym c.loop-place.invariant
+    shifted-stop row i c.place-item.result c.loop-place.carried c.replace.new.self within (search rules) (search rules)
+    ∙ sym c.loop-place.invariant

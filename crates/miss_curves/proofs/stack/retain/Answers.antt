@@ -11,8 +11,14 @@ loop-place-preserved g c =
       same_next c.loop-place.places c.args.places.now i c.keep.new.place within c.loop-place.invariant.0,
       λ was test told all.
           let first = same_drop c.loop-place.places c.args.places.now i c.place-item.result within c.loop-place.invariant.0 in
-          let here : Passes was (get_or c.loop-place.places i c.place-item.result) = subst (Passes was) (sym first.1) (all i c.place-item.result first.0) in
+          let here : Passes was (get_or c.loop-place.places i c.place-item.result) =
+          subst (Passes was) (sym first.1) (all i c.place-item.result first.0) in
           c.loop-place.invariant.1 was test told all
-          ∙ map_more (kept_at test) c.loop-place.places i c.place-item.result c.keep.new.place within (c.keep.ensures.kept was test told (search rules) ∙ search rules),
-      λ t. omega (arith, c.loop-place.invariant.2 t, count-set t c.loop-place.places i c.place-item.result c.keep.new.place within c.keep.ensures.own),
+          ∙ map_more (kept_at test) c.loop-place.places i c.place-item.result c.keep.new.place within
+          (c.keep.ensures.kept was test told (search rules) ∙ search rules),
+      λ t. omega (
+        arith,
+        c.loop-place.invariant.2 t,
+        count-set t c.loop-place.places i c.place-item.result c.keep.new.place within c.keep.ensures.own,
+      ),
     )

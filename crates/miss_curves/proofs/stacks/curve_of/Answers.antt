@@ -22,5 +22,7 @@ add_to-requires-clause-fits c = λ k below.
 
 pub returns-clause-misses : goal.returns-clause-misses
 returns-clause-misses c = λ z g history each k below.
-    let all : take c.loop-stack.stack-index c.args.stacks.now ≡ c.args.stacks.now = take_all c.loop-stack.stack-index c.args.stacks.now (omega arith) in
-    c.loop-stack.invariant.1 k below ∙ ap (sum_by (missed_at k)) all ∙ missed-all z g history c.args.stacks.now k below c.requires.stacks.places each
+    let all : take c.loop-stack.stack-index c.args.stacks.now ≡ c.args.stacks.now =
+    take_all c.loop-stack.stack-index c.args.stacks.now (omega arith) in
+    c.loop-stack.invariant.1 k below ∙ ap (sum_by (missed_at k)) all
+    ∙ missed-all z g history c.args.stacks.now k below c.requires.stacks.places each

@@ -1,9 +1,22 @@
-use Rattle.std.proofs.Common.{arith}
-use Rattle.pager_command.proofs.LargeRuns.{RunsLarge-written}
+use Rattle.std.proofs.Common.{Some, map, ap, subst, ◌∙◌, arith}
+use Rattle.report_text.specs.Written.{WroteAll, WrotePart}
+use Rattle.pager_command.specs.Views.{ending, out_views, replayed}
+use Rattle.pager_command.proofs.LargeRuns.{RunsLarge-written, counted_text}
 use Rattle.pager_command.proofs.making.run_large.Goals as goal
 
 pub returns-in-Ok : goal.returns-in-Ok
 returns-in-Ok g c =
     let wrote = c.write_counts.ensures in
     let ran = c.in-Ok.ensures in
-    RunsLarge-written g.K.Sink.taken g.K.Sink.faults g.S.Store.seen c.args.number c.args.seed c.args.sink.now _ c.args.stores.items c.in-Ok.trace c.in-Ok.gathered c.write_counts.result (omega arith) ran.trace ran.run ran.seeded ran.counts wrote.statuses wrote.refusal wrote.trace wrote.history wrote.stores wrote.wrote wrote.part wrote.rose
+    let taken = g.K.Sink.taken in
+    let sink = c.write_counts.new.sink in
+    let run = replayed c.in-Ok.trace (map g.S.Store.seen c.args.stores.items) c.in-Ok.gathered in
+    let text = counted_text c.args.number run c.write_counts.result ran.trace ran.counts wrote.history in
+    RunsLarge-written (out_views taken g.K.Sink.faults g.S.Store.seen) c.args.number c.args.seed c.args.stores.items
+    (ending c.args.sink.now sink c.write_counts.result) (omega arith)
+    (rw (← ran.trace, wrote.history, wrote.stores) ran.run)
+    (rw (← ran.trace, wrote.history) ran.seeded)
+    wrote.statuses wrote.refusal (wrote.trace ∙ ap Some ran.trace)
+    (λ done. subst (λ t. WroteAll t (taken c.args.sink.now) (taken sink)) text (wrote.wrote done))
+    (λ failed. subst (λ t. WrotePart t (taken c.args.sink.now) (taken sink)) text (wrote.part failed))
+    wrote.rose

@@ -17,13 +17,17 @@ returns-in-Err-clause-stopped g c =
     record {
       statuses = subst (λ n. (n ≡ REFUSED) ⊎ ((n ≡ READ_FAULT) ⊎ (n ≡ MEMORY))) (sym told.status) (status_told c.in-Err.fault);
       told = search rules;
-      few_stores = λ count wanted is. absurd (c.in-Err.ensures.asks_no_stores count wanted (ap Err (same_Some _ _ (sym told.refusal ∙ is))));
-      one_processor = another_fault c.args.form.now c.refused.result.refusal c.in-Err.fault told.refusal (λ processors is. c.in-Err.ensures.asks_no_processors processors (ap Err is));
-      refused = λ is. refused_text c.args.form.now left c.in-Err.fault c.args.stores status c.refused.result.refusal c.in-Err.ensures.refused told.status told.refusal is;
+      few_stores = λ count wanted is. absurd (c.in-Err.ensures.asks_no_stores count wanted
+          (ap Err (same_Some _ _ (sym told.refusal ∙ is))));
+      one_processor = another_fault c.args.form.now c.refused.result.refusal c.in-Err.fault told.refusal
+          (λ processors is. c.in-Err.ensures.asks_no_processors processors (ap Err is));
+      refused = λ is. refused_text c.args.form.now left c.in-Err.fault c.args.stores status c.refused.result.refusal
+          c.in-Err.ensures.refused told.status told.refusal is;
       read_fault = search rules;
       no_fault = λ other. c.in-Err.ensures.no_other_fault (λ is. other (told.status ∙ ap status_of (same_Some _ _ (ap result_err is))));
       memory = search rules;
-      complete = λ text no_read. not_refused_text c.args.form.now left c.in-Err.fault c.args.stores status text c.in-Err.ensures.refused told.status (λ is. no_read (c.in-Err.ensures.fault (ap Err is)));
+      complete = λ text no_read. not_refused_text c.args.form.now left c.in-Err.fault c.args.stores status text c.in-Err.ensures.refused
+          told.status (λ is. no_read (c.in-Err.ensures.fault (ap Err is)));
     }
 
 pub returns-then-processors-ne1-clause-stopped : goal.returns-then-processors-ne1-clause-stopped
@@ -36,12 +40,18 @@ returns-then-processors-ne1-clause-stopped g c =
     let refusal = c.refused-then-processors-ne1.result.refusal in
     let count : c.processors-processors.result ≡ trace.processors = c.processors-processors.ensures.processors in
     let one : IsForOneProcessor form = c.is_for_one_processor.ensures.0 c.if-is_for_one_processor.true in
-    let more : 1 < trace.processors = omega (arith, count, c.if-processors-ne1.true, c.processors-processors.ensures.text.processors_in.0) in
+    let more : 1 < trace.processors = omega (
+      arith,
+      count,
+      c.if-processors-ne1.true,
+      c.processors-processors.ensures.text.processors_in.0,
+    ) in
     let wanted : refusal ≡ Some (OneProcessor trace.processors) = told.refusal ∙ ap (λ n. Some (OneProcessor n)) count in
     record {
       statuses = inl told.status;
       told = search rules;
-      few_stores = λ stores spaces is. absurd (let other : Some (OneProcessor trace.processors) ≡ Some (TooFewStores stores spaces) = sym wanted ∙ is in cc);
+      few_stores = λ stores spaces is. absurd (let other : Some (OneProcessor trace.processors) ≡ Some (TooFewStores stores spaces) =
+          sym wanted ∙ is in cc);
       one_processor = counts_processors form refusal trace.processors wanted one more;
       refused = λ is. refused_processors form left _ trace c.args.stores refusal read one (more, wanted);
       read_fault = search rules;
@@ -57,13 +67,16 @@ returns-then-stores-from-clause-stopped g c =
     let trace = c.in-Ok.trace in
     let read = c.in-Ok.ensures.ok in
     let few : c.args.stores < trace.spaces = omega (arith, c.from.ensures, c.spaces-spaces.ensures.spaces) in
-    let wanted : c.refused-then-stores-from.result.refusal ≡ Some (TooFewStores c.args.stores trace.spaces) = told.refusal ∙ ap (λ k. Some (TooFewStores c.args.stores k)) c.spaces-spaces.ensures.spaces in
+    let wanted : c.refused-then-stores-from.result.refusal ≡ Some (TooFewStores c.args.stores trace.spaces) = told.refusal
+    ∙ ap (λ k. Some (TooFewStores c.args.stores k)) c.spaces-spaces.ensures.spaces in
     record {
       statuses = inl told.status;
       told = search rules;
       few_stores = counts_stores c.refused-then-stores-from.result.refusal c.args.stores trace.spaces wanted few;
-      one_processor = another_fault c.args.form.now c.refused-then-stores-from.result.refusal (TooFewStores c.args.stores trace.spaces) wanted (λ processors is. cc);
-      refused = λ is. refused_stores c.args.form.now left _ trace c.args.stores c.refused-then-stores-from.result.refusal read (search rules) (few, wanted);
+      one_processor = another_fault c.args.form.now c.refused-then-stores-from.result.refusal
+          (TooFewStores c.args.stores trace.spaces) wanted (λ processors is. cc);
+      refused = λ is. refused_stores c.args.form.now left _ trace c.args.stores c.refused-then-stores-from.result.refusal read
+          (search rules) (few, wanted);
       read_fault = search rules;
       no_fault = λ _. c.in-Ok.ensures.no_other_fault (λ is. false≢true (ap is_err is));
       memory = search rules;

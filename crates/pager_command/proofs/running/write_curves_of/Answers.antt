@@ -7,7 +7,8 @@ returns-in-Ok-clause-wrote g c = λ is given run.
       c.in-Ok.counted.tiles.items,
       c.in-Ok.counted.pages.items,
       counted.curves given run,
-      rw (← c.as_slice.ensures.value, ← c.as_slice-in-Ok.ensures.value) (of_ok c.write_curves-wrote.result (c.status_of_write.ensures.done is) c.write_curves-wrote.ensures.whole),
+      rw (← c.as_slice.ensures.value, ← c.as_slice-in-Ok.ensures.value)
+          (of_ok c.write_curves-wrote.result (c.status_of_write.ensures.done is) c.write_curves-wrote.ensures.whole),
     )
 
 pub returns-in-Ok-clause-part : goal.returns-in-Ok-clause-part
@@ -16,5 +17,6 @@ returns-in-Ok-clause-part g c = λ is given run.
       c.in-Ok.counted.tiles.items,
       c.in-Ok.counted.pages.items,
       counted.curves given run,
-      rw (← c.as_slice.ensures.value, ← c.as_slice-in-Ok.ensures.value) (of_err c.write_curves-wrote.result (c.status_of_write.ensures.failed is) c.write_curves-wrote.ensures.part),
+      rw (← c.as_slice.ensures.value, ← c.as_slice-in-Ok.ensures.value)
+          (of_err c.write_curves-wrote.result (c.status_of_write.ensures.failed is) c.write_curves-wrote.ensures.part),
     )

@@ -20,15 +20,20 @@ loop-machine-init g c =
 
 pub loop-machine-smaller : goal.loop-machine-smaller
 loop-machine-smaller g c =
-    let still = still_in c.args.machine.now c.loop-machine.machine c.args.actor c.done-number.result c.loop-machine.invariant (sym c.done.ensures.made ∙ c.loop-machine-test.true) in
-    let stepped = turn_steps c.args.machine.now c.loop-machine.machine c.turn.new.self c.args.actor c.done-number.result c.turn.result c.requires.none_keeps c.loop-machine.invariant still c.turn.ensures.ended c.turn.ensures.waits in
+    let still = still_in c.args.machine.now c.loop-machine.machine c.args.actor c.done-number.result c.loop-machine.invariant
+    (sym c.done.ensures.made ∙ c.loop-machine-test.true) in
+    let stepped = turn_steps c.args.machine.now c.loop-machine.machine c.turn.new.self c.args.actor c.done-number.result c.turn.result
+    c.requires.none_keeps c.loop-machine.invariant still c.turn.ensures.ended c.turn.ensures.waits in
     (c.turn.ensures.stepped stepped).fewer
 
 pub loop-machine-preserved : goal.loop-machine-preserved
 loop-machine-preserved g c =
-    let still = still_in c.args.machine.now c.loop-machine.machine c.args.actor c.done-number.result c.loop-machine.invariant (sym c.done.ensures.made ∙ c.loop-machine-test.true) in
-    let stepped = turn_steps c.args.machine.now c.loop-machine.machine c.turn.new.self c.args.actor c.done-number.result c.turn.result c.requires.none_keeps c.loop-machine.invariant still c.turn.ensures.ended c.turn.ensures.waits in
-    InJob-step c.args.machine.now c.loop-machine.machine c.turn.new.self c.args.actor c.done-number.result c.loop-machine.invariant still (c.turn.ensures.stepped stepped) c.turn.ensures.same_jobs c.turn.ensures.same_unused c.turn.ensures.lawful
+    let still = still_in c.args.machine.now c.loop-machine.machine c.args.actor c.done-number.result c.loop-machine.invariant
+    (sym c.done.ensures.made ∙ c.loop-machine-test.true) in
+    let stepped = turn_steps c.args.machine.now c.loop-machine.machine c.turn.new.self c.args.actor c.done-number.result c.turn.result
+    c.requires.none_keeps c.loop-machine.invariant still c.turn.ensures.ended c.turn.ensures.waits in
+    InJob-step c.args.machine.now c.loop-machine.machine c.turn.new.self c.args.actor c.done-number.result c.loop-machine.invariant still
+    (c.turn.ensures.stepped stepped) c.turn.ensures.same_jobs c.turn.ensures.same_unused c.turn.ensures.lawful
 
 pub returns : goal.returns
 returns g c =

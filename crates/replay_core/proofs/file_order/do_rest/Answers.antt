@@ -20,9 +20,14 @@ pub loop-machine-smaller : goal.loop-machine-smaller
 loop-machine-smaller g c = fewer_jobs c.loop-machine.machine c.do_job.new.machine c.args.actor c.do_job.ensures
 
 pub loop-machine-preserved : goal.loop-machine-preserved
-loop-machine-preserved g c = InRest-more c.args.machine.now c.loop-machine.machine c.do_job.new.machine c.args.actor c.loop-machine.invariant c.do_job.ensures
+loop-machine-preserved g c =
+    InRest-more c.args.machine.now c.loop-machine.machine c.do_job.new.machine c.args.actor c.loop-machine.invariant c.do_job.ensures
 
 pub returns : goal.returns
 returns g c =
-    let rest = c.loop-machine.invariant in
-    (rest.count, rest.did, none_flies (flight_at c.loop-machine.machine.flights c.args.actor) (λ some. true≢false (sym (c.has_left.ensures.1 some) ∙ c.loop-machine-test.false)))
+    let rest = c.loop-machine.invariant in (
+      rest.count,
+      rest.did,
+      none_flies (flight_at c.loop-machine.machine.flights c.args.actor)
+          (λ some. true≢false (sym (c.has_left.ensures.1 some) ∙ c.loop-machine-test.false)),
+    )

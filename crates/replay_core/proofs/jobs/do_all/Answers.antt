@@ -16,7 +16,8 @@ hand_out-requires g c =
     ∙ length-map workers (λ (w : Worker). w.jobs.items))
 
 -- the passes may do the jobs of the workers that they were handed to
-may_still : (j : JournalName) (passes : List PassState) (workers handed : List Worker) → MayDoAll j passes (jobs_in workers) → jobs_in handed ≡ jobs_in workers → MayDoAll j passes (jobs_in handed)
+may_still : (j : JournalName) (passes : List PassState) (workers handed : List Worker) → MayDoAll j passes (jobs_in workers)
+    → jobs_in handed ≡ jobs_in workers → MayDoAll j passes (jobs_in handed)
 may_still j passes workers handed may same = subst (MayDoAll j passes) (sym same) may
 
 pub do_each-requires-after_bounds : goal.do_each-requires-after_bounds

@@ -6,8 +6,10 @@ loop-job-init g c = HasDone-none g.N.Named.journal c.args.pass c.args.jobs.now c
 
 pub do_one-pass-requires-after_bounds : goal.do_one-pass-requires-after_bounds
 do_one-pass-requires-after_bounds g c κs within =
-    may_next g.N.Named.journal c.args.pass c.loop-job.pass c.args.jobs.now c.loop-job.job-index _ c.requires c.loop-job.invariant c.loop-job-test.true
+    may_next g.N.Named.journal c.args.pass c.loop-job.pass c.args.jobs.now c.loop-job.job-index _
+    (record { may = c.requires; has = c.loop-job.invariant; below = c.loop-job-test.true })
 
 pub loop-job-preserved : goal.loop-job-preserved
 loop-job-preserved g c =
-    HasDone-after g.N.Named.journal c.args.pass c.loop-job.pass c.args.jobs.now c.loop-job.job-index _ c.requires c.loop-job.invariant c.loop-job-test.true _ c.do_one-pass.ensures
+    HasDone-after g.N.Named.journal c.args.pass c.loop-job.pass c.args.jobs.now c.loop-job.job-index _
+    (record { may = c.requires; has = c.loop-job.invariant; below = c.loop-job-test.true }) _ c.do_one-pass.ensures

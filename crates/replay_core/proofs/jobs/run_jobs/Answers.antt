@@ -11,7 +11,8 @@ use Rattle.replay_core.proofs.JobLemmas.{journals_done, processors_done, rooms_d
 use Rattle.replay_core.proofs.jobs.run_jobs.Goals as goal
 
 -- the slice that was lent has the workers
-of_workers : (j : JournalName) (lent workers : List Worker) (back : List PassState) → lent ≡ workers → HaveDone j (jobs_in lent) back → HaveDone j (jobs_in workers) back
+of_workers : (j : JournalName) (lent workers : List Worker) (back : List PassState) → lent ≡ workers → HaveDone j (jobs_in lent) back
+    → HaveDone j (jobs_in workers) back
 of_workers j lent workers back is = subst (λ l. HaveDone j (jobs_in l) back) is
 
 -- the marks are as many as those of the journal that is named
@@ -54,8 +55,10 @@ returns-clause-run g c =
 
 pub returns-clause-stores : goal.returns-clause-stores
 returns-clause-stores g c =
-    subst (λ (j : JournalName). StoresEnd j.setting c.close.result.history.items (map g.S.Store.seen c.close.result.stores.items)) (sym c.requires.named) c.close.ensures.stores
+    subst (λ (j : JournalName). StoresEnd j.setting c.close.result.history.items (map g.S.Store.seen c.close.result.stores.items))
+    (sym c.requires.named) c.close.ensures.stores
 
 pub returns-clause-summary : goal.returns-clause-summary
 returns-clause-summary g c =
-    subst (λ (j : JournalName). c.close.result.summary ≡ counts j.setting (entries_in c.close.result.history.items)) (sym c.requires.named) c.close.ensures.summary
+    subst (λ (j : JournalName). c.close.result.summary ≡ counts j.setting (entries_in c.close.result.history.items))
+    (sym c.requires.named) c.close.ensures.summary

@@ -26,7 +26,8 @@ loop-worker-preserved c =
           ∙ ap (λ l. l ++ Some p ∷ []) was.passes
           ∙ ap (λ o. map pass_of (take n workers) ++ o ∷ []) own
           ∙ sym (map_more pass_of workers n d c.loop-worker-test.true);
-      rest = λ k e above. (let other : k ≢ n = omega (arith, above) in get_or-set_other c.loop-worker.worker-items n k _ e other ∙ was.rest k e (omega (arith, above)));
+      rest = λ k e above. (let other : k ≢ n = omega (arith, above) in get_or-set_other c.loop-worker.worker-items n k _ e other
+          ∙ was.rest k e (omega (arith, above)));
       count = omega (arith, count, c.push_reserved.ensures.len);
       room = c.push_reserved.ensures.capacity ∙ was.room;
     }

@@ -5,7 +5,8 @@ use Rattle.replay_core.proofs.scheduled.all_below.Goals as goal
 
 pub push-requires : goal.push-requires
 push-requires c =
-    let count : length c.loop-actor.actors.items ≡ c.loop-actor.actor = ap length c.loop-actor.invariant ∙ length-range_with_len 0 c.loop-actor.actor in
+    let count : length c.loop-actor.actors.items ≡ c.loop-actor.actor = ap length c.loop-actor.invariant
+    ∙ length-range_with_len 0 c.loop-actor.actor in
     (omega arith, omega (arith, count))
 
 pub loop-actor-preserved : goal.loop-actor-preserved

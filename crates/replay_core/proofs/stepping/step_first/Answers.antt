@@ -23,7 +23,8 @@ pub loop-actor-preserved : goal.loop-actor-preserved
 loop-actor-preserved g c =
     let actors = c.args.actors.now in
     let i = c.loop-actor.actor-index in
-    let passed = stuck_by c.loop-actor.machine c.turn.new.self (get_or actors i 0) c.turn.result c.turn.ensures.ended c.turn.ensures.waits c.in_default.not-Stepped in (
+    let passed = stuck_by c.loop-actor.machine c.turn.new.self
+    (get_or actors i 0) c.turn.result c.turn.ensures.ended c.turn.ensures.waits c.in_default.not-Stepped in (
       passed.0 ∙ c.loop-actor.invariant.0,
       subst (λ r. AllByRecursion (IsStuck r) (take (i + 1) actors)) (sym passed.0)
           (all_take_more (IsStuck c.loop-actor.machine) actors i 0 c.loop-actor-test.true c.loop-actor.invariant.1 passed.1),
@@ -31,4 +32,6 @@ loop-actor-preserved g c =
 
 pub returns : goal.returns
 returns g c =
-    absurd (c.requires.some (stuck_past c.args.machine.now c.loop-actor.machine c.args.actors.now c.loop-actor.actor-index c.loop-actor.invariant.0 (omega arith) c.loop-actor.invariant.1))
+    absurd (c.requires.some
+    (stuck_past c.args.machine.now c.loop-actor.machine c.args.actors.now c.loop-actor.actor-index c.loop-actor.invariant.0
+    (omega arith) c.loop-actor.invariant.1))

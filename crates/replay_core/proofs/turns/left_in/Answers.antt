@@ -13,9 +13,14 @@ loop-actor-preserved g c =
     let was = c.loop-actor.invariant in
     elim c.if-has_left.branch [
       | then-has_left w ↦
-          let left = some_there (flight_at flights actor) (c.has_left.ensures.0 w.if-has_left.true) in
-          (ap (λ v. v.items) w.left-is ∙ w.push.ensures.items ∙ ap (λ l. l ++ actor ∷ []) was.0 ∙ sym (filter_push (flies flights) actor left), omega (arith, was.1, ap (λ v. length v.items) w.left-is, w.push.ensures.len))
+          let left = some_there (flight_at flights actor) (c.has_left.ensures.0 w.if-has_left.true) in (
+            ap (λ v. v.items) w.left-is ∙ w.push.ensures.items ∙ ap (λ l. l ++ actor ∷ []) was.0
+                ∙ sym (filter_push (flies flights) actor left),
+            omega (arith, was.1, ap (λ v. length v.items) w.left-is, w.push.ensures.len),
+          )
       | else-has_left w ↦
-          let none = none_there (flight_at flights actor) (λ there. true≢false (sym (c.has_left.ensures.1 there) ∙ w.if-has_left.false)) in
-          (ap (λ v. v.items) w.left-is ∙ was.0 ∙ sym (filter_pass (flies flights) actor none), omega (arith, was.1, ap (λ v. length v.items) w.left-is))
+          let none = none_there (flight_at flights actor) (λ there. true≢false (sym (c.has_left.ensures.1 there) ∙ w.if-has_left.false)) in (
+            ap (λ v. v.items) w.left-is ∙ was.0 ∙ sym (filter_pass (flies flights) actor none),
+            omega (arith, was.1, ap (λ v. length v.items) w.left-is),
+          )
     ]

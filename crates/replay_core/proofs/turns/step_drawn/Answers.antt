@@ -13,19 +13,26 @@ draw-place-requires g c =
     omega (arith, some, c.len.ensures.value, ap length c.left_in-left.ensures)
 
 -- the list that was turned, as it is read
-read_turned : (left : ArrayVec ℕ) (place : ℕ) (flying lent turned_left actors : List ℕ) → left.items ≡ flying → lent ≡ left.items → length turned_left ≡ length lent → turned_left ≡ turned place lent → actors ≡ (with_items left turned_left).items → actors ≡ turned place flying
+read_turned : (left : ArrayVec ℕ) (place : ℕ) (flying lent turned_left actors : List ℕ) → left.items ≡ flying → lent ≡ left.items
+    → length turned_left ≡ length lent → turned_left ≡ turned place lent → actors ≡ (with_items left turned_left).items
+    → actors ≡ turned place flying
 read_turned left place flying lent turned_left actors items lends long is reads =
     reads ∙ items-with_items left turned_left (long ∙ ap length lends) ∙ is ∙ ap (turned place) (lends ∙ items)
 
 pub step_first-requires-clause-known : goal.step_first-requires-clause-known
 step_first-requires-clause-known g c κs within =
     let run = c.args.machine.now in
-    let order = read_turned c.left_in-left.result _ (flying_in run) c.as_mut_slice.result.now c.rotate_left.new.self c.as_slice.result.now c.left_in-left.ensures c.as_mut_slice.ensures.value c.rotate_left.ensures.len c.rotate_left.ensures.after c.as_slice.ensures.value in
+    let order = read_turned c.left_in-left.result _
+    (flying_in run) c.as_mut_slice.result.now c.rotate_left.new.self c.as_slice.result.now c.left_in-left.ensures
+    c.as_mut_slice.ensures.value c.rotate_left.ensures.len c.rotate_left.ensures.after c.as_slice.ensures.value in
     subst (AllByRecursion (λ x. x < length run.jobs)) (sym order)
     (all_turned (λ x. x < length run.jobs) _ (flying_in run) (flying_known run))
 
 pub step_first-requires-clause-some : goal.step_first-requires-clause-some
 step_first-requires-clause-some g c κs within stuck =
     let run = c.args.machine.now in
-    let order = read_turned c.left_in-left.result _ (flying_in run) c.as_mut_slice.result.now c.rotate_left.new.self c.as_slice.result.now c.left_in-left.ensures c.as_mut_slice.ensures.value c.rotate_left.ensures.len c.rotate_left.ensures.after c.as_slice.ensures.value in
-    flying_can run c.requires.lawful c.requires.going (all_unturned (IsStuck run) _ (flying_in run) (subst (AllByRecursion (IsStuck run)) order stuck))
+    let order = read_turned c.left_in-left.result _
+    (flying_in run) c.as_mut_slice.result.now c.rotate_left.new.self c.as_slice.result.now c.left_in-left.ensures
+    c.as_mut_slice.ensures.value c.rotate_left.ensures.len c.rotate_left.ensures.after c.as_slice.ensures.value in
+    flying_can run c.requires.lawful c.requires.going (all_unturned (IsStuck run) _ (flying_in run)
+    (subst (AllByRecursion (IsStuck run)) order stuck))

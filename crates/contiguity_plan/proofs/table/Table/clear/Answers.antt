@@ -16,8 +16,8 @@ loop-page-preserved c = record {
         give_if_used c.args.space now.0 c.in-Some.page,
         IsSound-give_if_used frames processors now.0 c.args.space c.in-Some.page now.1,
         c.give.ensures.right frames processors now.0 now.1 now.2,
-        lowest-gives frames processors now.0 c.loop-page.self.uses.items c.loop-page.self.held.items c.loop-page.self.places.items
-            c.args.space c.args.first c.args.count c.in-Some.page now.1 now.2 c.in-Some.ensures.within
+        lowest-gives now.0 c.loop-page.self.places.items c.args.space c.args.first c.args.count c.in-Some.page
+            now.1.laid now.2.places_are c.in-Some.ensures.within
             (subst (λ ps. IsSome (place_in ps c.args.space c.in-Some.page)) c.deref.ensures.value c.in-Some.ensures.some)
             (λ p below within. ap (λ ps. place_in ps c.args.space p) (sym c.deref.ensures.value) ∙ c.in-Some.ensures.lowest p below within)
             ∙ now.3,
@@ -28,5 +28,7 @@ pub returns-clause-right : goal.returns-clause-right
 returns-clause-right c = λ frames processors st sound right.
     let now = c.loop-page.invariant.right frames processors st sound right in
     subst (λ s. IsRight s c.loop-page.self)
-    (sym (give_range-none c.args.space now.0 c.args.first c.args.count (λ p low high. sym (now.2.places_are c.args.space p) ∙ ap (λ ps. place_in ps c.args.space p) (sym c.deref.ensures.value) ∙ c.in_default.ensures.none p (bounds_in c.args.first c.args.count p low high))) ∙ now.3)
+    (sym (give_range-none c.args.space now.0 c.args.first c.args.count
+    (λ p low high. sym (now.2.places_are c.args.space p) ∙ ap (λ ps. place_in ps c.args.space p) (sym c.deref.ensures.value)
+    ∙ c.in_default.ensures.none p (bounds_in c.args.first c.args.count p low high))) ∙ now.3)
     now.2

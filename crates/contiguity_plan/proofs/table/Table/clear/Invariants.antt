@@ -10,7 +10,8 @@ abbrev pub invariant-loop-page : goal.invariant-loop-page
 invariant-loop-page l = record {
   spaces : length l.self.places.items ≡ length l.fn.self.places.items;
   right : (frames processors : ℕ) (st : FrameState) → IsSound frames processors st → IsRight st l.fn.self
-      → (now : FrameState) × IsSound frames processors now × IsRight now l.self × (give_range now l.space l.first l.count ≡ give_range st l.space l.first l.count);
+      → (now : FrameState) × IsSound frames processors now × IsRight now l.self
+      × (give_range now l.space l.first l.count ≡ give_range st l.space l.first l.count);
 }
 
 abbrev pub decreases-loop-page : goal.decreases-loop-page

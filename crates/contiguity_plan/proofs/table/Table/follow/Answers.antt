@@ -18,7 +18,8 @@ loop-place-preserved c = record {
       let known : i < length history = omega arith in
       let before = legal-before g history i x known legal in
       let may = subst (λ (n : Numbered). MayFollow g (entries_in (take i history)) n.entry) (sym is) before.1 in
-      let more = map_more (λ (n : Numbered). n.entry) history i x known ∙ ap (λ (n : Numbered). entries_in (take i history) ++ n.entry ∷ []) (sym is) in
+      let more = map_more (λ (n : Numbered). n.entry) history i x known
+      ∙ ap (λ (n : Numbered). entries_in (take i history) ++ n.entry ∷ []) (sym is) in
       subst (λ h. IsRight (frames_at g h) c.follow_one.new.self) (sym more)
       (c.in_ok-follow_one.ensures.right g (entries_in (take i history)) before.0 may (c.loop-place.invariant.right g legal start));
 }

@@ -14,4 +14,5 @@ returns-in_ok-step-clause-right c = λ g before legal may right.
     let st = frames_at g before in
     subst (λ s. IsRight s c.step.new.self) (sym (frames_at-named g before e c.if-entry.true))
     (AreRight-counted (moved st e.processor e.space e.what) c.step.new.self.uses.items c.step.new.self.held.items c.step.new.self.places.items
-    (c.in_ok-step.ensures.right g.frames (length g.marks) (mark_of g e.processor) st (IsKept-legal g before legal).sound right (may.by_frames c.if-entry.true)))
+    (c.in_ok-step.ensures.right g.frames (length g.marks) (mark_of g e.processor) st (IsKept-legal g before legal).sound right
+    (may.by_frames c.if-entry.true)))

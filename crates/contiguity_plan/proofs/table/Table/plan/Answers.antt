@@ -15,9 +15,11 @@ returns-in_default c = λ st right first may.
     let t = c.args.self.now in
     planned-nothing st t.uses.items t.held.items t.places.items right c.args.frames c.args.size c.frames_in-count.result may.extent.0 c.frames_in-count.ensures.frames
     (subst (λ (held : List (Option ℕ)). (n : ℕ) → n < c.args.frames / c.frames_in-count.result
-    → emptying (stays t.uses.items held) (has_use t.uses.items) (n * c.frames_in-count.result) c.frames_in-count.result ≡ None) c.deref-2.ensures.value
+    → emptying (stays t.uses.items held) (has_use t.uses.items) (n * c.frames_in-count.result) c.frames_in-count.result
+    ≡ None) c.deref-2.ensures.value
     (subst (λ (uses : List (Option Use)). (n : ℕ) → n < c.args.frames / c.frames_in-count.result
-    → emptying (stays uses c.deref-2.result.now) (has_use uses) (n * c.frames_in-count.result) c.frames_in-count.result ≡ None) c.deref.ensures.value
+    → emptying (stays uses c.deref-2.result.now) (has_use uses) (n * c.frames_in-count.result) c.frames_in-count.result
+    ≡ None) c.deref.ensures.value
     c.in_default.ensures)) first may
 
 pub returns : goal.returns
@@ -27,8 +29,10 @@ returns c = λ st right.
     let best = c.in-Some.best in
     let first = best.number * count in
     let least =
-    subst (λ (held : List (Option ℕ)). IsLeast (λ n. emptying (stays t.uses.items held) (has_use t.uses.items) (n * count) count) (c.args.frames / count) best.number best.cost) c.deref-2.ensures.value
-    (subst (λ (uses : List (Option Use)). IsLeast (λ n. emptying (stays uses c.deref-2.result.now) (has_use uses) (n * count) count) (c.args.frames / count) best.number best.cost) c.deref.ensures.value c.in-Some.ensures) in
+    subst (λ (held : List (Option ℕ)). IsLeast (λ n. emptying (stays t.uses.items held) (has_use t.uses.items) (n * count) count)
+    (c.args.frames / count) best.number best.cost) c.deref-2.ensures.value
+    (subst (λ (uses : List (Option Use)). IsLeast (λ n. emptying (stays uses c.deref-2.result.now) (has_use uses) (n * count) count)
+    (c.args.frames / count) best.number best.cost) c.deref.ensures.value c.in-Some.ensures) in
     let parts = planned-by st t.uses.items t.held.items t.places.items right c.args.frames c.args.size count best.number best.cost
     c.frames_in-count.ensures.level c.frames_in-count.ensures.frames least in
     let pages = c.in_ok-pages.ensures ∙ ap (λ (us : List (Option Use)). pages_in us (range_with_len first count)) c.deref-3.ensures.value in

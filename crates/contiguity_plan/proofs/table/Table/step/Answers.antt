@@ -10,7 +10,8 @@ returns-in-Answer-clause-right c = λ frames processors mark st sound right allo
     let e = c.args.entry.now in
     let may = subst (λ (w : What). FramesAllow st mark e.processor e.space w) c.in-Answer.is allowed in
     subst (λ (w : What). IsRight (moved st e.processor e.space w) c.answer.new.self) (sym c.in-Answer.is)
-    (subst (λ (s : ℕ). AllowsAnswer st s c.in-Answer.call → IsRight (moved_by_answer st s c.in-Answer.call) c.answer.new.self) c.space_of-space.ensures
+    (subst (λ (s : ℕ). AllowsAnswer st s c.in-Answer.call → IsRight
+    (moved_by_answer st s c.in-Answer.call) c.answer.new.self) c.space_of-space.ensures
     (c.answer.ensures.right frames processors st sound right) may)
 
 pub returns-in_ok-take-in-Take-clause-right : goal.returns-in_ok-take-in-Take-clause-right
@@ -20,7 +21,8 @@ returns-in_ok-take-in-Take-clause-right c = λ frames processors mark st sound r
     let want = c.in-Take.want in
     let may = subst (λ (w : What). FramesAllow st mark e.processor e.space w) c.in-Take.is allowed in
     subst (λ (w : What). IsRight (moved st e.processor e.space w) c.take.new.self) (sym c.in-Take.is)
-    (subst (λ (s : ℕ). frame_of st s page ≡ None → IsSomeAnd (take_frame st s page want) (λ t. t.frame ≡ c.in-Take.frame) → IsRight (state_taken st (take_frame st s page want)) c.take.new.self)
+    (subst (λ (s : ℕ). frame_of st s page ≡ None → IsSomeAnd (take_frame st s page want) (λ t. t.frame ≡ c.in-Take.frame)
+    → IsRight (state_taken st (take_frame st s page want)) c.take.new.self)
     c.space_of-space.ensures (c.in_ok-take-in-Take.ensures.right frames processors st sound right) may.0 may.2)
 
 pub returns-in-Give-clause-right : goal.returns-in-Give-clause-right
@@ -30,7 +32,8 @@ returns-in-Give-clause-right c = λ frames processors mark st sound right allowe
     let may = subst (λ (w : What). FramesAllow st mark e.processor e.space w) c.in-Give.is allowed in
     subst (λ (w : What). IsRight (moved st e.processor e.space w) c.give.new.self) (sym c.in-Give.is)
     (subst (λ s. IsRight s c.give.new.self) (give_if_used-some st (named_space e.space) page c.in-Give.frame may)
-    (subst (λ (s : ℕ). IsRight (give_if_used s st page) c.give.new.self) c.space_of-space.ensures (c.give.ensures.right frames processors st sound right)))
+    (subst (λ (s : ℕ). IsRight (give_if_used s st page) c.give.new.self) c.space_of-space.ensures
+    (c.give.ensures.right frames processors st sound right)))
 
 pub returns-in-Clear-clause-right : goal.returns-in-Clear-clause-right
 returns-in-Clear-clause-right c = λ frames processors mark st sound right allowed.
@@ -47,5 +50,6 @@ returns-in_ok-use_held-in-UseHeld-clause-right c = λ frames processors mark st 
     let may = subst (λ (w : What). FramesAllow st mark e.processor e.space w) c.in-UseHeld.is allowed in
     let left = dropped st e.processor in
     subst (λ (w : What). IsRight (moved st e.processor e.space w) c.use_held.new.self) (sym c.in-UseHeld.is)
-    (subst (λ (s : ℕ). frame_of st s page ≡ None → IsSomeAnd (take_frame left s page want) (λ t. t.frame ≡ c.in-UseHeld.frame) → IsRight (state_taken left (take_frame left s page want)) c.use_held.new.self)
+    (subst (λ (s : ℕ). frame_of st s page ≡ None → IsSomeAnd (take_frame left s page want) (λ t. t.frame ≡ c.in-UseHeld.frame)
+    → IsRight (state_taken left (take_frame left s page want)) c.use_held.new.self)
     c.space_of-space.ensures (c.in_ok-use_held-in-UseHeld.ensures.right frames processors st sound right) may.0 may.2)

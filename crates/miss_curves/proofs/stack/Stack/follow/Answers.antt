@@ -8,5 +8,6 @@ use Rattle.miss_curves.proofs.stack.Stack.follow.Goals as goal
 pub returns-clause-stands : goal.returns-clause-stands
 returns-clause-stands g c = λ z st e followers told stands.
     let test = is_tile_in z (pages_after st e.frames e.what) in
-    let same : c.step.new.self ≡ kept_after test c.args.used c.args.self.now = c.step.ensures.after (is_tile_in z (pages_of st)) test told.tiles stands.tiles in
+    let same : c.step.new.self ≡ kept_after test c.args.used c.args.self.now =
+    c.step.ensures.after (is_tile_in z (pages_of st)) test told.tiles stands.tiles in
     rw same (stands-again z st e followers c.args.self.now c.args.used c.step.ensures.long told.used_page stands)

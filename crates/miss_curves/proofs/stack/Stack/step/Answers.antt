@@ -17,7 +17,16 @@ invariant_of-self g c =
     let places = with_items_is before.places c.follow_use-place.new.places places_long in
     let found = with_items_is before.found c.count.new.found found_long in
     record {
-      long = omega (arith, ap length found, ap length places, places_long, found_long, before.places.ok.0, before.found.ok.0, c.self.invariant.long);
+      long = omega (
+        arith,
+        ap length found,
+        ap length places,
+        places_long,
+        found_long,
+        before.places.ok.0,
+        before.found.ok.0,
+        c.self.invariant.long,
+      );
       within = omega (arith, ap sum found, c.count.ensures.more, ap sum c.deref_mut-in-Some.ensures.value, c.self.invariant.within);
       distinct = subst AreDistinct (sym places) c.follow_use-place.ensures.distinct;
     }
@@ -31,7 +40,8 @@ invariant_of-self-in-None g c =
       long = omega (arith, ap length places, places_long, before.places.ok.0, c.self.invariant.long);
       within = c.self.invariant.within;
       distinct = subst AreDistinct (sym places)
-          (distinct-fewer c.deref_mut-in-None.result.now c.retain.new.places (rw c.deref_mut-in-None.ensures.value c.self.invariant.distinct) c.retain.ensures.fewer);
+          (distinct-fewer c.deref_mut-in-None.result.now c.retain.new.places
+          (rw c.deref_mut-in-None.ensures.value c.self.invariant.distinct) c.retain.ensures.fewer);
     }
 
 pub returns-in-Some-clause-after : goal.returns-in-Some-clause-after
@@ -40,7 +50,8 @@ returns-in-Some-clause-after g c = λ was test told all.
     let now = c.args.self.now in
     let u = c.in-Some.used in
     let row : c.deref_mut.result.now ≡ now.places = c.deref_mut.ensures.value ∙ ap (λ (k : Kept). k.places) c.self.view_is in
-    let counts : c.deref_mut-in-Some.result.now ≡ now.found = c.deref_mut-in-Some.ensures.value ∙ ap (λ (k : Kept). k.found) c.self.view_is in
+    let counts : c.deref_mut-in-Some.result.now ≡ now.found = c.deref_mut-in-Some.ensures.value
+    ∙ ap (λ (k : Kept). k.found) c.self.view_is in
     kept_used test now c.args.used u _ _ _ c.in-Some.is
     (with_items_is before.places c.follow_use-place.new.places (search rules)
     ∙ c.follow_use-place.ensures.after was test told (subst (All (Passes was)) (sym row) all)
@@ -52,8 +63,10 @@ returns-in-Some-clause-after g c = λ was test told all.
 pub returns-in-None-clause-after : goal.returns-in-None-clause-after
 returns-in-None-clause-after g c = λ was test told all.
     let now = c.args.self.now in
-    let row : c.deref_mut-in-None.result.now ≡ now.places = c.deref_mut-in-None.ensures.value ∙ ap (λ (k : Kept). k.places) c.self.view_is in
+    let row : c.deref_mut-in-None.result.now ≡ now.places = c.deref_mut-in-None.ensures.value
+    ∙ ap (λ (k : Kept). k.places) c.self.view_is in
     kept_unused test now c.args.used _ _ _ c.in-None.is
-    (with_items_is c.self.inside.places c.retain.new.places (search rules) ∙ c.retain.ensures.kept was test told (subst (All (Passes was)) (sym row) all)
+    (with_items_is c.self.inside.places c.retain.new.places (search rules)
+    ∙ c.retain.ensures.kept was test told (subst (All (Passes was)) (sym row) all)
     ∙ ap (map (kept_at test)) row)
     (ap (λ (k : Kept). k.found) c.self.view_is) (ap (λ (k : Kept). k.uses) c.self.view_is)

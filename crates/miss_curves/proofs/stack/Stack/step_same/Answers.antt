@@ -14,7 +14,16 @@ invariant_of-self c =
     let places = with_items_is before.places c.follow_use_same-place.new.places places_long in
     let found = with_items_is before.found c.count.new.found found_long in
     record {
-      long = omega (arith, ap length found, ap length places, places_long, found_long, before.places.ok.0, before.found.ok.0, c.self.invariant.long);
+      long = omega (
+        arith,
+        ap length found,
+        ap length places,
+        places_long,
+        found_long,
+        before.places.ok.0,
+        before.found.ok.0,
+        c.self.invariant.long,
+      );
       within = omega (arith, ap sum found, c.count.ensures.more, ap sum c.deref_mut-in-Some.ensures.value, c.self.invariant.within);
       distinct = subst AreDistinct (sym places) c.follow_use_same-place.ensures.distinct;
     }

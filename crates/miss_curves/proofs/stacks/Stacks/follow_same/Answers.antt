@@ -13,10 +13,22 @@ returns-in-Some-clause-stands c = λ g' history told stands.
     let tells = in_some _ c.args.entry.now.space s c.in-Some.is told in
     let before = subst (λ k. StandAfter g' k history) (sym c.self.view_is) stands in
     record {
-      tiles = StandEach-followed g'.sizes g' history c.args.entry.now s c.self.inside.tiles.items c.index_mut.result.now c.follow_same.new.self (search rules) c.in-Some.is (search rules)
-          (c.follow_same.ensures.stands g'.sizes (space_at g' history s) c.args.entry.now (followed g'.sizes g' s (space_part s history)) tells.0) before.tiles;
-      pages = StandEach-followed base_alone g' history c.args.entry.now s c.self.inside.pages.items c.index_mut-in-Some.result.now c.follow_same-in-Some.new.self (search rules) c.in-Some.is (search rules)
-          (c.follow_same-in-Some.ensures.stands base_alone (space_at g' history s) c.args.entry.now (followed base_alone g' s (space_part s history)) tells.1) before.pages;
+      tiles = StandEach-followed g'.sizes g' history c.args.entry.now s c.self.inside.tiles.items c.follow_same.new.self
+          (search rules) c.in-Some.is (
+            c.index_mut.result.now,
+            search rules,
+            c.follow_same.ensures.stands g'.sizes (space_at g' history s) c.args.entry.now
+                (followed g'.sizes g' s (space_part s history)) tells.0,
+          )
+          before.tiles;
+      pages = StandEach-followed base_alone g' history c.args.entry.now s c.self.inside.pages.items c.follow_same-in-Some.new.self
+          (search rules) c.in-Some.is (
+            c.index_mut-in-Some.result.now,
+            search rules,
+            c.follow_same-in-Some.ensures.stands base_alone (space_at g' history s) c.args.entry.now
+                (followed base_alone g' s (space_part s history)) tells.1,
+          )
+          before.pages;
     }
 
 pub returns-in_default-clause-stands : goal.returns-in_default-clause-stands

@@ -1,0 +1,51 @@
+-- How a source, a sink and stores are seen, and how a call that reads and writes left them.
+use Rattle.std.specs.Prelude.{ℕ, List, Option}
+use Rattle.pager_core.specs.declared.run_parts.Gathered.{Gathered}
+use Rattle.pager_model.specs.Plans.{Plan}
+use Rattle.pager_model.specs.Stored.{Stored}
+use Rattle.pager_command.specs.declared.outcome.Outcome.{Outcome}
+
+-- How a sink and a store are seen: a sink tells its bytes by `taken` and its faults by `writes`, and a store itself by `seen`.
+pub record OutViews (K P : Type 0) : Type 0 where
+  pub taken : K → Option (List ℕ)
+  pub writes : K → ℕ
+  pub seen : P → Stored
+
+-- How a source is seen beside them: it tells its bytes by `left` and its faults by `reads`.
+pub record Views (T K P : Type 0) : Type 0 where
+  pub left : T → Option (List ℕ)
+  pub reads : T → ℕ
+  pub out : OutViews K P
+
+abbrev pub out_views : {K P : Type 0} (taken : K → Option (List ℕ)) (writes : K → ℕ) (seen : P → Stored) → OutViews K P
+out_views taken writes seen = record { taken = taken; writes = writes; seen = seen }
+
+abbrev pub views : {T K P : Type 0}
+    → (T → Option (List ℕ)) → (T → ℕ) → (K → Option (List ℕ)) → (K → ℕ) → (P → Stored) → Views T K P
+views left reads taken writes seen = record { left = left; reads = reads; out = out_views taken writes seen }
+
+-- The two ends of a run: where it reads and where it writes.
+pub record Ends (T K : Type 0) : Type 0 where
+  pub source : T
+  pub sink : K
+
+abbrev pub ends : {T K : Type 0} (source : T) (sink : K) → Ends T K
+ends source sink = record { source = source; sink = sink }
+
+-- How a call that writes ended: the sink before and after it, and the outcome.
+pub record Ending (K P : Type 0) : Type 0 where
+  pub before : K
+  pub after : K
+  pub outcome : Outcome P
+
+abbrev pub ending : {K P : Type 0} (before after : K) (outcome : Outcome P) → Ending K P
+ending before after outcome = record { before = before; after = after; outcome = outcome }
+
+-- A replay: the trace, the stores as they were before it, and what was gathered of it.
+pub record Replayed (P : Type 0) : Type 0 where
+  pub plan : Plan
+  pub stores : List Stored
+  pub gathered : Gathered P
+
+abbrev pub replayed : {P : Type 0} (plan : Plan) (stores : List Stored) (gathered : Gathered P) → Replayed P
+replayed plan stores gathered = record { plan = plan; stores = stores; gathered = gathered }
