@@ -26,12 +26,15 @@ pub popped : (spare rest : List Framed) (frame : Framed) → spare ≡ map zero_
 popped spare rest frame lowest ends =
     let count : length spare ≡ length rest + 1 = ap length ends ∙ length-append rest (frame ∷ []) in
     let at : (i : ℕ) → i < length rest + 1 → get_or spare i frame ≡ zero_frame i = λ i within.
-    ap (λ (xs : List Framed). get_or xs i frame) lowest ∙ get_or-map-range_with_len zero_frame 0 (length spare) i i frame (omega arith) (omega arith) in
-    let last : get_or spare (length rest) frame ≡ frame = ap (λ (xs : List Framed). get_or xs (length rest) frame) ends ∙ get_or_at rest frame [] frame (length rest) refl in
+    ap (λ (xs : List Framed). get_or xs i frame) lowest ∙ get_or-map-range_with_len zero_frame 0 (length spare) i i frame (omega arith)
+    (omega arith) in
+    let last : get_or spare (length rest) frame ≡ frame = ap (λ (xs : List Framed). get_or xs (length rest) frame) ends
+    ∙ get_or_at rest frame [] frame (length rest) refl in
     record {
       number = ap (λ (f : Framed). f.number) (sym last ∙ at (length rest) (omega arith));
       lowest = fill_by_all zero_frame rest (length rest) frame refl (λ k within.
-          sym (get_or_append_left rest (frame ∷ []) frame k within) ∙ ap (λ (xs : List Framed). get_or xs k frame) (sym ends) ∙ at k (omega arith));
+          sym (get_or_append_left rest (frame ∷ []) frame k within) ∙ ap (λ (xs : List Framed). get_or xs k frame) (sym ends)
+          ∙ at k (omega arith));
       count = count;
     }
 
@@ -51,21 +54,43 @@ lowest_spare z s spare n lowest count processors resting stands =
     }
 
 -- the frames that are left are spare
-pub rest_spare : (kept : Kept) (spare rest : List Framed) (frame : Framed) → IsPopped spare rest frame → HasSpare kept spare → HasSpare kept rest
+pub rest_spare : (kept : Kept) (spare rest : List Framed) (frame : Framed) → IsPopped spare rest frame → HasSpare kept spare
+    → HasSpare kept rest
 rest_spare kept spare rest frame last had =
-    record { resting = had.resting; processors = had.processors; state = had.state; stands = had.stands; lowest = last.lowest; few = omega (arith, last, had.few); apart = λ p number has. omega (arith, last, had.apart p number has) }
+    record {
+      resting = had.resting;
+      processors = had.processors;
+      state = had.state;
+      stands = had.stands;
+      lowest = last.lowest;
+      few = omega (arith, last, had.few);
+      apart = λ p number has. omega (arith, last, had.apart p number has);
+    }
 
 -- frames are still spare where no page has another
 pub still_spare : (old new : Kept) (spare : List Framed) (state : SpaceState) → IsResting new → StandsFor new state
     → new.frames ≡ old.frames → length new.images ≡ length old.images
     → ((p number : ℕ) → frame_at new p ≡ Some number → frame_at old p ≡ Some number) → HasSpare old spare → HasSpare new spare
 still_spare old new spare state resting stands count processors kept had =
-    record { resting = resting; processors = processors ∙ had.processors; state = state; stands = stands; lowest = had.lowest; few = omega (arith, had.few, count); apart = λ p number has. had.apart p number (kept p number has) }
+    record {
+      resting = resting;
+      processors = processors ∙ had.processors;
+      state = state;
+      stands = stands;
+      lowest = had.lowest;
+      few = omega (arith, had.few, count);
+      apart = λ p number has. had.apart p number (kept p number has);
+    }
 
 -- a page that gives its frame up has none of them
-pub kept_others : (old new : Kept) (page frame : ℕ) → GaveUp old new page frame → (p number : ℕ) → frame_at new p ≡ Some number → frame_at old p ≡ Some number
+pub kept_others : (old new : Kept) (page frame : ℕ) → GaveUp old new page frame → (p number : ℕ) → frame_at new p ≡ Some number
+    → frame_at old p ≡ Some number
 kept_others old new page frame gave p number has =
-    elim (cases_eq p page) [ inl e ↦ absurd (none-some number (sym gave.gone ∙ ap (frame_at new) (sym e) ∙ has)) | inr n ↦ sym (gave.same_others p n) ∙ has ]
+    elim (cases_eq p page) [
+      | inl e ↦ absurd (none-some number (sym gave.gone ∙ ap (frame_at new) (sym e) ∙ has))
+      | inr n ↦
+          sym (gave.same_others p n) ∙ has
+    ]
 
 -- Some pages of the range gave their frames up, and no entry says so yet.
 pub record ClearsBut (first len : ℕ) (old new : Kept) : Type 0 where
@@ -92,13 +117,26 @@ clears_one_more first len page frame old mid new so_far one =
 -- a region that is there is still there
 pub range_again : (first len : ℕ) (old new : Kept) → SameRegions old new → IsRange old first len → IsRange new first len
 range_again first len old new same range =
-    record { region = range.region; at = ap (λ (rs : List Region). region_at rs first) same.regions ∙ range.at; first_is = range.first_is; length_is = range.length_is; in_space = range.in_space }
+    record {
+      region = range.region;
+      at = ap (λ (rs : List Region). region_at rs first) same.regions
+          ∙ range.at;
+      first_is = range.first_is;
+      length_is = range.length_is;
+      in_space = range.in_space;
+    }
 
 -- no page of the range is resident any more, so its region can be taken away
 pub may_unmap : (first len : ℕ) (mid new : Kept) → IsRange mid first len → ClearsNone mid new first len
-    → (r : Region) × (region_at new.regions first ≡ Some r) × (new.clearing ≡ Some (range_of r.first r.length)) × NoneResident new r.first r.length
-may_unmap first len mid new range none =
-    (range.region, ap (λ (rs : List Region). region_at rs first) none.same.same.regions ∙ range.at, rw (range.first_is, range.length_is) none.clearing, rw (range.first_is, range.length_is) none.none)
+    → (r : Region) × (region_at new.regions first ≡ Some r) × (new.clearing ≡ Some (range_of r.first r.length))
+    × NoneResident new r.first r.length
+may_unmap first len mid new range none = (
+  range.region,
+  ap (λ (rs : List Region). region_at rs first) none.same.same.regions
+      ∙ range.at,
+  rw (range.first_is, range.length_is) none.clearing,
+  rw (range.first_is, range.length_is) none.none,
+)
 
 left_base : (b : Bool) (o : Option ℕ) (number : ℕ) → (if b then None else o) ≡ Some number → o ≡ Some number
 left_base true o number h = absurd (none-some number h)

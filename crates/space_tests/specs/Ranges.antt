@@ -1,5 +1,6 @@
 -- The range of a region.
 use Rattle.std.specs.Prelude.{ℕ, ◌≡◌, ◌+◌, ◌≤◌, Some}
+use Rattle.pager_model.specs.Bounds.{space_pages}
 use Rattle.pager_model.specs.declared.region.Region.{Region}
 use Rattle.pager_model.specs.Regions.{region_at}
 use Rattle.space_core.specs.Standing.{Kept}
@@ -10,4 +11,4 @@ pub record IsRange (kept : Kept) (first len : ℕ) : Type 0 where
   pub at : region_at kept.regions first ≡ Some region
   pub first_is : region.first ≡ first
   pub length_is : region.length ≡ len
-  pub in_space : first + len ≤ 1048576
+  pub in_space : first + len ≤ space_pages

@@ -18,14 +18,16 @@ use Rattle.pager_model.proofs.Histories.{progress_from-append}
 
 answered : (g : Given) (c n : ℕ) (entries : List Entry) → progress_in g c entries ≡ Some (at_rest 0 n)
     → progress_by (progress_in g c entries) (unmapped c n) ≡ Some (at_rest 0 (n + 1))
-answered g c n entries progress = ap (λ p. progress_by p (unmapped c n)) progress ∙ ap (λ (b : Bool). cond (b && true) (Some (at_rest 0 (n + 1))) None) (eq-eqb n n refl)
+answered g c n entries progress = ap (λ p. progress_by p (unmapped c n)) progress
+    ∙ ap (λ (b : Bool). cond (b && true) (Some (at_rest 0 (n + 1))) None) (eq-eqb n n refl)
 
 -- the next answer keeps the order
 pub answer_next : (j : JournalName) (c n : ℕ) (a : AuthorState) (p : PassState) (e : Entry) → Filled j c n a p → e ≡ unmapped c n
     → KeepsOrder p.journal.setting (entries_in p.entries) e
 answer_next j c n a p e f is =
     subst (KeepsOrder p.journal.setting (entries_in p.entries)) (sym is)
-    (subst (λ (k : JournalName). KeepsOrder k.setting (entries_in p.entries) (unmapped c n)) (sym f.pass_of) (at_rest 0 (n + 1), answered j.setting c n (entries_in p.entries) f.progress))
+    (subst (λ (k : JournalName). KeepsOrder k.setting (entries_in p.entries) (unmapped c n)) (sym f.pass_of)
+    (at_rest 0 (n + 1), answered j.setting c n (entries_in p.entries) f.progress))
 
 allowed_empty : (st : SpaceState) (c n : ℕ) → IsEmptySpace st → SpaceAllows st (unmapped c n)
 allowed_empty st c n is = (
@@ -38,18 +40,21 @@ pub answer_allowed : (j : JournalName) (c n : ℕ) (a : AuthorState) (p : PassSt
     → AllowedAfter a.journal.setting a.entries e
 answer_allowed j c n a p e f is =
     subst (AllowedAfter a.journal.setting a.entries) (sym is)
-    (subst (λ (k : JournalName). AllowedAfter k.setting a.entries (unmapped c n)) (sym f.author_of) (allowed_empty (state_of_space j.setting c a.entries) c n f.space, λ frames. absurd (true≢false (sym frames))))
+    (subst (λ (k : JournalName). AllowedAfter k.setting a.entries (unmapped c n)) (sym f.author_of)
+    (allowed_empty (state_of_space j.setting c a.entries) c n f.space, λ frames. absurd (true≢false (sym frames))))
 
 still_empty : (g : Given) (entries : List Entry) (c n : ℕ) (e : Entry) → e ≡ unmapped c n → IsEmptySpace (state_of_space g c entries)
     → IsEmptySpace (state_of_space g c (entries ++ e ∷ []))
 still_empty g entries c n e what is =
-    subst IsEmptySpace (sym (fold-append space_after (state_of_space g c []) entries (e ∷ []) ∙ ap (space_after (state_of_space g c entries)) what))
+    subst IsEmptySpace (sym (fold-append space_after (state_of_space g c []) entries (e ∷ [])
+    ∙ ap (space_after (state_of_space g c entries)) what))
     (record { flat = ap (λ f. after_call f (Load c 0)) is.flat; next = refl })
 
 pub filled_more : (j : JournalName) (c n place : ℕ) (a b : AuthorState) (p q : PassState) (e : Entry) → Filled j c n a p → e ≡ unmapped c n
     → b ≡ written a e → q ≡ kept p place e → Filled j c (n + 1) b q
 filled_more j c n place a b p q e f is author pass =
-    subst (λ (x : AuthorState). Filled j c (n + 1) x q) (sym author) (subst (λ (x : PassState). Filled j c (n + 1) (written a e) x) (sym pass) (record {
+    subst (λ (x : AuthorState). Filled j c (n + 1) x q) (sym author) (subst (λ (x : PassState). Filled j c (n + 1) (written a e) x)
+    (sym pass) (record {
       author_of = f.author_of;
       part = f.part;
       space = still_empty j.setting a.entries c n e is f.space;

@@ -3,6 +3,7 @@
 mod histories;
 mod history;
 mod reader;
+mod rooms;
 mod stores;
 mod streams;
 mod texts;

@@ -8,6 +8,7 @@ mod populations;
 mod preferences;
 mod regions;
 mod reserved;
+mod rooms;
 mod types;
 mod victims;
 

@@ -2,7 +2,7 @@
 
 ghost use Rattle.std.specs.Prelude.{◌<◌};
 ghost use Rattle.pager_model.specs.PreferredSize.{IsWanted};
-ghost use Rattle.frame_pool.specs.Spaces.{most_spaces};
+ghost use Rattle.pager_model.specs.Bounds.{most_spaces};
 
 use super::PLAIN;
 use super::calls::{Answer, Call, Page};

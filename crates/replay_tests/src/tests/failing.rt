@@ -1,4 +1,4 @@
-//! Runs over stores that fail, with few frames left, of which some have a daemon: each failure that is answered is one that the call met, and
+//! Runs over stores that fail, with few frames left, some beside a daemon too: each failure that is answered is one that the call met, and
 //! the daemon makes all its turns.
 ghost use Rattle.std.specs.Prelude.{◌^◌, ◌<◌};
 
@@ -14,6 +14,9 @@ use store_core::{MemoryStore, Store};
 
 /// How many runs are drawn.
 const RUNS: u64 = 50;
+
+/// How many of them are made beside a daemon too.
+const BESIDE: u64 = 26;
 
 /// How many pages all processors touch at first: more than there are frames.
 const PAGES: u32 = 540;
@@ -47,13 +50,13 @@ struct Shape {
     ghost some_pages: { 0 < pages },
 }
 
-fn draw_shape(random: &mut Generator) -> Shape {
+fn draw_shape(random: &mut Generator, daemon: bool) -> Shape {
     let processors = 2 + random.draw(5);
     Shape {
         processors,
         spaces: 1 + random.draw(3),
         pages: PAGES / processors,
-        daemon: random.draw(2) == 0,
+        daemon,
     }
 }
 
@@ -235,14 +238,15 @@ fn turns_of(daemon: u32, history: &History) -> usize {
         .count()
 }
 
-/// The run of a seed: its history, and what it has.
+/// The run of a seed, beside a daemon where it is asked for: its history, and what it has.
 fn run_drawn<R: Abort + Threads + Wait + Sync>(
     rt: &R,
     alloc: Global,
     seed: u64,
+    daemon: bool,
 ) -> Result<(History, Shape), Fail> {
     let mut random = Generator::of(seed);
-    let shape = draw_shape(&mut random);
+    let shape = draw_shape(&mut random, daemon);
     let text = draw_text(alloc, shape, &mut random)?;
     let stores = draw_stores(alloc, shape.spaces, &mut random)?;
     let trace = read_text(alloc, text.as_str())?;
@@ -250,18 +254,32 @@ fn run_drawn<R: Abort + Threads + Wait + Sync>(
     Ok((gathered.history, shape))
 }
 
+/// Asserts that in the run of a seed each failure that is answered is one that its call met, and a daemon makes all its turns.
+fn assert_answered<R: Abort + Threads + Wait + Sync>(
+    rt: &R,
+    alloc: Global,
+    seed: u64,
+    daemon: bool,
+) -> Result<(), Fail> {
+    let (history, shape) = run_drawn(rt, alloc, seed, daemon)?;
+    let answered = count_failures(rt, &history);
+    // The first read of each store fails.
+    assert!(rt; answered >= shape.spaces, "seed {seed}");
+    let turns = turns_of(shape.processors, &history);
+    let wanted = if daemon { TURNS } else { 0 };
+    assert_eq!(rt; turns, wanted, "seed {seed}");
+    Ok(())
+}
+
 #[test]
 fn a_failure_is_answered_where_the_call_met_it_beside_a_daemon_too(
     rt: HostRuntime,
 ) -> Result<(), Fail> {
     for seed in 0..RUNS {
-        let (history, shape) = run_drawn(&rt, rt.alloc(), seed)?;
-        let answered = count_failures(&rt, &history);
-        // The first read of each store fails.
-        assert!(rt; answered >= shape.spaces, "seed {seed}");
-        let turns = turns_of(shape.processors, &history);
-        let wanted = if shape.daemon { TURNS } else { 0 };
-        assert_eq!(rt; turns, wanted, "seed {seed}");
+        assert_answered(&rt, rt.alloc(), seed, false)?;
+    }
+    for seed in 0..BESIDE {
+        assert_answered(&rt, rt.alloc(), seed, true)?;
     }
     Ok(())
 }

@@ -16,11 +16,13 @@ pub(super) fn sink_of(rt: &impl Abort, alloc: Global, limit: usize, failing: u64
     MemorySink::of(room, limit, failing)
 }
 
-/// What a read into four bytes gave, behind it zeros. None where it failed.
-fn given<S: Source>(source: &mut S) -> Option<[u8; 4]> {
+/// How many bytes a read into four gave, and these, behind them zeros. None where it failed.
+type Given = Option<(usize, [u8; 4])>;
+
+fn given<S: Source>(source: &mut S) -> Given {
     let mut into = [0u8; 4];
-    source.read(&mut into).ok()?;
-    Some(into)
+    let count = source.read(&mut into).ok()?;
+    Some((count, into))
 }
 
 /// How many bytes of the piece a write took, and none where it failed.

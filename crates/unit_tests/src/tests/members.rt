@@ -11,6 +11,9 @@ use std::process::Abort;
 /// How many frames there are.
 const DRAWN: u32 = 4096;
 
+/// Of how many of them rows are drawn: of few, so that many come in again.
+const FEW: u32 = 256;
+
 /// The lists, with a mark for each frame that has a member.
 #[derive(Drop)]
 struct Marked {
@@ -132,7 +135,7 @@ fn draw_row(random: &mut Generator) -> Row {
     Row {
         level: random.draw(3) as u8,
         stamp: u64::from(random.draw(8)),
-        frame: random.draw(DRAWN),
+        frame: random.draw(FEW),
     }
 }
 

@@ -2,7 +2,8 @@ use Rattle.space_tests.proofs.SpareFrames.{clears_one_more, range_again, may_unm
 use Rattle.space_tests.proofs.tests.clear.Goals as goal
 
 pub unmap-requires-clause-cleared : goal.unmap-requires-clause-cleared
-unmap-requires-clause-cleared c κs = may_unmap c.args.first c.args.length c.loop.space c.clear_next.new.self c.loop.invariant.range c.in_default.ensures.none
+unmap-requires-clause-cleared c κs =
+    may_unmap c.args.first c.args.length c.loop.space c.clear_next.new.self c.loop.invariant.range c.in_default.ensures.none
 
 pub returns-in_default-clause-spare : goal.returns-in_default-clause-spare
 returns-in_default-clause-spare c spare had =
@@ -11,4 +12,7 @@ returns-in_default-clause-spare c spare had =
 pub loop-preserved : goal.loop-preserved
 loop-preserved c =
     let one = c.in-Some.ensures.some in
-    record { range = range_again c.args.first c.args.length c.loop.space _ one.gave.same c.loop.invariant.range; clears = clears_one_more c.args.first c.args.length _ _ _ c.loop.space _ c.loop.invariant.clears one }
+    record {
+      range = range_again c.args.first c.args.length c.loop.space _ one.gave.same c.loop.invariant.range;
+      clears = clears_one_more c.args.first c.args.length _ _ _ c.loop.space _ c.loop.invariant.clears one;
+    }

@@ -22,7 +22,8 @@ returns-in-Answered-clause-spare c =
     let spare = c.requires.spare in
     let answered = c.in-Answered.ensures in
     let stands = answered.answers.stands spare.state spare.stands 0 in
-    still_spare _ _ _ _ answered.resting stands answered.same_frames answered.same_processors (λ p number has. sym (spare.stands.base p) ∙ sym (base-unnamed spare.state.base c.args.call.now p) ∙ stands.base p ∙ has) spare
+    still_spare _ _ _ _ answered.resting stands answered.same_frames answered.same_processors
+    (λ p number has. sym (spare.stands.base p) ∙ sym (base-unnamed spare.state.base c.args.call.now p) ∙ stands.base p ∙ has) spare
 
 pub returns-in-Ok-clause-spare : goal.returns-in-Ok-clause-spare
 returns-in-Ok-clause-spare c =
@@ -32,17 +33,38 @@ returns-in-Ok-clause-spare c =
     let stands : StandsFor c.begin.new.self spare.state = rw begun spare.stands in
     let placed = c.place.ensures.stands spare.state 0 c.in-NeedsFrame.want stands in
     let read = c.in-Ok.ensures.read in
-    let same : (p : ℕ) → frame_at c.finish.new.self p ≡ frame_at c.place.new.self p = λ p. c.finish.ensures.same.frame p ∙ read.same.frame p in
+    let same : (p : ℕ) → frame_at c.finish.new.self p ≡ frame_at c.place.new.self p = λ p. c.finish.ensures.same.frame p
+    ∙ read.same.frame p in
     record {
       resting = c.finish.ensures.resting;
-      processors = omega (arith, spare.processors, c.finish.ensures.same.same.processors, read.same.same.processors, c.place.ensures.same.processors, ap (λ (k : Kept). length k.images) begun);
+      processors = omega (
+        arith,
+        spare.processors,
+        c.finish.ensures.same.same.processors,
+        read.same.same.processors,
+        c.place.ensures.same.processors,
+        ap (λ (k : Kept). length k.images) begun,
+      );
       state = _;
       stands = c.finish.ensures.answers.stands _ (read.stands _ placed) 0;
       lowest = last.lowest;
-      few = omega (arith, last, spare.few, c.finish.ensures.same.same.frames, read.same.same.frames, c.place.ensures.same.frames, ap (λ (k : Kept). k.frames) begun);
+      few = omega (
+        arith,
+        last,
+        spare.few,
+        c.finish.ensures.same.same.frames,
+        read.same.same.frames,
+        c.place.ensures.same.frames,
+        ap (λ (k : Kept). k.frames) begun,
+      );
       apart = λ p number has. elim (cases_eq p c.in-NeedsFrame.page) [
         | inl e ↦ omega (arith, last, same_Some _ _ (sym (same p ∙ ap (frame_at c.place.new.self) e ∙ c.place.ensures.resident) ∙ has))
-        | inr n ↦ omega (arith, last, spare.apart p number (sym (same p ∙ c.place.ensures.same_others p n ∙ ap (λ (k : Kept). frame_at k p) begun) ∙ has))
+        | inr n ↦ omega (
+          arith,
+          last,
+          spare.apart p number
+              (sym (same p ∙ c.place.ensures.same_others p n ∙ ap (λ (k : Kept). frame_at k p) begun) ∙ has),
+        )
       ];
     }
 
@@ -60,7 +82,8 @@ returns-in-Err-clause-spare c =
     (gave.same.processors ∙ failed.same.same.processors ∙ c.place.ensures.same.processors ∙ ap (λ (k : Kept). length k.images) begun)
     (λ p number has. elim (cases_eq p c.in-NeedsFrame.page) [
       | inl e ↦ absurd (none-some number (sym gave.gone ∙ ap (frame_at c.remove.new.self) (sym e) ∙ has))
-      | inr n ↦ sym (gave.same_others p n ∙ failed.same.frame p ∙ c.place.ensures.same_others p n ∙ ap (λ (k : Kept). frame_at k p) begun) ∙ has
+      | inr n ↦ sym (gave.same_others p n ∙ failed.same.frame p ∙ c.place.ensures.same_others p n ∙ ap (λ (k : Kept). frame_at k p) begun)
+          ∙ has
     ])
     (rest_spare _ _ _ _ last spare)
 
@@ -69,6 +92,7 @@ returns-in-NeedsEvict-clause-spare c =
     let spare = c.requires.spare in
     let begun = c.in-NeedsEvict.ensures in
     let evicted = c.evict-frame.ensures in
-    still_spare c.args.space.now _ _ _ evicted.resting (evicted.stands _ (begun.stands spare.state spare.stands) 0 0) (evicted.gave.same.frames ∙ begun.same.same.frames) (evicted.gave.same.processors ∙ begun.same.same.processors)
+    still_spare c.args.space.now _ _ _ evicted.resting (evicted.stands _ (begun.stands spare.state spare.stands) 0 0)
+    (evicted.gave.same.frames ∙ begun.same.same.frames) (evicted.gave.same.processors ∙ begun.same.same.processors)
     (λ p number has. sym (begun.same.frame p) ∙ kept_others _ _ _ _ evicted.gave p number has)
     spare

@@ -1,6 +1,6 @@
 //! A source and a sink in memory, which fail where they are told to.
 use super::super::NO_MEMORY;
-use super::{given, sink_of, taken};
+use super::{Given, given, sink_of, taken};
 use io_core::{MemorySink, MemorySource, Sink};
 use std::alloc::Global;
 use std::process::Abort;
@@ -21,12 +21,12 @@ fn source_of(rt: &impl Abort, alloc: Global, piece: usize, failing: u64) -> Memo
 }
 
 /// What a read gives that a word tells, behind it zeros.
-fn told(word: &str) -> Option<[u8; 4]> {
+fn told(word: &str) -> Given {
     let mut bytes = [0u8; 4];
     for (place, byte) in bytes.iter_mut().zip(word.bytes()) {
         *place = byte;
     }
-    (word != "!").then_some(bytes)
+    (word != "!").then_some((word.len(), bytes))
 }
 
 /// Whether four reads give what a row says.

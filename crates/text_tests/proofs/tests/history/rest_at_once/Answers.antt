@@ -12,7 +12,8 @@ rests : (j : JournalName) (p : PassState) (e : Entry) → j.setting ≡ watched 
     → KeepsOrder p.journal.setting (entries_in p.entries) e
 rests j p e setting pass is =
     subst (λ (x : Entry). KeepsOrder p.journal.setting (entries_in p.entries) x) (sym is)
-    (subst (λ (q : PassState). KeepsOrder q.journal.setting (entries_in q.entries) rest) (sym pass) (subst (λ (g : Given). KeepsOrder g [] rest) (sym setting) (at_rest 2 1, refl)))
+    (subst (λ (q : PassState). KeepsOrder q.journal.setting (entries_in q.entries) rest) (sym pass)
+    (subst (λ (g : Given). KeepsOrder g [] rest) (sym setting) (at_rest 2 1, refl)))
 
 pub commit-frames-requires-clause-order : goal.commit-frames-requires-clause-order
 commit-frames-requires-clause-order c = rests _ _ _ c.requires.setting c.requires.pass c.rest_entry.ensures

@@ -10,7 +10,8 @@ loop-frame-preserved c = λ f id low high.
     elim (cases_eq f frame) [
       | inl here ↦
           let not_here : has_frame frame (reservation_at c.args.kept.now id) ≡ false =
-          false_from_ne_true _ (λ has. let noted = (c.id_of.ensures id).1 has in false≢true (sym c.if-is_some.false ∙ c.is_some.ensures ∙ ap is_some noted)) in
+          false_from_ne_true _ (λ has. let noted = (c.id_of.ensures id).1 has in
+          false≢true (sym c.if-is_some.false ∙ c.is_some.ensures ∙ ap is_some noted)) in
           subst (λ n. has_frame n (reservation_at c.args.kept.now id) ≡ false) (sym here) not_here
       | inr other ↦ c.loop-frame.invariant f id low (omega arith)
     ]

@@ -8,4 +8,9 @@ pub split-requires-clause-room : goal.split-requires-clause-room
 split-requires-clause-room g c =
     let tree = c.args.self.now.tree in
     let whole = c.args.whole.now in
-    omega (arith, extents-most (λ size other. is_split tree size other || is_over size other (whole.size - 1) whole.first) tree.roots, c.args.self.now.roots, c.args.self.now.room)
+    omega (
+      arith,
+      extents-most (λ size other. is_split tree size other || is_over size other (whole.size - 1) whole.first) tree.roots,
+      c.args.self.now.roots,
+      c.args.self.now.room,
+    )

@@ -11,5 +11,7 @@ invariant_of-self c =
     record {
       frames = ap (λ (k : KeptLists). k.frames) c.insert.ensures ∙ was.frames;
       marked = length-set was.marks.items c.args.frame true ∙ was.marked;
-      listed = subst (λ (k : KeptLists). AreMarked (set was.marks.items c.args.frame true) k.lists) (sym c.insert.ensures) (marked_with_member was.marks.items was.lists.lists c.size.result (record { stamp = c.args.stamp; frame = c.args.frame }) (omega (arith, c.requires.known, was.marked)) was.listed);
+      listed = subst (λ (k : KeptLists). AreMarked (set was.marks.items c.args.frame true) k.lists) (sym c.insert.ensures)
+          (marked_with_member was.marks.items was.lists.lists c.size.result (record { stamp = c.args.stamp; frame = c.args.frame })
+          (omega (arith, c.requires.known, was.marked)) was.listed);
     }

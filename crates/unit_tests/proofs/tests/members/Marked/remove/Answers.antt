@@ -11,5 +11,6 @@ invariant_of-self c =
     record {
       frames = ap (λ (k : KeptLists). k.frames) c.remove.ensures ∙ was.frames;
       marked = length-set was.marks.items c.args.frame false ∙ was.marked;
-      listed = subst (λ (k : KeptLists). AreMarked (set was.marks.items c.args.frame false) k.lists) (sym c.remove.ensures) (marked_without was.marks.items c.args.frame was.lists.lists was.listed);
+      listed = subst (λ (k : KeptLists). AreMarked (set was.marks.items c.args.frame false) k.lists) (sym c.remove.ensures)
+          (marked_without was.marks.items c.args.frame was.lists.lists was.listed);
     }
