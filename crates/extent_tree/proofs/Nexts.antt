@@ -56,10 +56,10 @@ pub first_place : {V : Type 0} (t : Arena V) (height place from end : ℕ) → A
 first_place t height place from end order some = order from (omega arith) some ∙ ap Some (omega arith)
 
 -- the parts of that extent
-pub parts_in_order : {V : Type 0} (t : Arena V) (height place page stop node first : ℕ) → height < 3 → stop ≤ page + rest_at height page
-    → place_of t height page ≡ Some place → (spot_at t place).node ≡ Some node → first ≡ t.roots + 8 * node + part_at (height + 1) page
-    → AreInOrder t (height + 1) first page stop
-parts_in_order t height place page stop node first low within at leads is other on before =
+pub parts_in_order : {V : Type 0} (t : Arena V) (height place page stop node : ℕ) → height < 3 → stop ≤ page + rest_at height page
+    → place_of t height page ≡ Some place → (spot_at t place).node ≡ Some node
+    → AreInOrder t (height + 1) (t.roots + 8 * node + part_at (height + 1) page) page stop
+parts_in_order t height place page stop node low within at leads other on before =
     let same = number_within height page other (omega arith) on (omega arith) in
     let up = number_up (suc height) page other (omega arith) on in
     ap (λ h. place_of t h other) (add-one height)
@@ -70,7 +70,6 @@ parts_in_order t height place page stop node first low within at leads is other 
       up,
       number_step height other low,
       number_step height page low,
-      is,
       ap (λ h. part_at h page) (add-one height),
       ap (λ h. number_at h page) (add-one height),
       ap (λ h. number_at h other) (add-one height),
@@ -133,21 +132,19 @@ no_rows_on t top from page end so_far more size other most on before = elim (cas
   | inr later ↦ more size other most later before
 ]
 
--- the next row in the parts of an extent, where it has none itself and there is none before it
-pub next_up : {V : Type 0} (t : Arena V) (height from page stop end : ℕ) (found : Row V) → IsNextRow t (3 - (height + 1)) page stop found
-    → from ≤ page → stop ≤ end → NoRows t (3 - height) from page
-    → ((other : ℕ) → page ≤ other → other < stop → row t (3 - height) other ≡ None) → IsNextRow t (3 - height) from end found
-next_up t height from page stop end found next on before so_far none = record {
-  from_on = omega (arith, next.from_on);
-  before_end = omega (arith, next.before_end);
+-- the next row in the parts of extents, where these have none themselves
+pub next_up : {V : Type 0} (t : Arena V) (height from end : ℕ) (found : Row V) → IsNextRow t (3 - (height + 1)) from end found
+    → ((page : ℕ) → from ≤ page → page < end → row t (3 - height) page ≡ None) → IsNextRow t (3 - height) from end found
+next_up t height from end found next none = record {
+  from_on = next.from_on;
+  before_end = next.before_end;
   low = omega (arith, next.low);
   is = next.is;
   largest = λ size more most. elim (cases_lt size (3 - height)) [
     | inl less ↦ next.largest size more (omega arith)
     | inr not ↦ ap (λ k. row t k found.page) {x = size} {y = 3 - height} (omega arith) ∙ none found.page next.from_on next.before_end
   ];
-  lowest = no_rows_on t (3 - height) from page found.page so_far (no_rows_up t height page found.page next.lowest
-      (λ other low less. none other low (omega (arith, next.before_end))));
+  lowest = no_rows_up t height from found.page next.lowest (λ page low less. none page low (omega (arith, next.before_end)));
 }
 
 -- ---- looks

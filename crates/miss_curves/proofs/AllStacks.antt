@@ -13,8 +13,8 @@ use Rattle.pager_model.specs.SizeSets.{SizeSet}
 use Rattle.pager_model.specs.SpaceStates.{SpaceState, space_after}
 use Rattle.pager_model.proofs.Histories.{filter-push_in, filter-push_out, space_at-named, space_at-other}
 use Rattle.pager_model.proofs.Ranges.{range_with_len-more}
-use Rattle.miss_curves.specs.Curves.{Follower, follow, begun, followed, misses_by}
-use Rattle.miss_curves.specs.Rows.{AreStacks, StandEach}
+use Rattle.miss_curves.specs.Curves.{Follower, base_alone, follow, begun, followed, misses_by}
+use Rattle.miss_curves.specs.Rows.{AreStacks, Rows, StandAfter, StandEach}
 use Rattle.miss_curves.specs.Stacks.{Kept, IsBlank, Stands, missed_at}
 
 -- One entry more.
@@ -68,12 +68,15 @@ StandEach-named z g history e s stacks new within names stands each = record {
     apart t other = rw names (ne_eqb s t (λ is. other (sym is)))
 
 -- so where the stack that it had follows the entry
-pub StandEach-followed : (z : SizeSet) (g : Given) (history : List Entry) (e : Entry) (s : ℕ) (stacks : List Kept) (new : Kept)
-    → s < length stacks → e.space ≡ Some s
-    → ((old : Kept) × (old ≡ get_or stacks s old)
+abbrev Follows : SizeSet → Given → List Entry → Entry → ℕ → List Kept → Kept → Type 0
+Follows z g history e s stacks new =
+    (old : Kept) × (old ≡ get_or stacks s old)
     × (Stands z old (space_at g history s) (followed z g s (space_part s history))
     → Stands z new (space_after (space_at g history s) e)
-    (λ capacity. follow z capacity (followed z g s (space_part s history) capacity) e)))
+    (λ capacity. follow z capacity (followed z g s (space_part s history) capacity) e))
+
+StandEach-followed : (z : SizeSet) (g : Given) (history : List Entry) (e : Entry) (s : ℕ) (stacks : List Kept) (new : Kept)
+    → s < length stacks → e.space ≡ Some s → Follows z g history e s stacks new
     → StandEach z g stacks history → StandEach z g (set stacks s new) (history ++ e ∷ [])
 StandEach-followed z g history e s stacks new within names follows each =
     StandEach-named z g history e s stacks new within names
@@ -81,11 +84,29 @@ StandEach-followed z g history e s stacks new within names follows each =
     (each.each s follows.0 within))) each
 
 -- an entry without a space changes none
-pub StandEach-none : (z : SizeSet) (g : Given) (history : List Entry) (e : Entry) (stacks : List Kept) → e.space ≡ None
+StandEach-none : (z : SizeSet) (g : Given) (history : List Entry) (e : Entry) (stacks : List Kept) → e.space ≡ None
     → StandEach z g stacks history → StandEach z g stacks (history ++ e ∷ [])
 StandEach-none z g history e stacks none each = record {
   spaces = each.spaces;
   each = λ s d below. stands-other z g history e s (get_or stacks s d) (rw none refl) (each.each s d below);
+}
+
+-- The same of the rows, of both of which the space's stack follows the entry.
+pub StandAfter-followed : (g : Given) (history : List Entry) (e : Entry) (s : ℕ) (rows : Rows) (tile page : Kept)
+    → s < length rows.tiles → s < length rows.pages → e.space ≡ Some s
+    → Follows g.sizes g history e s rows.tiles tile → Follows base_alone g history e s rows.pages page → StandAfter g rows history
+    → (entries : ℕ)
+    → StandAfter g (record { tiles = set rows.tiles s tile; pages = set rows.pages s page; entries = entries }) (history ++ e ∷ [])
+StandAfter-followed g history e s rows tile page within within_pages names tiles pages stands entries = record {
+  tiles = StandEach-followed g.sizes g history e s rows.tiles tile within names tiles stands.tiles;
+  pages = StandEach-followed base_alone g history e s rows.pages page within_pages names pages stands.pages;
+}
+
+pub StandAfter-none : (g : Given) (history : List Entry) (e : Entry) (rows : Rows) → e.space ≡ None → StandAfter g rows history
+    → StandAfter g rows (history ++ e ∷ [])
+StandAfter-none g history e rows none stands = record {
+  tiles = StandEach-none g.sizes g history e rows.tiles none stands.tiles;
+  pages = StandEach-none base_alone g history e rows.pages none stands.pages;
 }
 
 -- before any entry blank stacks stand

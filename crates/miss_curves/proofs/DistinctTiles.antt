@@ -1,5 +1,5 @@
--- Rows in which no tile stands at two places.
-use Rattle.std.proofs.Common.{◌≡◌, ℕ, zero, suc, ◌+◌, ◌<◌, ◌≤◌, Bool, true, cond, List, [], ◌∷◌, ◌++◌, length, get_or, set, take, drop, map, nat_lt, replicate, Some, None, Option, inl, inr, refl, sym, ap, ◌∙◌, subst, arith}
+-- Rows in which no tile stands at two places, and stacks of such rows.
+use Rattle.std.proofs.Common.{◌≡◌, ℕ, zero, suc, ◌+◌, ◌<◌, ◌≤◌, Bool, true, cond, List, [], ◌∷◌, ◌++◌, length, get_or, set, take, drop, map, sum, nat_lt, replicate, Some, None, Option, inl, inr, refl, sym, ap, ◌∙◌, subst, arith}
 use Rattle.std.specs.Option.{IfSome}
 use Rattle.std.specs.List.{All, count_by, position, position_or_len}
 use Rattle.std.proofs.lemmas.Bool.{cases_Bool, cases_lt, lt-ltb, le-ltb, cond-true, cond-false}
@@ -9,7 +9,7 @@ use Rattle.std.proofs.lemmas.List.Sums.{sum_by-cons, sum_by-set}
 use Rattle.pager_model.specs.declared.tile.Tile.{Tile}
 use Rattle.pager_model.specs.Tiles.{same_tile}
 use Rattle.pager_model.proofs.TileParts.{same_tile-true}
-use Rattle.miss_curves.specs.Stacks.{AreDistinct, Passes, hole_at, is_at, kept_at, left_by, moved_down, place_of, shifted}
+use Rattle.miss_curves.specs.Stacks.{AreDistinct, IsKept, Kept, Passes, hole_at, is_at, kept_at, left_by, moved_down, place_of, shifted}
 
 abbrev weight : Bool → ℕ
 weight b = cond b 1 0
@@ -176,3 +176,14 @@ distinct-fewer old places distinct fewer u = omega (arith, fewer u, distinct u)
 pub distinct-holes : (n : ℕ) → AreDistinct (replicate n None)
 distinct-holes zero u = omega arith
 distinct-holes (suc n) u = omega (arith, distinct-holes n u)
+
+-- A stack with one use more, whose row and counts are as long as before.
+pub IsKept-used : (old new : Kept) (places : List (Option Tile)) (found : List ℕ) → IsKept old → new.places ≡ places → new.found ≡ found
+    → new.uses ≡ old.uses + 1
+    → length places ≡ length old.places → length found ≡ length old.found → sum found ≤ sum old.found + 1 → AreDistinct places
+    → IsKept new
+IsKept-used old new places found kept row counts more as_long as_many one distinct = record {
+  long = omega (arith, ap length row, ap length counts, as_long, as_many, kept.long);
+  within = omega (arith, ap sum counts, one, more, kept.within);
+  distinct = subst AreDistinct (sym row) distinct;
+}

@@ -8,14 +8,29 @@ use Rattle.pager_model.specs.Extents.{IsExtent}
 use Rattle.extent_tree.specs.Rows.{Arena}
 use Rattle.page_map.specs.declared.entry.Entry.{Entry}
 use Rattle.page_map.specs.Entries.{entry_at, part_of, Maps}
-use Rattle.page_map.specs.Kept.{AreCounts, Grows}
-use Rattle.page_map.proofs.Changes.{start_of}
+use Rattle.page_map.specs.Kept.{AreCounts, Grows, IsKept}
+use Rattle.page_map.proofs.Changes.{entry_of_all, kept_entries, start_of}
 use Rattle.page_map.proofs.EntryCounts.{HasParts, begun_in, begun_none, begun_parts, begun_other, count_change, count_within, count_most, count_none}
-use Rattle.page_map.proofs.Mappings.{maps_inside}
+use Rattle.page_map.proofs.Mappings.{is_extent, maps_inside}
 
 -- the pages of an extent have entries given by a function
 abbrev pub Given : Arena Mapping → Extent → (ℕ → Option Entry) → Type 0
 Given m extent entries = (page : ℕ) → page / 8 ^ extent.size ≡ extent.first / 8 ^ extent.size → entry_at m page ≡ entries page
+
+-- An entry is there: each page of its extent has it.
+pub record IsThere (m : Arena Mapping) (entry : Entry) : Type 0 where
+  pub extent : IsExtent entry.extent.size entry.extent.first
+  pub in_space : entry.extent.first < 1048576
+  pub given : Given m entry.extent (λ _. Some entry)
+
+pub is_there : (m : Arena Mapping) (entry : Entry) → IsKept m → entry_at m entry.extent.first ≡ Some entry → IsThere m entry
+is_there m entry kept at =
+    let entries = kept_entries m kept in
+    record {
+      extent = is_extent m entry.extent.first entry entries at;
+      in_space = entries.in_space entry.extent.first entry at;
+      given = entry_of_all m entry kept at;
+    }
 
 begun_is : (m : Arena Mapping) (extent : Extent) (part many size : ℕ) → IsExtent extent.size extent.first → HasParts m extent part
     → many ≡ 8 ^ (extent.size - part) → begun_in m extent size ≡ cond (eqb size part) many 0
@@ -94,27 +109,25 @@ replace_counts old new entry before counts is within e there maps are = record {
       );
 }
 
-pub remove_counts : (old new : Arena Mapping) (entry : Entry) (counts after : List ℕ) → IsExtent entry.extent.size entry.extent.first
-    → entry.extent.first < 1048576 → Given old entry.extent (λ _. Some entry) → Maps entry.extent (λ _. None) old new
-    → AreCounts counts old → Grows entry.extent.size 1 after counts → AreCounts after new
-remove_counts old new entry counts after is within there maps before grows = record {
+pub remove_counts : (old new : Arena Mapping) (entry : Entry) (counts after : List ℕ) → IsThere old entry
+    → Maps entry.extent (λ _. None) old new → AreCounts counts old → Grows entry.extent.size 1 after counts → AreCounts after new
+remove_counts old new entry counts after there maps before grows = record {
   four = sym grows.same_length ∙ before.four;
   each = λ size low.
       omega (
         arith,
         before.each size low,
         grows.each size,
-        count_change old new entry.extent (λ _. None) size is within maps,
-        begun_none new entry.extent size is (inside old new entry.extent (λ _. None) maps),
-        whole old entry.extent entry size is refl there,
+        count_change old new entry.extent (λ _. None) size there.extent there.in_space maps,
+        begun_none new entry.extent size there.extent (inside old new entry.extent (λ _. None) maps),
+        whole old entry.extent entry size there.extent refl there.given,
       );
 }
 
-pub split_counts : (old new : Arena Mapping) (entry : Entry) (counts between after : List ℕ) → 0 < entry.extent.size
-    → IsExtent entry.extent.size entry.extent.first → entry.extent.first < 1048576 → Given old entry.extent (λ _. Some entry)
+pub split_counts : (old new : Arena Mapping) (entry : Entry) (counts between after : List ℕ) → 0 < entry.extent.size → IsThere old entry
     → Maps entry.extent (λ page. Some (part_of entry page)) old new → AreCounts counts old → Grows entry.extent.size 1 between counts
     → Grows (entry.extent.size - 1) 8 between after → AreCounts after new
-split_counts old new entry counts between after large is within there maps before shrinks grows = record {
+split_counts old new entry counts between after large there maps before shrinks grows = record {
   four = grows.same_length ∙ (sym shrinks.same_length ∙ before.four);
   each = λ size low.
       omega (
@@ -122,9 +135,9 @@ split_counts old new entry counts between after large is within there maps befor
         before.each size low,
         shrinks.each size,
         grows.each size,
-        count_change old new entry.extent (λ page. Some (part_of entry page)) size is within maps,
-        whole old entry.extent entry size is refl there,
-        eight new entry size large is (inside old new entry.extent (λ page. Some (part_of entry page)) maps),
+        count_change old new entry.extent (λ page. Some (part_of entry page)) size there.extent there.in_space maps,
+        whole old entry.extent entry size there.extent refl there.given,
+        eight new entry size large there.extent (inside old new entry.extent (λ page. Some (part_of entry page)) maps),
       );
 }
 
@@ -149,15 +162,15 @@ join_counts old new entry counts between after large is within there maps before
 
 -- ---- there are as many as went, and a count that grows fits
 
-pub one_there : (m : Arena Mapping) (entry : Entry) (counts : List ℕ) → IsExtent entry.extent.size entry.extent.first
-    → entry.extent.first < 1048576 → Given m entry.extent (λ _. Some entry) → AreCounts counts m → 1 ≤ slice_index counts entry.extent.size
-one_there m entry counts is within there are =
+pub one_there : (m : Arena Mapping) (entry : Entry) (counts : List ℕ) → IsThere m entry → AreCounts counts m
+    → 1 ≤ slice_index counts entry.extent.size
+one_there m entry counts there are =
     let size = entry.extent.size in
     omega (
       arith,
-      are.each size is.0,
-      count_within m entry.extent size is within,
-      whole m entry.extent entry size is refl there,
+      are.each size there.extent.0,
+      count_within m entry.extent size there.extent there.in_space,
+      whole m entry.extent entry size there.extent refl there.given,
       ap (λ b. cond {A = ℕ} b 1 0) (eq-eqb size size refl),
     )
 

@@ -54,19 +54,19 @@ filter-all test (x ∷ xs) all =
     cond-true (test x) (x ∷ filter test xs) (filter test xs) parts.0 ∙ ap (λ rest. x ∷ rest) (filter-all test xs parts.1)
 
 -- a part of a list is filled: within it each place has the value, and elsewhere it is as before
-pub filled_at : {X : Type 0} (xs part : List X) (from end : ℕ) (v d : X) (i : ℕ) → from ≤ end → end ≤ length xs
-    → part ≡ replicate (end - from) v
-    → get_or (take from xs ++ (part ++ drop (end - from) (drop from xs))) i d ≡ (if nat_le from i && nat_lt i end then v else get_or xs i d)
-filled_at xs part from end v d i order within is =
+pub filled_at : {X : Type 0} (xs : List X) (from end : ℕ) (v d : X) (i : ℕ) → from ≤ end → end ≤ length xs
+    → get_or (take from xs ++ (replicate (end - from) v ++ drop (end - from) (drop from xs))) i d
+    ≡ (if nat_le from i && nat_lt i end then v else get_or xs i d)
+filled_at xs from end v d i order within =
+    let part = replicate (end - from) v in
     let front : length (take from xs) ≡ from = omega (arith, length-take from xs) in
-    let long : length part ≡ end - from = ap length is ∙ length-replicate (end - from) v in
+    let long : length part ≡ end - from = length-replicate (end - from) v in
     elim (cases_lt i from) [
       | inl below ↦ get_or_append_left (take from xs) _ d i (omega arith) ∙ get_or-take from xs i d below ∙ grind (arith, nat_tests)
       | inr on ↦ elim (cases_lt i end) [
         | inl inside ↦
             get_or-append_right (take from xs) _ from i d front on
             ∙ get_or_append_left part _ d (i - from) (omega arith)
-            ∙ ap (λ ys. get_or ys (i - from) d) is
             ∙ get_or-replicate (end - from) (i - from) v d (omega arith)
             ∙ grind (arith, nat_tests)
         | inr past ↦

@@ -15,8 +15,8 @@ use Rattle.extent_tree.proofs.Rows.{split_alike}
 use Rattle.pager_model.specs.Extents.{IsExtent}
 use Rattle.population_map.specs.declared.mark.Mark.{Mark}
 use Rattle.population_map.specs.Bits.{HasBit}
-use Rattle.population_map.specs.Kept.{AreMarks}
-use Rattle.population_map.specs.Populations.{mark_of, id_of, is_placed, is_populated, placed_pages, unmarked, IsInNone, PlacesOnly, EmptiesOnly, SomePopulated, AllPopulated, page_at}
+use Rattle.population_map.specs.Kept.{AreMarks, IsPopulation}
+use Rattle.population_map.specs.Populations.{mark_of, id_of, is_placed, is_populated, placed_pages, unmarked, IsInNone, SameRoom, PlacesOnly, EmptiesOnly, SomePopulated, AllPopulated, page_at}
 use Rattle.population_map.proofs.Masks.{no_bit}
 use Rattle.population_map.proofs.Marks.{mark_alike, id_alike, placed_by, placed_size, rows_placed, row_if_id, some_page, full_page, all_pages, pages_all, bits_over, bit_of_page, page_of_bit}
 use Rattle.population_map.proofs.Ways.{placed_alike}
@@ -117,20 +117,26 @@ swapped_ids m n size page value s = record {
   others = λ part other less apart. ap (λ v. v.id) (mark_else m n size page value s.changes part other less apart);
 }
 
--- bits are as before
-swapped_some : (m n : Arena Mark) (size page : ℕ) (value : Option Mark) → SwapsId m n size page value → (part other bit : ℕ) → part ≤ 3
-    → bit < 8 → (bit_at (mark_of n part other).some bit ≡ 1) ↔ (bit_at (mark_of m part other).some bit ≡ 1)
-swapped_some m n size page value s part other bit less low = elim (here_or_not size page part other) [
+-- bits of a mask are as before, where the extent had none and gets none
+swapped_bits : (mask : Mark → ℕ) (m n : Arena Mark) (size page : ℕ) (value : Option Mark) → ChangesOnly m n size page value
+    → mask (unwrap_or value unmarked) ≡ 0 → ((other : ℕ) → other / 8 ^ size ≡ page / 8 ^ size → HasBit (mask (mark_of m size other)) → ⊥)
+    → (part other bit : ℕ) → part ≤ 3 → bit < 8
+    → (bit_at (mask (mark_of n part other)) bit ≡ 1) ↔ (bit_at (mask (mark_of m part other)) bit ≡ 1)
+swapped_bits mask m n size page value changes now before part other bit less low = elim (here_or_not size page part other) [
   | inl here ↦
       let there = at_size size page part other here.0 here.1 in
-      let now = mark_here m n size page value s.changes other there in
-      subst (λ k. (bit_at (mark_of n k other).some bit ≡ 1) ↔ (bit_at (mark_of m k other).some bit ≡ 1)) (sym here.0) (
-        λ h. absurd (no_bit 0 refl (bit, low, ap (λ x. bit_at x bit) (sym (ap (λ v. v.some) now ∙ s.some_now)) ∙ h)),
-        λ h. absurd (s.some_before other there (bit, low, h)),
+      let at = mark_here m n size page value changes other there in
+      subst (λ k. (bit_at (mask (mark_of n k other)) bit ≡ 1) ↔ (bit_at (mask (mark_of m k other)) bit ≡ 1)) (sym here.0) (
+        λ h. absurd (no_bit 0 refl (bit, low, ap (λ x. bit_at x bit) (sym (ap mask at ∙ now)) ∙ h)),
+        λ h. absurd (before other there (bit, low, h)),
       )
-  | inr else ↦ let at = ap (λ v. bit_at v.some bit) (mark_else m n size page value s.changes part other less else) in
+  | inr else ↦ let at = ap (λ v. bit_at (mask v) bit) (mark_else m n size page value changes part other less else) in
       (λ h. sym at ∙ h, λ h. at ∙ h)
 ]
+
+swapped_some : (m n : Arena Mark) (size page : ℕ) (value : Option Mark) → SwapsId m n size page value → (part other bit : ℕ) → part ≤ 3
+    → bit < 8 → (bit_at (mark_of n part other).some bit ≡ 1) ↔ (bit_at (mark_of m part other).some bit ≡ 1)
+swapped_some m n size page value s = swapped_bits (λ v. v.some) m n size page value s.changes s.some_now s.some_before
 
 -- and so are populated pages
 swapped_pages : (m n : Arena Mark) (size page : ℕ) (value : Option Mark) → SwapsId m n size page value → (other : ℕ)
@@ -146,7 +152,7 @@ pub swapped : (m n : Arena Mark) (size page : ℕ) (value : Option Mark) → Are
 swapped m n size page value marks s placed apart = record {
   splits = s.splits;
   some = swapped_some m n size page value s;
-  full = full;
+  full = swapped_bits (λ v. v.full) m n size page value s.changes s.full_now s.full_before;
   no_parts = λ other. elim (here_or_not size page 0 other) [
     | inl here ↦
         let at : mark_of n 0 other ≡ unwrap_or value unmarked = subst (λ k. mark_of n k other ≡ unwrap_or value unmarked) (sym here.0)
@@ -168,20 +174,6 @@ swapped m n size page value marks s placed apart = record {
   apart = apart;
 }
   where
-    full : (part other bit : ℕ) → part ≤ 3 → bit < 8 → (bit_at (mark_of n part other).full bit ≡ 1) ↔
-        (bit_at (mark_of m part other).full bit ≡ 1)
-    full part other bit less low = elim (here_or_not size page part other) [
-      | inl here ↦
-          let there = at_size size page part other here.0 here.1 in
-          let now = mark_here m n size page value s.changes other there in
-          subst (λ k. (bit_at (mark_of n k other).full bit ≡ 1) ↔ (bit_at (mark_of m k other).full bit ≡ 1)) (sym here.0) (
-            λ h. absurd (no_bit 0 refl (bit, low, ap (λ x. bit_at x bit) (sym (ap (λ v. v.full) now ∙ s.full_now)) ∙ h)),
-            λ h. absurd (s.full_before other there (bit, low, h)),
-          )
-      | inr else ↦ let at = ap (λ v. bit_at v.full bit) (mark_else m n size page value s.changes part other less else) in
-          (λ h. sym at ∙ h, λ h. at ∙ h)
-    ]
-
     in_use : (part other : ℕ) → part ≤ 3 → is_some (row n part other) ≡ true
         → (is_some (id_of n part other) ≡ true) ⊎ (HasBit (mark_of n part other).some ⊎ HasBit (mark_of n part other).full)
     in_use part other less has = elim (here_or_not size page part other) [
@@ -465,6 +457,17 @@ unfolding placed_pages
 same_count m n roots ids =
     ap (λ r. count_by (is_placed n) (range_with_len 0 (512 * r))) roots
     ∙ count-agree (is_placed n) (is_placed m) 0 (512 * m.roots) (λ page _ _. placed_alike m n page (λ size. ids size page))
+
+-- and a population with as much room still is one
+pub population_kept : (spaces : ℕ) (m n : Arena Mark) → IsPopulation spaces m → AreMarks n → SameRoom m n
+    → ((size page : ℕ) → size ≤ 3 → id_of n size page ≡ id_of m size page) → IsPopulation spaces n
+population_kept spaces m n was marks room ids = record {
+  marks = marks;
+  few = omega (arith, same_count m n room.roots ids, was.few, room.room);
+  thirds = omega (arith, was.thirds, room.room);
+  whole = omega (arith, was.whole, room.roots);
+  known = omega (arith, was.known, room.roots);
+}
 
 -- whether what a walk sees is split
 pub spot_split : (m : Arena Mark) (size height page : ℕ) (s : Spot Mark) (b : Bool) → height ≡ 3 - size → s ≡ spot_of m height page

@@ -18,9 +18,8 @@ use Rattle.tiles.specs.Blocks.{ProtectsInBlock, ProtectsTo, OutsideSame, is_grow
 use Rattle.tiles.specs.Kept.{FitsFrames, MapsExtent}
 use Rattle.tiles.specs.Resident.{IsNextResident, NoneResident, Resident, mapping_at, frames_in, with_rights, Protects}
 use Rattle.tiles.specs.Sized.{AreMovesIn, size_by}
-use Rattle.tiles.specs.Touched.{IsInSpace, is_touched}
-use Rattle.tiles.proofs.Counting.{count, count-zero, count-suc, count-apart, count-none, count-same, count_pages-is, count_pages_most}
-use Rattle.tiles.proofs.MoveCounts.{promotions_add, demotions_add}
+use Rattle.tiles.proofs.Counting.{count, count-zero, count-suc, count-apart, count-none, count-same, count_pages-is}
+use Rattle.tiles.proofs.MoveCounts.{LieApart}
 use Rattle.tiles.proofs.SizedTiles.{by_small, local_by, none_grown, promoted_test}
 use Rattle.tiles.proofs.TouchedTiles.{outside_block}
 
@@ -273,56 +272,13 @@ blocks_end from first len rights r s few known none so_far =
 
 -- ---- the moves
 
-pub moves_more : (z : SizeSet) (to first len : ℕ) (rights : Rights) (r s t : Resident) (so_far more all : Moves)
-    → ProtectsBlocks to first len rights r s → ProtectsInBlock to first len rights s t → AreMovesIn z (mapping_at r) (mapping_at s) so_far
-    → AreMovesIn z (mapping_at s) (mapping_at t) more → all.promotions ≡ so_far.promotions + more.promotions
-    → all.demotions ≡ so_far.demotions + more.demotions → IsInSpace all.touched
-    → ((p : ℕ) → is_touched all.touched p ≡ false → (is_touched so_far.touched p ≡ false) × (is_touched more.touched p ≡ false))
-    → AreMovesIn z (mapping_at r) (mapping_at t) all
-moves_more z to first len rights r s t so_far more all before protects moved moves promoted demoted in_range touched =
-    let untouched = block_untouched to first len rights r s before in
-    let outside = outside_same to first len rights s t protects in
-    record {
-      promotions = omega (
-        arith,
-        promotions_add z (mapping_at r) (mapping_at s) (mapping_at t) to untouched outside,
-        promoted,
-        moved.promotions,
-        moves.promotions,
-      );
-      demotions = omega (
-        arith,
-        demotions_add z (mapping_at r) (mapping_at s) (mapping_at t) to untouched outside,
-        demoted,
-        moved.demotions,
-        moves.demotions,
-      );
-      in_space = in_range;
-      outside = λ u is out. let neither = touched u.extent.first out in moves.outside u (moved.outside u is neither.0) neither.1;
-    }
-
-pub moves_fit : (z : SizeSet) (to first len : ℕ) (rights : Rights) (r s t : Resident) (so_far more : Moves)
-    → ProtectsBlocks to first len rights r s → ProtectsInBlock to first len rights s t → AreMovesIn z (mapping_at r) (mapping_at s) so_far
-    → AreMovesIn z (mapping_at s) (mapping_at t) more → (so_far.promotions + more.promotions ≤ 1048576)
-    × (so_far.demotions + more.demotions ≤ 1048576)
-moves_fit z to first len rights r s t so_far more before protects moved moves =
-    let untouched = block_untouched to first len rights r s before in
-    let outside = outside_same to first len rights s t protects in (
-      omega (
-        arith,
-        promotions_add z (mapping_at r) (mapping_at s) (mapping_at t) to untouched outside,
-        moved.promotions,
-        moves.promotions,
-        count_pages_most (is_promoted_in z (mapping_at r) (mapping_at t)),
-      ),
-      omega (
-        arith,
-        demotions_add z (mapping_at r) (mapping_at s) (mapping_at t) to untouched outside,
-        moved.demotions,
-        moves.demotions,
-        count_pages_most (is_promoted_in z (mapping_at t) (mapping_at r)),
-      ),
-    )
+-- the change in a block lies apart from those in the blocks before
+pub blocks_apart : (to first len : ℕ) (rights : Rights) (r s t : Resident) → ProtectsBlocks to first len rights r s
+    → ProtectsInBlock to first len rights s t → LieApart (mapping_at r) (mapping_at s) (mapping_at t)
+blocks_apart to first len rights r s t before protects block = elim (cases_eq block to) [
+  | inl here ↦ inl (λ p at. block_untouched to first len rights r s before p (at ∙ here))
+  | inr apart ↦ inr (λ p at. outside_same to first len rights s t protects p (λ same. apart (sym at ∙ same)))
+]
 
 -- ---- moves counted at the first of each eight pages
 
@@ -405,22 +361,15 @@ counts_none z block old new moves p d = record {
       ∙ count-zero (is_promoted_in z new old) (block * 512));
 }
 
-pub counts_more : (z : SizeSet) (block i had has : ℕ) (old new : ℕ → Option Mapping) (so_far at all : Moves)
-    → CountsTo z block i old new so_far → had ≡ size_by z old (block * 512 + 8 * i) → has ≡ size_by z new (block * 512 + 8 * i)
-    → at.promotions ≡ (if is_grown_at (block * 512 + 8 * i) had has then 1 else 0)
-    → at.demotions ≡ (if is_grown_at (block * 512 + 8 * i) has had then 1 else 0)
-    → all.promotions ≡ so_far.promotions + at.promotions → all.demotions ≡ so_far.demotions + at.demotions
+pub counts_more : (z : SizeSet) (block i : ℕ) (old new : ℕ → Option Mapping) (so_far all : Moves) → CountsTo z block i old new so_far
+    → (let q = block * 512 + 8 * i in all.promotions ≡ so_far.promotions + weight (is_grown_at q (size_by z old q) (size_by z new q)))
+    → (let q = block * 512 + 8 * i in all.demotions ≡ so_far.demotions + weight (is_grown_at q (size_by z new q) (size_by z old q)))
     → CountsTo z block (i + 1) old new all
-counts_more z block i had has old new so_far at all counts before after promoted demoted p d =
-    let q = block * 512 + 8 * i in
+counts_more z block i old new so_far all counts promoted demoted =
     let whole : block * 512 % 8 ≡ 0 = omega arith in
-    let up : at.promotions ≡ weight (is_grown_at q (size_by z old q) (size_by z new q)) = promoted
-    ∙ ap (λ n. weight (is_grown_at q n has)) before ∙ ap (λ n. weight (is_grown_at q (size_by z old q) n)) after in
-    let down : at.demotions ≡ weight (is_grown_at q (size_by z new q) (size_by z old q)) = demoted
-    ∙ ap (λ n. weight (is_grown_at q n had)) after ∙ ap (λ n. weight (is_grown_at q (size_by z new q) n)) before in
     record {
-      promotions = omega (arith, p, counts.promotions, up, count_eight z old new (block * 512) i whole);
-      demotions = omega (arith, d, counts.demotions, down, count_eight z new old (block * 512) i whole);
+      promotions = omega (arith, promoted, counts.promotions, count_eight z old new (block * 512) i whole);
+      demotions = omega (arith, demoted, counts.demotions, count_eight z new old (block * 512) i whole);
     }
 
 -- and they are in it

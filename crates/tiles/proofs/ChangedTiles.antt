@@ -95,15 +95,19 @@ part_is level s page m large below low starts from_frame is =
 
 -- ---- a change of one page
 
+-- a part beside a page, of a size, of the tile that the page had, where the page's own tile is no larger now
+pub record IsCutPart (old new : ℕ → Option Mapping) (page : ℕ) (large : Tile) (level part : ℕ) : Type 0 where
+  pub at : tile_of old page ≡ Some large
+  pub from : size_at new page ≤ level
+  pub below : level < large.extent.size
+  pub few : part < 8
+  pub other : part ≢ own_part level page
+
 -- a tile by itself beside a page, in the tile that the page had, is the part there
 pub record IsCut (old new : ℕ → Option Mapping) (page : ℕ) (t : Tile) : Type 0 where
   pub large : Tile
-  pub at : tile_of old page ≡ Some large
-  pub from : size_at new page ≤ t.extent.size
-  pub below : t.extent.size < large.extent.size
   pub part : ℕ
-  pub few : part < 8
-  pub other : part ≢ own_part t.extent.size page
+  pub cut : IsCutPart old new page large t.extent.size part
   pub is : t ≡ part_from t.extent.size (part_start t.extent.size page part) large
 
 pub record IsNew (old new : ℕ → Option Mapping) (t : Tile) : Type 0 where
@@ -119,7 +123,9 @@ module _ (old new : ℕ → Option Mapping) (page : ℕ) (others : OthersSame pa
         before = false_from_ne_true (is_tile old t) (λ is. differs (tile_is_own old page t is (tile_largest new page t at).1));
       }
 
-  module _ (large : Tile) (had : tile_of old page ≡ Some large) (level part : ℕ) (from : size_at new page ≤ level) (below : level < large.extent.size) (few : part < 8) (other : part ≢ own_part level page) where
+  module _ (large : Tile) (level part : ℕ) (cut : IsCutPart old new page large level part) where
+    open cut use {at as had, from, below, few, other}
+
     abbrev start : ℕ
     start = part_start level page part
 
@@ -133,19 +139,19 @@ module _ (old new : ℕ → Option Mapping) (page : ℕ) (others : OthersSame pa
     low = omega (arith, size_had, size_small old page)
 
     at : IsPartStart level page part
-    at = part_starts level page part (omega (arith, low)) few
+    at = part_starts level page part (omega (arith, low, below)) few
 
     had_there : tile_of old start ≡ Some large
-    had_there = tile_at old page start large had (coarser (suc level) large.extent.size start page (omega arith) low at.joined)
+    had_there = tile_at old page start large had (coarser (suc level) large.extent.size start page (omega (arith, below)) low at.joined)
 
     size_there : size_at old start ≡ large.extent.size
     size_there = ap size_in had_there
 
     size_new : size_at new start ≡ level
     size_new =
-        size_is new start level (omega (arith, low))
-        (λ positive. sym (whole_other old new page level start others (omega (arith, low)) (at.apart other))
-        ∙ whole_within old start level positive (omega (arith, size_there)))
+        size_is new start level (omega (arith, low, below))
+        (λ positive. sym (whole_other old new page level start others (omega (arith, low, below)) (at.apart other))
+        ∙ whole_within old start level positive (omega (arith, size_there, below)))
         (λ k more small. whole_alike new k page start (coarser (suc level) k start page (omega arith) small at.joined)
         ∙ whole_beyond new page k (omega (arith, from)) small)
 
@@ -159,7 +165,7 @@ module _ (old new : ℕ → Option Mapping) (page : ℕ) (others : OthersSame pa
         (sym had_there ∙ before.is ∙ ap (λ k. Some (tile_by k start m)) size) in
         let frames : start % 8 ^ large.extent.size ≤ m.frame = omega (arith, before.from_frame, ap (λ k. start % 8 ^ k) size) in
         (tile_by_own new start m now).is ∙ ap (λ k. Some (tile_by k start m)) size_new
-        ∙ ap Some (part_is level large.extent.size start m large (omega arith) low at.starts frames was)
+        ∙ ap Some (part_is level large.extent.size start m large (omega (arith, below)) low at.starts frames was)
 
     pub part_new : IsNew old new piece
     part_new =
@@ -236,12 +242,8 @@ module _ (old new : ℕ → Option Mapping) (page : ℕ) (others : OthersSame pa
             (sym now ∙ (tile_by_own new first m at).is ∙ ap (λ j. Some (tile_by j first m)) size) in
             record {
               large = large;
-              at = had;
-              from = from;
-              below = more;
               part = first / 8 ^ k % 8;
-              few = other.few;
-              other = other.other;
+              cut = record { at = had; from = from; below = more; few = other.few; other = other.other };
               is = own ∙ part_is k s first m large (omega (arith, more)) old_low tile.1 before.from_frame refl
                   ∙ ap (λ n. part_from k n large) other.is;
             }

@@ -233,7 +233,16 @@ part_aligned : (k p first frame : ℕ) → suc k ≤ 3 → extent_start (suc k) 
 part_aligned k p first frame low starts aligned =
     subst (λ x. (frame + (extent_start k p - x)) % 8 ^ k ≡ 0) starts ((lies_in k p low).aligned frame aligned)
 
-module _ (m n : Resident) (entry : Entry) (page : ℕ) (entries : AreEntries m) (there : entry_at m page ≡ Some entry) (large : 0 < entry.extent.size) (maps : Maps entry.extent (λ p. Some (part_of entry p)) m n) where
+-- The entry of a page breaks into its parts.
+pub record Breaks (m n : Resident) (entry : Entry) (page : ℕ) : Type 0 where
+  pub entries : AreEntries m
+  pub there : entry_at m page ≡ Some entry
+  pub large : 0 < entry.extent.size
+  pub maps : Maps entry.extent (λ p. Some (part_of entry p)) m n
+
+module _ (m n : Resident) (entry : Entry) (page : ℕ) (breaks : Breaks m n entry page) where
+  open breaks use {entries, there, large, maps}
+
   entry_here : (p : ℕ) → p / 8 ^ entry.extent.size ≡ entry.extent.first / 8 ^ entry.extent.size → entry_at m p ≡ Some entry
   entry_here p here = entries.one page p entry there (eq-eqb _ _ here)
 
@@ -244,7 +253,7 @@ module _ (m n : Resident) (entry : Entry) (page : ℕ) (entries : AreEntries m) 
       → (part_of entry p).mapping.frame % 8 ^ (part_of entry p).extent.size ≡ 0
   part_here aligned p here =
       let k = entry.extent.size - 1 in
-      let e : entry.extent.size ≡ suc k = omega arith in
+      let e : entry.extent.size ≡ suc k = omega (arith, large) in
       part_aligned k p entry.extent.first entry.mapping.frame (omega (arith, entries.low page entry there))
       (ap (λ s. extent_start s p) (sym e) ∙ first_is m p entry entries (entry_here p here))
       (ap (λ s. entry.mapping.frame % 8 ^ s) (sym e) ∙ aligned page entry there)
@@ -255,17 +264,17 @@ module _ (m n : Resident) (entry : Entry) (page : ℕ) (entries : AreEntries m) 
   pub split_tiles : AreTilesBut m page (suc entry.extent.size) → AreTilesBut n page (suc (entry.extent.size - 1))
   split_tiles tiles =
       changed m n entry.extent (λ p. Some (part_of entry p)) maps page (suc entry.extent.size) (suc (entry.extent.size - 1)) first_of_page
-      (entries.low page entry there) (omega arith) (omega arith) tiles
+      (entries.low page entry there) (omega (arith, large)) (omega (arith, large)) tiles
       (λ p e here is.
       let same = same_Some (part_of entry p) e is in
       subst (λ (x : Entry). (x.mapping.frame % 8 ^ x.extent.size ≡ 0) × (suc (entry.extent.size - 1) ≤ suc x.extent.size)) same
-      (part_here tiles.aligned p here, omega arith))
+      (part_here tiles.aligned p here, omega (arith, large)))
 
   -- a part's frames are among the entry's
   pub split_fits : (part_of entry page).mapping.frame + 8 ^ (entry.extent.size - 1) ≤ entry.mapping.frame + 8 ^ entry.extent.size
   split_fits =
       let k = entry.extent.size - 1 in
-      let e : entry.extent.size ≡ suc k = omega arith in
+      let e : entry.extent.size ≡ suc k = omega (arith, large) in
       let begins : extent_start (suc k) page ≡ entry.extent.first = ap (λ s. extent_start s page) (sym e)
       ∙ first_is m page entry entries there in
       omega (arith, (lies_in k page (omega (arith, entries.low page entry there))).within, ap (λ s. 8 ^ s) e, begins)
@@ -284,7 +293,16 @@ pub round_is_extent : (extent : Extent) (size page : ℕ) → size ≤ 3 → ext
 round_is_extent extent size page low is = subst (λ (x : Extent). IsExtent x.size x.first) (sym is)
     (low, mul-mod_left (page / 8 ^ size) (8 ^ size))
 
-module _ (m n : Resident) (w : Entry) (page : ℕ) (round : w.extent ≡ extent_round w.extent.size page) (low : w.extent.size ≤ 3) (parts : AreParts w m) (maps : Maps w.extent (λ _. Some w) m n) where
+-- The parts of an entry round a page join into it.
+pub record JoinsInto (m n : Resident) (w : Entry) (page : ℕ) : Type 0 where
+  pub round : w.extent ≡ extent_round w.extent.size page
+  pub low : w.extent.size ≤ 3
+  pub parts : AreParts w m
+  pub maps : Maps w.extent (λ _. Some w) m n
+
+module _ (m n : Resident) (w : Entry) (page : ℕ) (joins : JoinsInto m n w page) where
+  open joins use {round, low, parts, maps}
+
   whole_page : w.extent.first / 8 ^ w.extent.size ≡ page / 8 ^ w.extent.size
   whole_page = ap (λ (x : Extent). x.first / 8 ^ w.extent.size) round ∙ first_of_extent w.extent.size page
 
@@ -299,7 +317,11 @@ module _ (m n : Resident) (w : Entry) (page : ℕ) (round : w.extent ≡ extent_
 
 -- ---- or they don't, and then no larger extent round the page is eligible
 
-module _ (m : Resident) (page k : ℕ) (entry : Entry) (low : suc k ≤ 3) (there : entry_at m page ≡ Some entry) (size : entry.extent.size ≡ k) (tiles : AreTilesBut m page (suc k)) where
+module _ (m : Resident) (page : ℕ) (entry : Entry) (low : suc entry.extent.size ≤ 3) (there : entry_at m page ≡ Some entry)
+    (tiles : AreTilesBut m page (suc entry.extent.size)) where
+  abbrev k : ℕ
+  k = entry.extent.size
+
   -- the entry of a page of an eligible extent of the next size has the size of the page's own
   size_in_it : HasExtent (mapping_at m) (suc k) page → (p : ℕ) → p / 8 ^ suc k ≡ page / 8 ^ suc k → (e : Entry) → entry_at m p ≡ Some e
       → e.extent.size ≡ k
@@ -384,34 +406,43 @@ beside_page k page low = elim (cases_eq (page / 8 ^ k % 8) 0) [
     below (suc (suc (suc k))) l later = absurd (omega arith)
 
 -- the frame of an entry's aligned page is a multiple too
-frame_aligned : (m : Resident) (page : ℕ) (entry : Entry) (said : Mapping) → AreEntries m → AreAligned m → entry_at m page ≡ Some entry
-    → page % 8 ^ entry.extent.size ≡ 0 → mapping_at m page ≡ Some said → said.frame % 8 ^ entry.extent.size ≡ 0
-frame_aligned m page entry said entries aligned there first says =
+frame_aligned : (m : Resident) (page : ℕ) (entry : Entry) → AreEntries m → AreAligned m → entry_at m page ≡ Some entry
+    → page % 8 ^ entry.extent.size ≡ 0 → (mapping_of entry page).frame % 8 ^ entry.extent.size ≡ 0
+frame_aligned m page entry entries aligned there first =
     let begins : mapping_at m page ≡ Some entry.mapping = ap (mapping_at m)
     (sym (page_begins entry.extent.size page (entries.low page entry there) first)) ∙ entry_begins m entries page entry there in
-    let same = same_Some entry.mapping said (sym begins ∙ says) in
+    let same = same_Some entry.mapping (mapping_of entry page) (sym begins ∙ entry_says m page entry there) in
     ap (λ (x : Mapping). x.frame % 8 ^ entry.extent.size) (sym same) ∙ aligned page entry there
 
 -- the entry of a size that begins at a page gets another mapping in its frames
-pub set_tiles : (m n : Resident) (entry : Entry) (size page before : ℕ) (said mapping : Mapping) → entry_at m page ≡ Some entry
-    → entry.extent.size ≡ size → page % 8 ^ size ≡ 0 → mapping_at m page ≡ Some said → mapping.frame ≡ said.frame
-    → AreTilesBut m page before
+pub set_tiles : (m n : Resident) (entry : Entry) (size page before : ℕ) (mapping : Mapping) → entry_at m page ≡ Some entry
+    → entry.extent.size ≡ size → page % 8 ^ size ≡ 0 → mapping.frame ≡ (mapping_of entry page).frame → AreTilesBut m page before
     → Maps (extent_round size page) (λ _. Some (entry_with size page mapping)) m n → AreTilesBut n page (suc size)
-set_tiles m n entry size page before said mapping there is first says frame tiles maps =
+set_tiles m n entry size page before mapping there is first frame tiles maps =
     let at_first : page % 8 ^ entry.extent.size ≡ 0 = ap (λ s. page % 8 ^ s) is ∙ first in
-    let aligned : said.frame % 8 ^ size ≡ 0 = ap (λ s. said.frame % 8 ^ s) (sym is)
-    ∙ frame_aligned m page entry said tiles.entries tiles.aligned there at_first says in
+    let aligned : (mapping_of entry page).frame % 8 ^ size ≡ 0 = ap (λ s. (mapping_of entry page).frame % 8 ^ s) (sym is)
+    ∙ frame_aligned m page entry tiles.entries tiles.aligned there at_first in
     one_entry m n (entry_with size page mapping) page before (first_of_extent size page)
     (omega (arith, is, tiles.entries.low page entry there)) (ap (λ f. f % 8 ^ size) frame ∙ aligned) tiles maps
 
 -- The part of a size from a page on of a larger entry gets another mapping than it had.
-module _ (m n : Resident) (entry : Entry) (size page : ℕ) (mapping : Mapping) (entries : AreEntries m) (there : entry_at m page ≡ Some entry) (smaller_part : size < entry.extent.size) (frame : mapping.frame ≡ (mapping_of entry page).frame) (other : mapping ≢ mapping_of entry page) (says : (p : ℕ) → mapping_at n p ≡ (if p / 8 ^ size == page / 8 ^ size then Some (moved_by (p - page) mapping) else mapping_at m p)) where
+pub record SetsPart (m n : Resident) (entry : Entry) (size page : ℕ) (mapping : Mapping) : Type 0 where
+  pub entries : AreEntries m
+  pub there : entry_at m page ≡ Some entry
+  pub smaller_part : size < entry.extent.size
+  pub frame : mapping.frame ≡ (mapping_of entry page).frame
+  pub other : mapping ≢ mapping_of entry page
+  pub says : (p : ℕ) → mapping_at n p ≡ (if p / 8 ^ size == page / 8 ^ size then Some (moved_by (p - page) mapping) else mapping_at m p)
+
+module _ (m n : Resident) (entry : Entry) (size page : ℕ) (mapping : Mapping) (sets : SetsPart m n entry size page mapping) where
+  open sets use {entries, there, smaller_part, frame, other, says}
+
   low : entry.extent.size ≤ 3
   low = entries.low page entry there
 
   not_whole : HasExtent (mapping_at n) (suc size) page → ⊥
   not_whole has =
-      let beside = beside_page size page (omega (arith, low)) in
+      let beside = beside_page size page (omega (arith, low, smaller_part)) in
       let q = beside.other in
       let own : mapping_at n page ≡ Some mapping =
       says page ∙ ap (λ b. if b then Some (moved_by (page - page) mapping) else mapping_at m page)
@@ -422,9 +453,9 @@ module _ (m n : Resident) (entry : Entry) (size page : ℕ) (mapping : Mapping) 
       (ne_eqb (q / 8 ^ size) (page / 8 ^ size) beside.apart)
       ∙ entry_says m q entry (same_entry m entries page q entry there
       (coarser (suc size) entry.extent.size q page smaller_part low beside.has)) in
-      let one = same_Some _ mapping (sym (page_in (mapping_at n) (suc size) page page has (omega (arith, low)) refl) ∙ own) in
-      let two = same_Some _ (mapping_of entry q) (sym (page_in (mapping_at n) (suc size) page q has (omega (arith, low)) beside.has)
-      ∙ rest) in
+      let one = same_Some _ mapping (sym (page_in (mapping_at n) (suc size) page page has (omega (arith, low, smaller_part)) refl) ∙ own) in
+      let two = same_Some _ (mapping_of entry q)
+      (sym (page_in (mapping_at n) (suc size) page q has (omega (arith, low, smaller_part)) beside.has) ∙ rest) in
       other (same_mapping mapping (mapping_of entry page) frame
       (sym (ap (λ (x : Mapping). x.region) one) ∙ ap (λ (x : Mapping). x.region) two)
       (sym (ap (λ (x : Mapping). x.rights) one) ∙ ap (λ (x : Mapping). x.rights) two)

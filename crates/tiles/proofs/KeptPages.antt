@@ -162,7 +162,8 @@ module _ (r : Resident) (kept : ArePages r) (page : ℕ) (given : Mapping) (abse
       at many e =
           omega (
             arith,
-            few_with (frame_of_page r) (frames_in r) page given.frame known (λ p _. others p) kept.known kept.apart many,
+            few_with (frame_of_page r) (frames_in r) page given.frame
+                (record { known = known; others = λ p _. others p; within = kept.known; apart = kept.apart }) many,
             count-is (λ p. is_some (frame_of_page r p) || eqb p page) 0 many,
             count-sum (λ p. is_some (frame_of_page r p) || eqb p page) (λ p. is_some (entry_at r p)) (λ p. eqb p page && true) 0 many
                 (λ p _ _. one_more p (entry_at r p) refl),

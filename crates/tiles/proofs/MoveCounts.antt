@@ -1,6 +1,6 @@
 -- The moves by some sizes of a change of one page, and of changes in blocks that lie apart.
-use Rattle.std.proofs.Common.{◌≡◌, ℕ, ◌+◌, ◌/◌, ◌≤◌, ◌<◌, Bool, true, false, if◌then◌else◌, ◌||◌, nat_lt, is_some, max, Option, Some, None, refl, sym, ap, inl, inr, ◌∙◌, arith}
-use Rattle.std.proofs.lemmas.Bool.{cases_eq, ne_eqb}
+use Rattle.std.proofs.Common.{◌≡◌, ℕ, ◌+◌, ◌/◌, ◌≤◌, ◌<◌, ◌⊎◌, Bool, true, false, if◌then◌else◌, ◌||◌, nat_lt, is_some, max, Option, Some, None, refl, sym, ap, inl, inr, ◌∙◌, arith}
+use Rattle.std.proofs.lemmas.Bool.{ne_eqb}
 use Rattle.std.proofs.lemmas.Bool.Decides.{nat_tests}
 use Rattle.std.proofs.lemmas.Option.{none-some}
 use Rattle.pager_model.specs.declared.tile.Mapping.{Mapping}
@@ -10,14 +10,14 @@ use Rattle.pager_model.specs.Tiles.{tile_of, is_tile_in, is_promoted_in, promoti
 use Rattle.pager_model.proofs.CountLemmas.{weight}
 use Rattle.tiles.specs.declared.moves.Moves.{Moves}
 use Rattle.tiles.specs.Beside.{OthersSame}
-use Rattle.tiles.specs.Blocks.{OutsideSame, is_grown_at}
+use Rattle.tiles.specs.Blocks.{is_grown_at}
 use Rattle.tiles.specs.Changes.{moves_between, touched_of}
 use Rattle.tiles.specs.Resident.{Resident, mapping_at, Maps}
 use Rattle.tiles.specs.Sized.{AreMovesIn, KeepsOutsideIn, size_by}
-use Rattle.tiles.specs.Touched.{IsInSpace, extent_range}
+use Rattle.tiles.specs.Touched.{IsInSpace, extent_range, is_touched}
 use Rattle.tiles.proofs.SizeChanges.{others_back, promotions_one, promotions_same}
 use Rattle.tiles.proofs.SizedTiles.{by_small, local_by, none_grown, promoted_test}
-use Rattle.tiles.proofs.Counting.{count_pages-is, count-sum}
+use Rattle.tiles.proofs.Counting.{count_pages-is, count_pages_most, count-sum}
 use Rattle.tiles.proofs.Largest.{tiles}
 use Rattle.tiles.proofs.TouchedTiles.{extent_in_space, outside_larger, outside_none}
 
@@ -81,25 +81,36 @@ module _ (z : SizeSet) (old new : ℕ → Option Mapping) where
     demotions = no_demotion ∙ sym (promotions_same z new old (λ p. sym (same p)));
   }
 
--- ---- blocks
+-- ---- two changes
 
--- moves of changes in blocks that lie apart add up
-pub promotions_add : (z : SizeSet) (old mid new : ℕ → Option Mapping) (block : ℕ) → ((p : ℕ) → p / 512 ≡ block → mid p ≡ old p)
-    → OutsideSame block mid new → promotions_in z old new ≡ promotions_in z old mid + promotions_in z mid new
-promotions_add z old mid new block within outside = at 1048576 refl
+-- in each block of 512 pages one of two changes leaves all as it was
+abbrev pub LieApart : (old mid new : ℕ → Option Mapping) → Type 0
+LieApart old mid new = (block : ℕ) → ((p : ℕ) → p / 512 ≡ block → mid p ≡ old p) ⊎ ((p : ℕ) → p / 512 ≡ block → new p ≡ mid p)
+
+-- so it is where they are taken back
+apart_back : (old mid new : ℕ → Option Mapping) → LieApart old mid new → LieApart new mid old
+apart_back old mid new apart block = elim (apart block) [
+  | inl first ↦ inr (λ p at. sym (first p at))
+  | inr second ↦ inl (λ p at. sym (second p at))
+]
+
+-- their moves add up
+promotions_add : (z : SizeSet) (old mid new : ℕ → Option Mapping) → LieApart old mid new
+    → promotions_in z old new ≡ promotions_in z old mid + promotions_in z mid new
+promotions_add z old mid new apart = at 1048576 refl
   where
     each : (q : ℕ) → weight (is_promoted_in z old new q) ≡ weight (is_promoted_in z old mid q) + weight (is_promoted_in z mid new q)
-    each q = elim (cases_eq (q / 512) block) [
-      | inl e ↦
-          let same : size_by z mid q ≡ size_by z old q = local_by z old mid q (λ p joined. within p (joined ∙ e)) in
-          let first : is_promoted_in z old new q ≡ is_promoted_in z mid new q = promoted_test z old new q
+    each q = elim (apart (q / 512)) [
+      | inl first ↦
+          let same : size_by z mid q ≡ size_by z old q = local_by z old mid q first in
+          let one : is_promoted_in z old new q ≡ is_promoted_in z mid new q = promoted_test z old new q
           ∙ ap (λ n. is_grown_at q n (size_by z new q)) (sym same) ∙ sym (promoted_test z mid new q) in
-          omega (arith, ap weight first, ap weight (none_grown z old mid q (omega (arith, same))))
-      | inr apart ↦
-          let same : size_by z new q ≡ size_by z mid q = local_by z mid new q (λ p joined. outside p (λ e. apart (sym joined ∙ e))) in
-          let first : is_promoted_in z old new q ≡ is_promoted_in z old mid q = promoted_test z old new q
+          omega (arith, ap weight one, ap weight (none_grown z old mid q (omega (arith, same))))
+      | inr second ↦
+          let same : size_by z new q ≡ size_by z mid q = local_by z mid new q second in
+          let one : is_promoted_in z old new q ≡ is_promoted_in z old mid q = promoted_test z old new q
           ∙ ap (λ n. is_grown_at q (size_by z old q) n) same ∙ sym (promoted_test z old mid q) in
-          omega (arith, ap weight first, ap weight (none_grown z mid new q (omega (arith, same))))
+          omega (arith, ap weight one, ap weight (none_grown z mid new q (omega (arith, same))))
     ]
 
     at : (many : ℕ) → many ≡ 1048576 → promotions_in z old new ≡ promotions_in z old mid + promotions_in z mid new
@@ -112,30 +123,32 @@ promotions_add z old mid new block within outside = at 1048576 refl
           count-sum (is_promoted_in z old new) (is_promoted_in z old mid) (is_promoted_in z mid new) 0 many (λ q low high. each q),
         )
 
-pub demotions_add : (z : SizeSet) (old mid new : ℕ → Option Mapping) (block : ℕ) → ((p : ℕ) → p / 512 ≡ block → mid p ≡ old p)
-    → OutsideSame block mid new → demotions_in z old new ≡ demotions_in z old mid + demotions_in z mid new
-demotions_add z old mid new block within outside = at 1048576 refl
-  where
-    each : (q : ℕ) → weight (is_promoted_in z new old q) ≡ weight (is_promoted_in z mid old q) + weight (is_promoted_in z new mid q)
-    each q = elim (cases_eq (q / 512) block) [
-      | inl e ↦
-          let same : size_by z mid q ≡ size_by z old q = local_by z old mid q (λ p joined. within p (joined ∙ e)) in
-          let first : is_promoted_in z new old q ≡ is_promoted_in z new mid q = promoted_test z new old q
-          ∙ ap (λ n. is_grown_at q (size_by z new q) n) (sym same) ∙ sym (promoted_test z new mid q) in
-          omega (arith, ap weight first, ap weight (none_grown z mid old q (omega (arith, same))))
-      | inr apart ↦
-          let same : size_by z new q ≡ size_by z mid q = local_by z mid new q (λ p joined. outside p (λ e. apart (sym joined ∙ e))) in
-          let first : is_promoted_in z new old q ≡ is_promoted_in z mid old q = promoted_test z new old q
-          ∙ ap (λ n. is_grown_at q n (size_by z old q)) same ∙ sym (promoted_test z mid old q) in
-          omega (arith, ap weight first, ap weight (none_grown z new mid q (omega (arith, same))))
-    ]
+demotions_add : (z : SizeSet) (old mid new : ℕ → Option Mapping) → LieApart old mid new
+    → demotions_in z old new ≡ demotions_in z old mid + demotions_in z mid new
+demotions_add z old mid new apart = omega (arith, promotions_add z new mid old (apart_back old mid new apart))
 
-    at : (many : ℕ) → many ≡ 1048576 → demotions_in z old new ≡ demotions_in z old mid + demotions_in z mid new
-    at many e =
-        omega (
-          arith,
-          count_pages-is (is_promoted_in z new old) many e,
-          count_pages-is (is_promoted_in z mid old) many e,
-          count_pages-is (is_promoted_in z new mid) many e,
-          count-sum (is_promoted_in z new old) (is_promoted_in z mid old) (is_promoted_in z new mid) 0 many (λ q low high. each q),
-        )
+pub moves_more : (z : SizeSet) (old mid new : ℕ → Option Mapping) (so_far more all : Moves) → LieApart old mid new
+    → AreMovesIn z old mid so_far → AreMovesIn z mid new more → all.promotions ≡ so_far.promotions + more.promotions
+    → all.demotions ≡ so_far.demotions + more.demotions → IsInSpace all.touched
+    → ((p : ℕ) → is_touched all.touched p ≡ false → (is_touched so_far.touched p ≡ false) × (is_touched more.touched p ≡ false))
+    → AreMovesIn z old new all
+moves_more z old mid new so_far more all apart moved moves promoted demoted in_range touched = record {
+  promotions = omega (arith, promotions_add z old mid new apart, promoted, moved.promotions, moves.promotions);
+  demotions = omega (arith, demotions_add z old mid new apart, demoted, moved.demotions, moves.demotions);
+  in_space = in_range;
+  outside = λ u is out. let neither = touched u.extent.first out in moves.outside u (moved.outside u is neither.0) neither.1;
+}
+
+pub moves_fit : (z : SizeSet) (old mid new : ℕ → Option Mapping) (so_far more : Moves) → LieApart old mid new
+    → AreMovesIn z old mid so_far → AreMovesIn z mid new more → (so_far.promotions + more.promotions ≤ 1048576)
+    × (so_far.demotions + more.demotions ≤ 1048576)
+moves_fit z old mid new so_far more apart moved moves = (
+  omega (
+    arith,
+    promotions_add z old mid new apart,
+    moved.promotions,
+    moves.promotions,
+    count_pages_most (is_promoted_in z old new),
+  ),
+  omega (arith, demotions_add z old mid new apart, moved.demotions, moves.demotions, count_pages_most (is_promoted_in z new old)),
+)

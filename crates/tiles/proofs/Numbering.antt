@@ -68,9 +68,16 @@ count-few numbers pages (suc many) apart =
           (λ p. is_below (numbers p) many) (λ p. is_number (numbers p) many) 0 pages (λ p. below-suc (numbers p) many),
     )
 
--- The pages have numbers, and a page is to have one that no other page has.
-module _ (numbers : ℕ → Option ℕ) (many page number : ℕ) (known : number < many) (others : (p : ℕ) → p ≢ page → numbers p ≢ Some number)
-    (within : (p n : ℕ) → numbers p ≡ Some n → n < many) (apart : AreApart numbers) where
+-- The pages have numbers below a bound, and a page may have one that no other page has.
+pub record MayHave (numbers : ℕ → Option ℕ) (many page number : ℕ) : Type 0 where
+  pub known : number < many
+  pub others : (p : ℕ) → p ≢ page → numbers p ≢ Some number
+  pub within : (p n : ℕ) → numbers p ≡ Some n → n < many
+  pub apart : AreApart numbers
+
+module _ (numbers : ℕ → Option ℕ) (many page number : ℕ) (may_have : MayHave numbers many page number) where
+  open may_have use {known, others, within, apart}
+
   after : ℕ → Option ℕ
   after p = if eqb p page then Some number else numbers p
 

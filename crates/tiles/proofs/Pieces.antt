@@ -16,7 +16,7 @@ use Rattle.pager_model.proofs.ExtentLemmas.{coarser, eight_pos, first_of_extent,
 use Rattle.pager_model.proofs.TileParts.{same_tile-true, same_tile-refl}
 use Rattle.tiles.specs.Beside.{OthersSame}
 use Rattle.tiles.specs.Changes.{Came, times, part_from, part_start, own_part, beside, cut_round, cut_from, pieces}
-use Rattle.tiles.proofs.ChangedTiles.{IsCut, IsNew, part_starts, own_is_tile, own_new, part_new, new_is}
+use Rattle.tiles.proofs.ChangedTiles.{IsCut, IsCutPart, IsNew, part_starts, own_is_tile, own_new, part_new, new_is}
 use Rattle.tiles.proofs.Largest.{size_small}
 use Rattle.tiles.proofs.TileLaws.{tile_largest}
 
@@ -167,12 +167,10 @@ pub more-own : (xs ys : List Tile) (level page : ℕ) (large : Tile) (part : ℕ
 more-own xs ys level page large part own had = had ∙ ap (λ zs. xs ++ zs)
     (sym (ap (beside level page large) (add-one part) ∙ beside-own level page large part own))
 
-pub more-other : (xs ys zs : List Tile) (level page : ℕ) (large t : Tile) (part first : ℕ) → part ≢ own_part level page
-    → ys ≡ xs ++ beside level page large part → t ≡ part_from level first large → first ≡ part_start level page part → zs ≡ ys ++ t ∷ []
-    → zs ≡ xs ++ beside level page large (part + 1)
-more-other xs ys zs level page large t part first other had is starts added =
-    added ∙ ap (λ us. us ++ t ∷ []) had ∙ ap (λ u. (xs ++ beside level page large part) ++ u ∷ [])
-    (is ∙ ap (λ n. part_from level n large) starts)
+pub more-other : (xs ys : List Tile) (level page : ℕ) (large : Tile) (part : ℕ) → part ≢ own_part level page
+    → ys ≡ xs ++ beside level page large part → ys ++ piece level page large part ∷ [] ≡ xs ++ beside level page large (part + 1)
+more-other xs ys level page large part other had =
+    ap (λ us. us ++ piece level page large part ∷ []) had
     ∙ append_assoc xs (beside level page large part) (piece level page large part ∷ [])
     ∙ ap (λ us. xs ++ us) (sym (ap (beside level page large) (add-one part) ∙ beside-other level page large part other))
 
@@ -259,21 +257,21 @@ module _ (old new : ℕ → Option Mapping) (page : ℕ) (others : OthersSame pa
   large_low large at = omega (arith, ap size_in at, size_small old page)
 
   none_cut : (t : Tile) (o : Option Tile) → had ≡ o
-      → ((large : Tile) (level part : ℕ) → had ≡ Some large → size_in own ≤ level → level < large.extent.size → part < 8
-      → part ≢ own_part level page → t ≢ piece level page large part)
+      → ((large : Tile) (level part : ℕ) → IsCutPart old new page large level part → t ≢ piece level page large part)
       → times t (cut_from page o own) ≡ 0
   none_cut t None at misses = refl
   none_cut t (Some large) at misses =
       cut-misses t page large (size_in own) (large.extent.size - size_in own)
-      (λ level part from below few other. misses large level part at from (omega (arith, from, below)) few other)
+      (λ level part from below few other. misses large level part
+      (record { at = at; from = from; below = omega (arith, from, below); few = few; other = other }))
 
   one_cut : (t : Tile) (o : Option Tile) → had ≡ o → IsCut old new page t → times t (cut_from page o own) ≡ 1
-  one_cut t None at is = absurd (none-some is.large (sym at ∙ is.at))
+  one_cut t None at is = absurd (none-some is.large (sym at ∙ is.cut.at))
   one_cut t (Some large) at is =
-      let same : is.large ≡ large = same_Some is.large large (sym is.at ∙ at) in
+      let same : is.large ≡ large = same_Some is.large large (sym is.cut.at ∙ at) in
       let size : is.large.extent.size ≡ large.extent.size = ap (λ (u : Tile). u.extent.size) same in
-      cut-hits t page large (size_in own) (large.extent.size - size_in own) t.extent.size is.part is.from
-      (omega (arith, is.from, is.below, size)) is.few is.other
+      cut-hits t page large (size_in own) (large.extent.size - size_in own) t.extent.size is.part is.cut.from
+      (omega (arith, is.cut.from, is.cut.below, size)) is.cut.few is.cut.other
       (is.is ∙ ap (λ (u : Tile). piece t.extent.size page u is.part) same)
 
   none_own : (t : Tile) (o : Option Tile) → ((u : Tile) → o ≡ Some u → t ≢ u) → times t (option_to_list o) ≡ 0
@@ -288,14 +286,14 @@ module _ (old new : ℕ → Option Mapping) (page : ℕ) (others : OthersSame pa
     | inl at ↦ omega (
       arith,
       ap (λ o. times t (option_to_list o)) at ∙ times-same t t refl,
-      none_cut t had refl (λ large level part had_at from below few other. not_beside t level part large at
-          (omega (arith, below, large_low large had_at)) few other),
+      none_cut t had refl (λ large level part cut. not_beside t level part large at
+          (omega (arith, cut.below, large_low large cut.at)) cut.few cut.other),
     )
-    | inr cut ↦ omega (
+    | inr is_cut ↦ let cut = is_cut.cut in omega (
       arith,
-      none_own t own (λ u at same. not_beside u t.extent.size cut.part cut.large at
-          (omega (arith, cut.below, large_low cut.large cut.at)) cut.few cut.other (sym same ∙ cut.is)),
-      one_cut t had refl cut,
+      none_own t own (λ u at same. not_beside u t.extent.size is_cut.part is_cut.large at
+          (omega (arith, cut.below, large_low is_cut.large cut.at)) cut.few cut.other (sym same ∙ is_cut.is)),
+      one_cut t had refl is_cut,
     )
   ]
 
@@ -306,8 +304,8 @@ module _ (old new : ℕ → Option Mapping) (page : ℕ) (others : OthersSame pa
   missing t differ isnt = times_is t ∙ omega (
     arith,
     none_own t own (λ u at same. isnt (is_new u (own_new old new page others u at (λ before. differ (before ∙ sym at))) t same)),
-    none_cut t had refl (λ large level part at from below few other same. isnt
-        (is_new (piece level page large part) (part_new old new page others large at level part from below few other) t same)),
+    none_cut t had refl (λ large level part cut same. isnt
+        (is_new (piece level page large part) (part_new old new page others large level part cut) t same)),
   )
 
   few_pieces : length (pieces page had own) ≤ 22
@@ -338,8 +336,8 @@ module _ (old new : ℕ → Option Mapping) (page : ℕ) (others : OthersSame pa
       stays : (t : Tile) → IsNew old new t → ⊥
       stays t is = elim (new_is old new page others t is.after is.before) [
         | inl at ↦ true≢false (sym (own_is_tile old page t (same ∙ at)) ∙ is.before)
-        | inr cut ↦ absurd (let sizes : size_in had ≡ size_in own = ap size_in same in
-            omega (arith, cut.from, cut.below, ap size_in cut.at, sizes))
+        | inr is_cut ↦ absurd (let sizes : size_in had ≡ size_in own = ap size_in same in
+            omega (arith, is_cut.cut.from, is_cut.cut.below, ap size_in is_cut.cut.at, sizes))
       ]
 
       each : (t : Tile) (after before : Bool) → is_tile new t ≡ after → is_tile old t ≡ before

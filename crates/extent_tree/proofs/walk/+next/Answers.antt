@@ -1,4 +1,5 @@
-use Rattle.std.proofs.Common.{rules, ◌≡◌, ℕ, ◌+◌, ◌-◌, ◌*◌, ◌<◌, ◌≤◌, refl, inl, sym, ap, ◌∙◌, arith}
+use Rattle.std.proofs.Common.{rules, ◌≡◌, ℕ, ◌+◌, ◌-◌, ◌*◌, ◌<◌, ◌≤◌, refl, inl, sym, ap, subst, ◌∙◌, arith}
+use Rattle.extent_tree.specs.Kept.{AreInOrder}
 use Rattle.extent_tree.specs.Rows.{NoRows, NoSplitRoots, number_at, row}
 use Rattle.extent_tree.proofs.Nexts.{above_pages, looks_all, rest_at, rest_some, number_within, first_place, parts_in_order, rest_in_order, no_row_within, no_rows_on, no_rows_up, next_up, row_at, looks_more, no_root_node}
 use Rattle.extent_tree.proofs.Trees.{place_known}
@@ -50,8 +51,8 @@ next-requires g t c κs within =
     let stop : page + c.min.result ≤ page + rest_at h page = omega (arith, c.min.ensures, c.rest_at.ensures) in
     let smaller : 4 - (h + 1) < 4 - h = omega (arith, low) in
     let lower : h + 1 ≤ 3 = omega (arith, low) in
-    let parts = parts_in_order s h c.loop-page.place page
-    (page + c.min.result) c.in-Some-node.node c.place-first.result low stop at leads first in
+    let parts = subst (λ place. AreInOrder s (h + 1) place page (page + c.min.result)) (sym first)
+    (parts_in_order s h c.loop-page.place page (page + c.min.result) c.in-Some-node.node low stop at leads) in
     (search (rules, smaller), (within.0, (within.1, (lower, (c.requires.tree, parts)))))
 
 pub returns-in-Some-next-clause-some : goal.returns-in-Some-next-clause-some
@@ -62,10 +63,17 @@ returns-in-Some-next-clause-some g t c =
     let stop = page + c.min.result in
     let at = first_place s h c.loop-page.place page c.args.end c.loop-page.invariant.places c.loop-page-test.true in
     let value = sym (ap (λ s. s.value) c.spot-spot.ensures.spot) ∙ c.in_default.is in
-    next_up s h c.args.from page stop c.args.end c.in-Some-next.found c.in-Some-next.ensures.some c.loop-page.invariant.from_on
-    (omega (arith, c.min.ensures, c.loop-page-test.true)) c.loop-page.invariant.none
+    let next = next_up s h page stop c.in-Some-next.found c.in-Some-next.ensures.some
     (λ other on before. row_at s h c.loop-page.place page other c.requires.height at
-    (number_within h page other c.requires.height on (omega (arith, before, c.min.ensures, c.rest_at.ensures))) ∙ value)
+    (number_within h page other c.requires.height on (omega (arith, before, c.min.ensures, c.rest_at.ensures))) ∙ value) in
+    record {
+      from_on = omega (arith, next.from_on, c.loop-page.invariant.from_on);
+      before_end = omega (arith, next.before_end, c.min.ensures, c.loop-page-test.true);
+      low = next.low;
+      is = next.is;
+      largest = next.largest;
+      lowest = no_rows_on s (3 - h) c.args.from page c.in-Some-next.found.page c.loop-page.invariant.none next.lowest;
+    }
 
 pub returns-in-Some-next-clause-cost : goal.returns-in-Some-next-clause-cost
 returns-in-Some-next-clause-cost g t c =

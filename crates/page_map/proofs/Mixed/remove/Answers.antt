@@ -1,9 +1,8 @@
 use Rattle.std.proofs.Common.{◌≡◌, ◌+◌, ◌^◌, Some, None, is_some, ap, ◌∙◌, subst}
 use Rattle.page_map.specs.Kept.{IsKept}
 use Rattle.page_map.specs.Entries.{entry_at, pages_in, Maps}
-use Rattle.page_map.proofs.Changes.{entry_of_all, has_row, kept_entries, remove_kept}
-use Rattle.page_map.proofs.CountChanges.{one_there, remove_counts}
-use Rattle.page_map.proofs.Mappings.{is_extent}
+use Rattle.page_map.proofs.Changes.{has_row, remove_kept}
+use Rattle.page_map.proofs.CountChanges.{is_there, one_there, remove_counts}
 use Rattle.page_map.proofs.Mixed.remove.Goals as goal
 use Rattle.page_map.proofs.Mixed.remove.Goals.{After-self, After-remove}
 use Rattle.page_map.proofs.Mixed.remove.Given.{Over}
@@ -24,23 +23,18 @@ after g c = remove_kept c.self.inside.tree c.remove.new.self c.args.entry.now c.
 
 pub subtract-requires : goal.subtract-requires
 subtract-requires g c =
-    let t = c.self.inside.tree in
-    let entry = c.args.entry.now in
     let at = there g (goal.at.subtract-requires g c).After-self in
-    let entries = kept_entries t c.self.invariant.0 in
-    one_there t entry c.self.inside.counts (is_extent t entry.extent.first entry entries at) (entries.in_space entry.extent.first entry at)
-    (entry_of_all t entry c.self.invariant.0 at) c.self.invariant.1
+    one_there c.self.inside.tree c.args.entry.now c.self.inside.counts
+    (is_there c.self.inside.tree c.args.entry.now c.self.invariant.0 at) c.self.invariant.1
 
 pub invariant_of-self : goal.invariant_of-self
 invariant_of-self g c =
     let t = c.self.inside.tree in
     let entry = c.args.entry.now in
     let at = there g (goal.at.invariant_of-self g c).After-self in
-    let entries = kept_entries t c.self.invariant.0 in
     let is = after g (goal.at.invariant_of-self g c).After-remove in (
       is.0,
-      remove_counts t c.remove.new.self entry c.self.inside.counts c.subtract.new.counts (is_extent t entry.extent.first entry entries at)
-          (entries.in_space entry.extent.first entry at) (entry_of_all t entry c.self.invariant.0 at)
+      remove_counts t c.remove.new.self entry c.self.inside.counts c.subtract.new.counts (is_there t entry c.self.invariant.0 at)
           is.1 c.self.invariant.1 c.subtract.ensures,
     )
 

@@ -3,9 +3,8 @@ use Rattle.pager_model.specs.Tiles.{moved_by}
 use Rattle.pager_model.proofs.ExtentLemmas.{eight_parts}
 use Rattle.page_map.specs.Kept.{IsKept, Grows}
 use Rattle.page_map.specs.Entries.{entry_at, part_of, pages_in, Maps}
-use Rattle.page_map.proofs.Changes.{entry_of_all, kept_entries, mapped_room, split_kept}
-use Rattle.page_map.proofs.CountChanges.{one_there, few_between, split_counts}
-use Rattle.page_map.proofs.Mappings.{is_extent}
+use Rattle.page_map.proofs.Changes.{kept_entries, mapped_room, split_kept}
+use Rattle.page_map.proofs.CountChanges.{is_there, one_there, few_between, split_counts}
 use Rattle.page_map.proofs.Mixed.split.Goals as goal
 use Rattle.page_map.proofs.Mixed.split.Goals.{After-pages, After-self, After-split}
 use Rattle.page_map.proofs.Mixed.split.Given.{Over}
@@ -50,12 +49,9 @@ after g c =
 
 pub subtract-requires : goal.subtract-requires
 subtract-requires g c =
-    let t = c.self.inside.tree in
-    let entry = c.args.entry.now in
     let at = there g (goal.at.subtract-requires g c).After-self in
-    let entries = kept_entries t c.self.invariant.0 in
-    one_there t entry c.self.inside.counts (is_extent t entry.extent.first entry entries at) (entries.in_space entry.extent.first entry at)
-    (entry_of_all t entry c.self.invariant.0 at) c.self.invariant.1
+    one_there c.self.inside.tree c.args.entry.now c.self.inside.counts
+    (is_there c.self.inside.tree c.args.entry.now c.self.invariant.0 at) c.self.invariant.1
 
 pub add-requires : goal.add-requires
 add-requires g c =
@@ -73,12 +69,10 @@ invariant_of-self g c =
     let t = c.self.inside.tree in
     let entry = c.args.entry.now in
     let at = there g (goal.at.invariant_of-self g c).After-self in
-    let entries = kept_entries t c.self.invariant.0 in
     let is = after g (goal.at.invariant_of-self g c).After-split in (
       is.0,
       split_counts t c.split.new.self entry c.self.inside.counts c.subtract.new.counts c.add.new.counts c.requires.large
-          (is_extent t entry.extent.first entry entries at) (entries.in_space entry.extent.first entry at)
-          (entry_of_all t entry c.self.invariant.0 at) is.1 c.self.invariant.1 c.subtract.ensures
+          (is_there t entry c.self.invariant.0 at) is.1 c.self.invariant.1 c.subtract.ensures
           (subst (λ k. Grows k 8 c.subtract.new.counts c.add.new.counts) c.smaller-part.ensures c.add.ensures),
     )
 

@@ -4,6 +4,7 @@ use Rattle.extent_tree.specs.Rows.{Arena, row, ChangesOnly}
 use Rattle.extent_tree.specs.Counts.{splits_with}
 use Rattle.extent_tree.proofs.Rooms.{RowsIn, room_for}
 use Rattle.population_map.specs.declared.mark.Mark.{Mark}
+use Rattle.population_map.specs.declared.way.Way.{Way}
 use Rattle.population_map.specs.Kept.{AreMarks, IsCarried, kept}
 use Rattle.population_map.specs.Bits.{WithBit}
 use Rattle.population_map.specs.Populations.{is_placed, placed_pages}
@@ -13,8 +14,11 @@ use Rattle.population_map.proofs.way.change.Goals as goal
 use Rattle.population_map.proofs.way.change.Goals.{After-at_level, After-write, After-write-2, After-write-3}
 use Rattle.population_map.proofs.way.change.Given.{Over}
 
-asks : (g : Over) (c : After-at_level g)
-    → Asks c.args.tree.now c.args.page c.args.is_in c.with_page-small.result c.with_part-middle.result c.with_part-large.result
+-- the marks that are written
+abbrev way : (g : Over) (c : After-at_level g) → Way
+way g c = record { small = c.with_page-small.result; middle = c.with_part-middle.result; large = c.with_part-large.result }
+
+asks : (g : Over) (c : After-at_level g) → Asks c.args.tree.now c.args.page c.args.is_in (way g c)
 asks g c = record {
   small_id = c.with_page-small.ensures.id ∙ ap (λ v. v.id) c.read-way.ensures.small;
   small_some = subst (λ v. WithBit v.some c.with_page-small.result.some
@@ -44,8 +48,9 @@ write-requires-clause-room g c =
 
 pub write-requires-clause-row : goal.write-requires-clause-row
 write-requires-clause-row g c none =
+    let at = (goal.at.write-requires-clause-row g c).After-at_level in
     ap (λ k. is_some (row c.args.tree.now k c.args.page)) c.at_level.ensures
-    ∙ (may_go c.args.tree.now c.args.page c.args.is_in c.with_page-small.result c.with_part-middle.result c.with_part-large.result c.requires.marks c.requires.before (asks g (goal.at.write-requires-clause-row g c).After-at_level)).0 none
+    ∙ (may_go c.args.tree.now c.args.page c.args.is_in (way g at) c.requires.marks c.requires.before (asks g at)).0 none
 
 first : (g : Over) (c : After-write g) → ChangesOnly c.args.tree.now c.write.new.tree 1 c.args.page (kept c.with_page-small.result)
 first g c = subst (λ k. ChangesOnly c.args.tree.now c.write.new.tree k c.args.page
@@ -65,7 +70,8 @@ write-requires-2-clause-row g c none =
     let at = goal.at.write-requires-2-clause-row g c in
     ap (λ k. is_some (row c.write.new.tree k c.args.page)) c.at_level-2.ensures
     ∙ (ap is_some ((first g at.After-write).others 2 c.args.page (omega arith) (λ e _. absurd (omega (arith, e))))
-    ∙ (may_go c.args.tree.now c.args.page c.args.is_in c.with_page-small.result c.with_part-middle.result c.with_part-large.result c.requires.marks c.requires.before (asks g at.After-at_level)).1 none)
+    ∙ (may_go c.args.tree.now c.args.page c.args.is_in (way g at.After-at_level) c.requires.marks c.requires.before
+    (asks g at.After-at_level)).1 none)
 
 second : (g : Over) (c : After-write-2 g) → ChangesOnly c.write.new.tree c.write-2.new.tree 2 c.args.page (kept c.with_part-middle.result)
 second g c = subst (λ k. ChangesOnly c.write.new.tree c.write-2.new.tree k c.args.page
@@ -85,29 +91,29 @@ write-requires-3-clause-row g c none =
     ap (λ k. is_some (row c.write-2.new.tree k c.args.page)) c.at_level-3.ensures
     ∙ (ap is_some ((second g at.After-write-2).others 3 c.args.page (omega arith) (λ e _. absurd (omega (arith, e))))
     ∙ (ap is_some ((first g at.After-write).others 3 c.args.page (omega arith) (λ e _. absurd (omega (arith, e))))
-    ∙ (may_go c.args.tree.now c.args.page c.args.is_in c.with_page-small.result c.with_part-middle.result c.with_part-large.result c.requires.marks c.requires.before (asks g at.After-at_level)).2 none))
+    ∙ (may_go c.args.tree.now c.args.page c.args.is_in (way g at.After-at_level) c.requires.marks c.requires.before
+    (asks g at.After-at_level)).2 none))
 
 -- what the three writes do
 changes : (g : Over) (c : After-write-3 g)
-    → Asks c.args.tree.now c.args.page c.args.is_in c.with_page-small.result c.with_part-middle.result c.with_part-large.result
-    → ChangesOnly c.args.tree.now c.write.new.tree 1 c.args.page (kept c.with_page-small.result)
-    → ChangesOnly c.write.new.tree c.write-2.new.tree 2 c.args.page (kept c.with_part-middle.result)
-    → ChangesPage c.args.tree.now c.write-3.new.tree c.args.page c.args.is_in c.with_page-small.result c.with_part-middle.result c.with_part-large.result
-changes g c asked a b = record {
-  writes = way_written c.args.tree.now c.write.new.tree c.write-2.new.tree c.write-3.new.tree c.args.page c.with_page-small.result c.with_part-middle.result c.with_part-large.result a b
-      (subst (λ k. ChangesOnly c.write-2.new.tree c.write-3.new.tree k c.args.page
-      (kept c.with_part-large.result)) c.at_level-3.ensures c.write-3.ensures.row) c.write-3.ensures.splits;
-  asks = asked;
-}
+    → ChangesPage c.args.tree.now c.write-3.new.tree c.args.page c.args.is_in (way g (goal.at.After-write-3 g c).After-at_level)
+changes g c =
+    let at = goal.at.After-write-3 g c in
+    record {
+      writes = way_written c.args.tree.now c.write.new.tree c.write-2.new.tree c.write-3.new.tree c.args.page (way g at.After-at_level)
+          (first g at.After-write) (second g at.After-write-2)
+          (subst (λ k. ChangesOnly c.write-2.new.tree c.write-3.new.tree k c.args.page
+          (kept c.with_part-large.result)) c.at_level-3.ensures c.write-3.ensures.row) c.write-3.ensures.splits;
+      asks = asks g at.After-at_level;
+    }
 
 pub returns-clause-marks : goal.returns-clause-marks
 returns-clause-marks g c =
     let at = goal.at.returns-clause-marks g c in
-    marks_after c.args.tree.now c.write-3.new.tree c.args.page c.args.is_in c.with_page-small.result c.with_part-middle.result c.with_part-large.result c.requires.marks c.requires.placed
-    (changes g c (asks g at.After-at_level) (first g at.After-write) (second g at.After-write-2))
+    marks_after c.args.tree.now c.write-3.new.tree c.args.page c.args.is_in (way g at.After-at_level) c.requires.marks c.requires.placed
+    (changes g at.After-write-3)
 
 pub returns-clause-populated : goal.returns-clause-populated
 returns-clause-populated g c =
     let at = goal.at.returns-clause-populated g c in
-    populates c.args.tree.now c.write-3.new.tree c.args.page c.args.is_in c.with_page-small.result c.with_part-middle.result c.with_part-large.result
-    (changes g c (asks g at.After-at_level) (first g at.After-write) (second g at.After-write-2))
+    populates c.args.tree.now c.write-3.new.tree c.args.page c.args.is_in (way g at.After-at_level) (changes g at.After-write-3)

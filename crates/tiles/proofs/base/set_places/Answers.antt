@@ -1,4 +1,4 @@
-use Rattle.std.proofs.Common.{◌≡◌, ◌-◌, ◌∙◌, length, replicate, take, drop, ap, rules, arith}
+use Rattle.std.proofs.Common.{◌≡◌, ◌-◌, ◌∙◌, length, replicate, take, drop, get_or, ◌++◌, ap, rules, arith}
 use Rattle.std.proofs.lemmas.List.{length-take, length-drop}
 use Rattle.pager_model.proofs.Lists.{filled_at}
 use Rattle.tiles.proofs.base.set_places.Goals as goal
@@ -13,4 +13,5 @@ returns c i low =
       length-drop c.args.from xs,
     ) in
     let filled = c.fill.ensures.after (λ y same. search rules) ∙ ap (λ n. replicate n c.args.level) count in
-    filled_at xs c.fill.new.self c.args.from c.args.end c.args.level 0 i c.requires.range (omega arith) filled
+    ap (λ part. get_or (take c.args.from xs ++ (part ++ drop k (drop c.args.from xs))) i 0) filled
+    ∙ filled_at xs c.args.from c.args.end c.args.level 0 i c.requires.range (omega arith)

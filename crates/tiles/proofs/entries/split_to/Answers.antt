@@ -1,5 +1,5 @@
-use Rattle.std.proofs.Common.{◌<◌, arith}
-use Rattle.tiles.proofs.EntryTiles.{alike_on, first_there, split_alike, split_fits, split_there, split_tiles}
+use Rattle.std.proofs.Common.{arith}
+use Rattle.tiles.proofs.EntryTiles.{Breaks, alike_on, first_there, split_alike, split_fits, split_there, split_tiles}
 use Rattle.tiles.proofs.entries.split_to.Goals as goal
 
 pub split-requires-clause-there : goal.split-requires-clause-there
@@ -12,15 +12,17 @@ loop-size-preserved g c =
     let n = c.split.new.self in
     let entry = c.loop-size.entry in
     let so_far = c.loop-size.invariant in
-    let maps = c.split.ensures.entries in
-    let large : 0 < entry.extent.size = omega arith in
-    let fits = split_fits m n entry c.args.page so_far.tiles.entries so_far.there large maps in
+    let breaks : Breaks m n entry c.args.page = record {
+      entries = so_far.tiles.entries;
+      there = so_far.there;
+      large = omega arith;
+      maps = c.split.ensures.entries;
+    } in
     rw c.part-entry.ensures (record {
-      there = split_there m n entry c.args.page so_far.tiles.entries so_far.there large maps;
+      there = split_there m n entry c.args.page breaks;
       size = omega arith;
-      fits = omega (arith, fits, so_far.fits);
-      tiles = split_tiles m n entry c.args.page so_far.tiles.entries so_far.there large maps so_far.tiles;
-      pages = alike_on c.args.map.now m n so_far.pages
-          (split_alike m n entry c.args.page so_far.tiles.entries so_far.there large maps c.split.ensures.pages);
+      fits = omega (arith, split_fits m n entry c.args.page breaks, so_far.fits);
+      tiles = split_tiles m n entry c.args.page breaks so_far.tiles;
+      pages = alike_on c.args.map.now m n so_far.pages (split_alike m n entry c.args.page breaks c.split.ensures.pages);
       cost = omega (arith, so_far.cost, c.split.ensures.cost);
     })

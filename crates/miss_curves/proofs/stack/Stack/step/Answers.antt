@@ -1,8 +1,8 @@
-use Rattle.std.proofs.Common.{◌≡◌, ◌+◌, length, map, sum, Some, rules, ap, sym, subst, ◌∙◌, arith}
+use Rattle.std.proofs.Common.{◌≡◌, ◌+◌, length, map, sum, Some, rules, refl, ap, sym, subst, ◌∙◌, arith}
 use Rattle.std.specs.List.{All}
 use Rattle.std.proofs.lemmas.List.{with_items_is}
 use Rattle.miss_curves.specs.Stacks.{AreDistinct, Kept, Passes, found_at, kept_at, moved_down, place_of}
-use Rattle.miss_curves.proofs.DistinctTiles.{distinct-fewer}
+use Rattle.miss_curves.proofs.DistinctTiles.{IsKept-used, distinct-fewer}
 use Rattle.miss_curves.proofs.StackLemmas.{kept_unused, kept_used}
 use Rattle.miss_curves.proofs.stack.Stack.step.Goals as goal
 
@@ -14,22 +14,10 @@ invariant_of-self g c =
     let before = c.self.inside in
     let places_long : length c.follow_use-place.new.places ≡ before.places.len = search rules in
     let found_long : length c.count.new.found ≡ before.found.len = search rules in
-    let places = with_items_is before.places c.follow_use-place.new.places places_long in
-    let found = with_items_is before.found c.count.new.found found_long in
-    record {
-      long = omega (
-        arith,
-        ap length found,
-        ap length places,
-        places_long,
-        found_long,
-        before.places.ok.0,
-        before.found.ok.0,
-        c.self.invariant.long,
-      );
-      within = omega (arith, ap sum found, c.count.ensures.more, ap sum c.deref_mut-in-Some.ensures.value, c.self.invariant.within);
-      distinct = subst AreDistinct (sym places) c.follow_use-place.ensures.distinct;
-    }
+    IsKept-used _ _ c.follow_use-place.new.places c.count.new.found c.self.invariant
+    (with_items_is before.places c.follow_use-place.new.places places_long) (with_items_is before.found c.count.new.found found_long) refl
+    (omega (arith, places_long, before.places.ok.0)) (omega (arith, found_long, before.found.ok.0))
+    (omega (arith, c.count.ensures.more, ap sum c.deref_mut-in-Some.ensures.value)) c.follow_use-place.ensures.distinct
 
 pub invariant_of-self-in-None : goal.invariant_of-self-in-None
 invariant_of-self-in-None g c =

@@ -1,6 +1,6 @@
-use Rattle.std.proofs.Common.{◌≡◌, length, sum, rules, ap, sym, subst, arith}
+use Rattle.std.proofs.Common.{◌≡◌, length, sum, rules, refl, ap, arith}
 use Rattle.std.proofs.lemmas.List.{with_items_is}
-use Rattle.miss_curves.specs.Stacks.{AreDistinct}
+use Rattle.miss_curves.proofs.DistinctTiles.{IsKept-used}
 use Rattle.miss_curves.proofs.stack.Stack.step_same.Goals as goal
 
 pub follow_use_same-place-requires : goal.follow_use_same-place-requires
@@ -11,19 +11,7 @@ invariant_of-self c =
     let before = c.self.inside in
     let places_long : length c.follow_use_same-place.new.places ≡ before.places.len = search rules in
     let found_long : length c.count.new.found ≡ before.found.len = search rules in
-    let places = with_items_is before.places c.follow_use_same-place.new.places places_long in
-    let found = with_items_is before.found c.count.new.found found_long in
-    record {
-      long = omega (
-        arith,
-        ap length found,
-        ap length places,
-        places_long,
-        found_long,
-        before.places.ok.0,
-        before.found.ok.0,
-        c.self.invariant.long,
-      );
-      within = omega (arith, ap sum found, c.count.ensures.more, ap sum c.deref_mut-in-Some.ensures.value, c.self.invariant.within);
-      distinct = subst AreDistinct (sym places) c.follow_use_same-place.ensures.distinct;
-    }
+    IsKept-used _ _ c.follow_use_same-place.new.places c.count.new.found c.self.invariant
+    (with_items_is before.places c.follow_use_same-place.new.places places_long) (with_items_is before.found c.count.new.found found_long) refl
+    (omega (arith, places_long, before.places.ok.0)) (omega (arith, found_long, before.found.ok.0))
+    (omega (arith, c.count.ensures.more, ap sum c.deref_mut-in-Some.ensures.value)) c.follow_use_same-place.ensures.distinct

@@ -1,4 +1,5 @@
-use Rattle.std.proofs.Common.{◌+◌, ◌*◌, ◌≡◌, ℕ, refl, subst, slice_index, arith}
+use Rattle.std.proofs.Common.{◌+◌, ◌*◌, ◌≡◌, ℕ, refl, ap, ap₂, subst, slice_index, ◌∙◌, arith}
+use Rattle.pager_model.proofs.CountLemmas.{weight}
 use Rattle.tiles.specs.Blocks.{is_grown_at}
 use Rattle.tiles.specs.Resident.{mapping_at}
 use Rattle.tiles.proofs.Blocks.{CountsTo, counts_none, counts_more, counts_all, one_most}
@@ -32,11 +33,15 @@ loop-i-preserved c = record {
   );
   in_space = c.and-moves.ensures.in_space;
   counts = λ old sizes.
-      counts_more c.args.sizes c.args.block c.loop-i.i (slice_index c.args.before.now c.loop-i.i)
-      (slice_index c.sizes_of_block-after.result c.loop-i.i) old
-      (mapping_at c.args.self.now) c.loop-i.moves c.at.result c.and-moves.result (c.loop-i.invariant.counts old sizes)
-      (sizes c.loop-i.i c.loop-i-test.true)
-      (c.sizes_of_block-after.ensures.sizes c.loop-i.i c.loop-i-test.true) c.at.ensures.promotions c.at.ensures.demotions c.and-moves.ensures.promotions c.and-moves.ensures.demotions;
+      let q = c.args.block * 512 + 8 * c.loop-i.i in
+      let had = sizes c.loop-i.i c.loop-i-test.true in
+      let has = c.sizes_of_block-after.ensures.sizes c.loop-i.i c.loop-i-test.true in
+      counts_more c.args.sizes c.args.block c.loop-i.i old (mapping_at c.args.self.now) c.loop-i.moves c.and-moves.result
+      (c.loop-i.invariant.counts old sizes)
+      (c.and-moves.ensures.promotions ∙ ap (λ n. c.loop-i.moves.promotions + n)
+      (c.at.ensures.promotions ∙ ap₂ (λ a b. weight (is_grown_at q a b)) had has))
+      (c.and-moves.ensures.demotions ∙ ap (λ n. c.loop-i.moves.demotions + n)
+      (c.at.ensures.demotions ∙ ap₂ (λ a b. weight (is_grown_at q a b)) has had));
 }
 
 pub returns : goal.returns

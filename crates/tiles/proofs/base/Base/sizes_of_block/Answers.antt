@@ -1,4 +1,4 @@
-use Rattle.std.proofs.Common.{◌≡◌, ◌+◌, ◌-◌, ◌*◌, ◌<◌, ◌≤◌, ◌&&◌, ◌∙◌, Some, ap, inl, inr, nat_le, nat_lt, if◌then◌else◌, slice_index, ℕ, refl, subst, sym, arith}
+use Rattle.std.proofs.Common.{◌≡◌, ◌+◌, ◌-◌, ◌*◌, ◌<◌, ◌≤◌, ◌&&◌, ◌∙◌, Some, ap, ap₂, inl, inr, nat_le, nat_lt, if◌then◌else◌, slice_index, ℕ, subst, sym, arith}
 use Rattle.std.specs.Int.{div_ceil}
 use Rattle.std.proofs.lemmas.Bool.{cases_lt}
 use Rattle.std.proofs.lemmas.Bool.Decides.{nat_tests}
@@ -23,13 +23,20 @@ loop-entry-init c = record {
 found : (c : goal.After-set_places) → IsNextTile c.args.self.now c.loop-entry.from (c.args.block * 512 + 512) c.in-Some.entry
 found c = subst (λ r. IsNextTile r c.loop-entry.from (c.args.block * 512 + 512) c.in-Some.entry) c.self.view_is c.in-Some.ensures.some
 
--- what stands at a place whose first page is q: the size there, or 0 where it isn't before the end of the places that were filled
-place : (first q i from page end begun past level size before after : ℕ) → q ≡ first + 8 * i → first ≤ from → from ≤ page → page ≤ end
-    → begun ≡ div_ceil (page - first) 8 → past ≡ div_ceil (end - first) 8
-    → before ≡ (if nat_lt q from then size else 0) → after ≡ (if nat_le begun i && nat_lt i past then level else before)
-    → (from ≤ q → q < page → size ≡ 0) → (page ≤ q → q < end → size ≡ level)
-    → after ≡ (if nat_lt q (first + 8 * past) then size else 0)
-place first q i from page end begun past level size before after is low on more begins ends old new bare there = elim (cases_lt q from) [
+-- which places are of pages from one on, before one, and before a place
+is_begun : (first page i : ℕ) → nat_le (div_ceil (page - first) 8) i ≡ nat_le page (first + 8 * i)
+is_begun first page i = grind (arith, nat_tests)
+
+is_before : (first end i : ℕ) → nat_lt i (div_ceil (end - first) 8) ≡ nat_lt (first + 8 * i) end
+is_before first end i = grind (arith, nat_tests)
+
+begins_before : (first i past : ℕ) → nat_lt (first + 8 * i) (first + 8 * past) ≡ nat_lt i past
+begins_before first i past = grind (arith, nat_tests)
+
+-- what stands at the place of a page: the size there, or 0 where the page isn't before the end of an entry that is written from a page on
+place : (q from page end level size : ℕ) → from ≤ page → page ≤ end → (from ≤ q → q < page → size ≡ 0) → (page ≤ q → q < end → size ≡ level)
+    → (if nat_le page q && nat_lt q end then level else (if nat_lt q from then size else 0)) ≡ (if nat_lt q end then size else 0)
+place q from page end level size on more bare there = elim (cases_lt q from) [
   | inl known ↦ grind (arith, nat_tests)
   | inr next ↦ elim (cases_lt q page) [
     | inl absent ↦ let none = bare next absent in grind (arith, nat_tests)
@@ -55,14 +62,19 @@ loop-entry-preserved c =
       from_on = omega arith;
       within = omega (arith, c.div_ceil-past.ensures, c.min.ensures);
       at = λ i low.
-          let q = c.args.block * 512 + 8 * i in
-          place (c.args.block * 512) q i c.loop-entry.from page end c.div_ceil-begun.result c.div_ceil-past.result c.level.result
-          (size_by z pages q) (slice_index c.loop-entry.levels i) (slice_index c.set_places.new.levels i)
-          refl so_far.from_on (omega (arith, begins)) on c.div_ceil-begun.ensures c.div_ceil-past.ensures (so_far.at i low)
-          (c.set_places.ensures i low)
-          (λ past before. by_absent z pages q (next.lowest q past (omega (arith, begins, before))))
-          (λ past before. size_there z pages page end (tile_of_entry c.in-Some.entry) tile on
-          (omega (arith, c.min.ensures, c.behind.ensures)) q past before ∙ sym (c.level.ensures.level ∙ c.within.ensures));
+          let first = c.args.block * 512 in
+          let q = first + 8 * i in
+          let size = size_by z pages q in
+          let begun = ap (λ n. nat_le n i) c.div_ceil-begun.ensures ∙ is_begun first page i in
+          let past = ap (λ n. nat_lt i n) c.div_ceil-past.ensures ∙ is_before first end i in
+          c.set_places.ensures i low
+          ∙ ap₂ (λ a b. if a && b then c.level.result else slice_index c.loop-entry.levels i) begun past
+          ∙ ap (λ n. if nat_le page q && nat_lt q end then c.level.result else n) (so_far.at i low)
+          ∙ place q c.loop-entry.from page end c.level.result size (omega (arith, begins)) on
+          (λ from before. by_absent z pages q (next.lowest q from (omega (arith, begins, before))))
+          (λ from before. size_there z pages page end (tile_of_entry c.in-Some.entry) tile on
+          (omega (arith, c.min.ensures, c.behind.ensures)) q from before ∙ sym (c.level.ensures.level ∙ c.within.ensures))
+          ∙ ap (λ b. if b then size else 0) (sym past ∙ sym (begins_before first i c.div_ceil-past.result));
     }
 
 pub returns-clause-sizes : goal.returns-clause-sizes

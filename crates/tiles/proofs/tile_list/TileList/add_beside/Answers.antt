@@ -1,4 +1,4 @@
-use Rattle.std.proofs.Common.{◌≡◌, ◌+◌, ◌*◌, ◌/◌, ◌%◌, ◌^◌, ◌++◌, suc, length, sym, ap, ◌∙◌, add-one, arith}
+use Rattle.std.proofs.Common.{◌≡◌, ◌+◌, ◌*◌, ◌/◌, ◌%◌, ◌^◌, [], ◌∷◌, ◌++◌, suc, length, sym, ap, ◌∙◌, add-one, arith}
 use Rattle.std.proofs.lemmas.List.{append-nil, length-append}
 use Rattle.pager_model.proofs.ExtentLemmas.{eight_pos}
 use Rattle.tiles.specs.Changes.{beside, own_part, part_from, part_start}
@@ -67,10 +67,14 @@ pub loop-part-preserved : goal.loop-part-preserved
 loop-part-preserved c =
     let at = (goal.at.loop-part-preserved c).After-pages-wide in
     elim c.if-part-own.branch [
-      | then-part-own w ↦ more-other c.args.self.now c.loop-part.self _ c.args.level c.args.page c.args.whole.now w.part_from.result c.loop-part.part _
+      | then-part-own w ↦
+          let start = c.args.page / c.pages-wide.result * c.pages-wide.result + c.loop-part.part * c.pages-pages.result in
+          w.self-is ∙ w.push.ensures
+          ∙ ap (λ t. c.loop-part.self ++ t ∷ []) (w.part_from.ensures
+          ∙ ap (λ k. part_from k start c.args.whole.now) c.at_level-size.ensures
+          ∙ ap (λ n. part_from c.args.level n c.args.whole.now) (starts at c.loop-part.part))
+          ∙ more-other c.args.self.now c.loop-part.self c.args.level c.args.page c.args.whole.now c.loop-part.part
           (λ e. w.if-part-own.true (e ∙ sym (own at))) c.loop-part.invariant
-          (w.part_from.ensures ∙ ap
-          (λ k. part_from k (c.args.page / c.pages-wide.result * c.pages-wide.result + c.loop-part.part * c.pages-pages.result) c.args.whole.now) c.at_level-size.ensures) (starts at c.loop-part.part) (w.self-is ∙ w.push.ensures)
       | else-part-own w ↦ w.self-is ∙ more-own c.args.self.now c.loop-part.self c.args.level c.args.page c.args.whole.now c.loop-part.part
           (w.if-part-own.false ∙ own at) c.loop-part.invariant
     ]
