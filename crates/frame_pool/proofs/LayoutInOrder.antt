@@ -69,6 +69,16 @@ AreListed-used z lists used records f b are out =
     λ g id has. get_or-set_other used f g b false (λ here. out id (ap (λ h. has_frame h (get_or records id None)) (sym here) ∙ has)) in
     λ k small. are k small ∙ sym (list_of-used z used (set used f b) k records same)
 
+-- A layout in which this reservation, or none, stands in the place of another one, of which a frame became used or unused.
+pub record Renews (l : Layout) (id : ℕ) (r : Reservation) (o : Option Reservation) (new : Layout) : Type 0 where
+  pub frame : ℕ
+  pub has : has_frame frame (Some r) ≡ true
+  pub becomes : Bool
+  pub laid : IsLaid new
+  pub sizes : new.sizes ≡ l.sizes
+  pub used : new.used ≡ set l.used frame becomes
+  pub records : new.records ≡ set l.records id o
+
 -- A reservation is taken out of the records.
 module _ (l : Layout) (id : ℕ) (r : Reservation) (laid : IsLaid l) (is : record_at l id ≡ Some r) where
   -- none stands there
@@ -123,44 +133,46 @@ module _ (l : Layout) (id : ℕ) (r : Reservation) (laid : IsLaid l) (is : recor
     | inr taken ↦ taken
   ]
 
-  -- The reservation goes back into the lists as another one may stand in its place, where a frame of it became used or unused.
-  pub IsInOrder-again : (f : ℕ) (b : Bool) (o : Option Reservation) (new : Layout) (kept after : KeptLists) (map mapped : Populations)
-      → IsInOrder l kept map → has_frame f (Some r) ≡ true → IsLaid new → new.sizes ≡ l.sizes → length new.free ≡ after.frames
-      → new.used ≡ set l.used f b → new.records ≡ set l.records id o → after.frames ≡ kept.frames
+  -- the lists without it are those of the others then
+  rest_renewed : (o : Option Reservation) (new : Layout) (kept : KeptLists) → AreListed l.sizes kept.lists l.used l.records
+      → Renews l id r o new → AreListed l.sizes (without_frame id kept.lists) new.used (set l.records id None)
+  rest_renewed o new kept listed renews = subst (λ u. AreListed l.sizes (without_frame id kept.lists) u (set l.records id None))
+      (sym renews.used) (rest_listed kept.lists renews.frame renews.becomes renews.has listed)
+
+  -- It goes back into the lists as another one may stand in its place.
+  pub IsInOrder-again : (o : Option Reservation) (new : Layout) (kept after : KeptLists) (map mapped : Populations) → IsInOrder l kept map
+      → Renews l id r o new → length new.free ≡ after.frames → after.frames ≡ kept.frames
       → ((records : List (Option Reservation)) → get_or records id None ≡ None → id < length records
       → AreListed l.sizes (without_frame id kept.lists) new.used records
       → AreListed l.sizes after.lists new.used (set records id (record_at new id)))
       → IsMapped mapped new.records → IsInOrder new after mapped
-  IsInOrder-again f b o new kept after map mapped order mine laid_after sizes long used records room enlists is_mapped =
+  IsInOrder-again o new kept after map mapped order renews long room enlists is_mapped =
       let known = get_or_within l.records id r is in
-      let rest = subst (λ u. AreListed l.sizes (without_frame id kept.lists) u (set l.records id None)) (sym used)
-      (rest_listed kept.lists f b mine order.listed) in
-      let stands : record_at new id ≡ o = ap (λ rs. get_or rs id None) records ∙ get_or-set_same l.records id o None known in
+      let rest = rest_renewed o new kept order.listed renews in
+      let stands : record_at new id ≡ o = ap (λ rs. get_or rs id None) renews.records ∙ get_or-set_same l.records id o None known in
       let again : set (set l.records id None) id (record_at new id) ≡ new.records =
-      set-set l.records id None (record_at new id) ∙ ap (set l.records id) stands ∙ sym records in
+      set-set l.records id None (record_at new id) ∙ ap (set l.records id) stands ∙ sym renews.records in
       record {
         known = long;
         few = omega (arith, room, order.few);
-        laid = laid_after;
-        listed = subst (λ z. AreListed z after.lists new.used new.records) (sym sizes)
+        laid = renews.laid;
+        listed = subst (λ z. AreListed z after.lists new.used new.records) (sym renews.sizes)
             (subst (AreListed l.sizes after.lists new.used) again (enlists (set l.records id None) none_there
             (omega (arith, known, length-set l.records id None)) rest));
         mapped = is_mapped;
       }
 
-  -- The reservation goes, and a frame of it became unused.
-  pub IsInOrder-gone : (f : ℕ) (new : Layout) (kept : KeptLists) (map mapped : Populations) → IsInOrder l kept map
-      → has_frame f (Some r) ≡ true → IsLaid new → new.sizes ≡ l.sizes → length new.free ≡ kept.frames → new.used ≡ set l.used f false
-      → new.records ≡ set l.records id None → IsMapped mapped new.records → IsInOrder new (rest_of kept) mapped
-  IsInOrder-gone f new kept map mapped order mine laid_after sizes long used records is_mapped = record {
+  -- It goes, and none stands in its place.
+  pub IsInOrder-gone : (new : Layout) (kept : KeptLists) (map mapped : Populations) → IsInOrder l kept map → Renews l id r None new
+      → length new.free ≡ kept.frames → IsMapped mapped new.records → IsInOrder new (rest_of kept) mapped
+  IsInOrder-gone new kept map mapped order renews long is_mapped = record {
     known = long;
     few = order.few;
-    laid = laid_after;
+    laid = renews.laid;
     listed =
-        subst (λ z. AreListed z (without_frame id kept.lists) new.used new.records) (sym sizes)
-        (subst (λ u. AreListed l.sizes (without_frame id kept.lists) u new.records) (sym used)
-        (subst (AreListed l.sizes (without_frame id kept.lists) (set l.used f false)) (sym records)
-        (rest_listed kept.lists f false mine order.listed)));
+        subst (λ z. AreListed z (without_frame id kept.lists) new.used new.records) (sym renews.sizes)
+        (subst (AreListed l.sizes (without_frame id kept.lists) new.used) (sym renews.records)
+        (rest_renewed None new kept order.listed renews));
     mapped = is_mapped;
   }
 

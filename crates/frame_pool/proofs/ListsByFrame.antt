@@ -34,14 +34,20 @@ member_at-named r id named = ap (member_at r) named
 pub set-none : (records : List (Option Reservation)) (id : ℕ) → get_or records id None ≡ None → set records id None ≡ records
 set-none records id none = ap (set records id) (sym none) ∙ set-get_or records id None
 
+-- the lists are those of these records, of which none begins at the frame
+pub record MayBegin (z : SizeSet) (lists : Lists) (used : List Bool) (records : List (Option Reservation)) (id : ℕ) : Type 0 where
+  pub none : get_or records id None ≡ None
+  pub known : id < length records
+  pub listed : AreListed z lists used records
+
 -- a reservation comes in at a frame at which none began
 module _ (z : SizeSet) (lists : Lists) (used : List Bool) (records : List (Option Reservation)) (id : ℕ) (r : Reservation)
-    (none : get_or records id None ≡ None) (known : id < length records) (are : AreListed z lists used records) where
+    (may : MayBegin z lists used records id) where
   there : get_or (set records id (Some r)) id None ≡ Some r
-  there = get_or-set_same records id (Some r) None known
+  there = get_or-set_same records id (Some r) None may.known
 
   without : AreListed z lists used (set (set records id (Some r)) id None)
-  without = subst (AreListed z lists used) (sym (set-set records id (Some r) None ∙ set-none records id none)) are
+  without = subst (AreListed z lists used) (sym (set-set records id (Some r) None ∙ set-none records id may.none)) may.listed
 
   pub AreListed-enlisted : (k : ℕ) → r.frame ≡ id → yield_in z (is_used used) r ≡ Some k → k < 3
       → AreListed z (with_list lists k (with_member (member_at r id) (list_at lists k))) used (set records id (Some r))
@@ -53,19 +59,27 @@ module _ (z : SizeSet) (lists : Lists) (used : List Bool) (records : List (Optio
   pub AreListed-not_enlisted : ((k : ℕ) → yield_in z (is_used used) r ≡ Some k → 3 ≤ k) → AreListed z lists used (set records id (Some r))
   AreListed-not_enlisted full = AreListed-full z lists used (set records id (Some r)) id r without there full
 
--- From these lists on, the first n parts that the reservation was split into went into the lists.
-pub record HasParts (z : SizeSet) (n : ℕ) (start lists : KeptLists) (after : Records) (whole : Reservation) : Type 0 where
-  pub was : WasSplit z start after whole
-  pub room : lists.frames ≡ start.frames
-  pub listed : AreListed z lists.lists after.used (split_up_to n (is_used after.used) whole was.records)
+-- What a split left: the sizes and the lists that it began with, the records after it, and the reservation that they were split from.
+pub record SplitFrom : Type 0 where
+  pub sizes : SizeSet
+  pub start : KeptLists
+  pub after : Records
+  pub whole : Reservation
 
-pub HasParts-none : (z : SizeSet) (start : KeptLists) (after : Records) (whole : Reservation) → WasSplit z start after whole
-    → HasParts z 0 start start after whole
-HasParts-none z start after whole was = record { was = was; room = refl; listed = was.listed }
+abbrev pub split_from : SizeSet → KeptLists → Records → Reservation → SplitFrom
+split_from sizes start after whole = record { sizes = sizes; start = start; after = after; whole = whole }
 
-pub HasParts-all : (z : SizeSet) (start lists : KeptLists) (after : Records) (whole : Reservation) → HasParts z 8 start lists after whole
-    → AreListed z lists.lists after.used after.records
-HasParts-all z start lists after whole has = subst (AreListed z lists.lists after.used) (sym has.was.split) has.listed
+-- From its lists on, the first n parts that the reservation was split into went into the lists.
+pub record HasParts (s : SplitFrom) (n : ℕ) (lists : KeptLists) : Type 0 where
+  pub was : WasSplit s.sizes s.start s.after s.whole
+  pub room : lists.frames ≡ s.start.frames
+  pub listed : AreListed s.sizes lists.lists s.after.used (split_up_to n (is_used s.after.used) s.whole was.records)
+
+pub HasParts-none : (s : SplitFrom) → WasSplit s.sizes s.start s.after s.whole → HasParts s 0 s.start
+HasParts-none s was = record { was = was; room = refl; listed = was.listed }
+
+pub HasParts-all : (s : SplitFrom) (lists : KeptLists) → HasParts s 8 lists → AreListed s.sizes lists.lists s.after.used s.after.records
+HasParts-all s lists has = subst (AreListed s.sizes lists.lists s.after.used) (sym has.was.split) has.listed
 
 -- the first parts are in their places
 pub ArePlaced-parts : (records : List (Option Reservation)) (used : List Bool) (whole : Reservation) (n : ℕ) → 0 < whole.size
@@ -75,58 +89,57 @@ ArePlaced-parts records used whole (suc n) splits placed are small =
     let before = split_up_to n (is_used used) whole records in
     let long = length-split (is_used used) whole records splits placed n in
     subst ArePlaced (sym (split_suc n (is_used used) whole records))
-    (ArePlaced-part before used whole (length records) n long splits (omega arith) placed
+    (ArePlaced-part before used whole n splits (omega arith) (subst (λ k. IsPlaced k whole.frame whole) (sym long) placed)
     (ArePlaced-parts records used whole n splits placed are (omega arith)))
 
 -- the next part
-module _ (z : SizeSet) (n : ℕ) (start lists : KeptLists) (after : Records) (whole : Reservation) (splits : 0 < whole.size) (small : n < 8)
-    (has : HasParts z n start lists after whole) where
+module _ (s : SplitFrom) (n : ℕ) (lists : KeptLists) (splits : 0 < s.whole.size) (small : n < 8) (has : HasParts s n lists) where
   abbrev used : ℕ → Bool
-  used = is_used after.used
+  used = is_used s.after.used
 
   abbrev first : ℕ
-  first = (part_of whole n).frame
+  first = (part_of s.whole n).frame
 
   abbrev before : List (Option Reservation)
-  before = split_up_to n used whole has.was.records
+  before = split_up_to n used s.whole has.was.records
 
-  pub part_found : get_or after.records first None ≡ kept_part used whole n
-  part_found = ap (λ l. get_or l first None) has.was.split ∙ split_at used whole has.was.records splits has.was.placed 8 n small
+  pub part_found : get_or s.after.records first None ≡ kept_part used s.whole n
+  part_found = ap (λ l. get_or l first None) has.was.split ∙ split_at used s.whole has.was.records splits has.was.placed 8 n small
       (omega arith)
 
   pub none_before : get_or before first None ≡ None
   none_before =
-      let ends = part_of_eight n whole.size splits small in
-      let in_whole = has_frame_from first whole (omega arith) (omega (arith, ends, eight_pos (whole.size - 1))) in
-      split_other used whole has.was.records splits has.was.placed n first
-      (λ i lt same. omega (arith, parts_apart used whole has.was.records splits has.was.placed n i same))
+      let ends = part_of_eight n s.whole.size splits small in
+      let in_whole = has_frame_from first s.whole (omega arith) (omega (arith, ends, eight_pos (s.whole.size - 1))) in
+      split_other used s.whole has.was.records splits has.was.placed n first
+      (λ i lt same. omega (arith, parts_apart used s.whole has.was.records splits has.was.placed n i same))
       ∙ none_begins has.was.records first has.was.others_placed (has.was.vacant first first in_whole)
 
   pub known_before : first < length before
   known_before = omega (
     arith,
-    part_known used whole has.was.records splits has.was.placed n small,
-    length-split used whole has.was.records splits has.was.placed n,
+    part_known used s.whole has.was.records splits has.was.placed n small,
+    length-split used s.whole has.was.records splits has.was.placed n,
   )
 
   pub part_in_room : first < lists.frames
-  part_in_room = omega (arith, part_known used whole has.was.records splits has.was.placed n small, has.room, has.was.room)
+  part_in_room = omega (arith, part_known used s.whole has.was.records splits has.was.placed n small, has.room, has.was.room)
 
   pub part_unlisted : is_listed first lists.lists ≡ false
   part_unlisted =
-      is_listed-none z lists.lists after.used before first has.listed
-      (ArePlaced-parts has.was.records after.used whole n splits has.was.placed has.was.others_placed (omega arith)) none_before
+      is_listed-none s.sizes lists.lists s.after.used before first has.listed
+      (ArePlaced-parts has.was.records s.after.used s.whole n splits has.was.placed has.was.others_placed (omega arith)) none_before
 
   -- it goes in where it is a reservation
-  pub HasParts-more : (new : KeptLists) → AreListed z new.lists after.used (set before first (get_or after.records first None))
-      → new.frames ≡ lists.frames → HasParts z (n + 1) start new after whole
+  pub HasParts-more : (new : KeptLists) → AreListed s.sizes new.lists s.after.used (set before first (get_or s.after.records first None))
+      → new.frames ≡ lists.frames → HasParts s (n + 1) new
   HasParts-more new listed room = record {
     was = has.was;
     room = room ∙ has.room;
-    listed = subst (AreListed z new.lists after.used) (ap (set before first) part_found
-        ∙ sym (split_up_to-more n used whole has.was.records)) listed;
+    listed = subst (AreListed s.sizes new.lists s.after.used) (ap (set before first) part_found
+        ∙ sym (split_up_to-more n used s.whole has.was.records)) listed;
   }
 
-  pub HasParts-skip : get_or after.records first None ≡ None → HasParts z (n + 1) start lists after whole
-  HasParts-skip none = HasParts-more lists (subst (AreListed z lists.lists after.used)
+  pub HasParts-skip : get_or s.after.records first None ≡ None → HasParts s (n + 1) lists
+  HasParts-skip none = HasParts-more lists (subst (AreListed s.sizes lists.lists s.after.used)
       (sym (ap (set before first) none ∙ set-none before first none_before)) has.listed) refl

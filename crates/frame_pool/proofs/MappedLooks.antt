@@ -4,6 +4,7 @@ use Rattle.std.specs.List.{list_any}
 use Rattle.std.proofs.lemmas.Bool.{or_cases, and_parts, and_from, eq-eqb, eqb-true, lt-ltb, ltb-true, false≢true, false_from_ne_true}
 use Rattle.std.proofs.lemmas.List.Folds.{list_any_at}
 use Rattle.std.proofs.lemmas.Option.{none-some}
+use Rattle.pager_model.specs.declared.extent.Extent.{Extent}
 use Rattle.pager_model.specs.declared.reservation.Reservation.{Reservation}
 use Rattle.pager_model.specs.Extents.{IsExtent}
 use Rattle.pager_model.specs.Layouts.{covers, covering, meets, meets_any}
@@ -56,57 +57,65 @@ any_one p (x ∷ xs) d is = elim (or_cases (p x) (list_any p xs) is) [
   | inr later ↦ let w = any_one p xs d later in (suc w.0, w.1)
 ]
 
--- of an extent
-module _ (m : Populations) (records : List (Option Reservation)) (space size first : ℕ) (mapped : IsMapped m records) (known : space < 16)
-    (e : IsExtent size first) (low : first < 1048576) where
+-- an extent of pages of a space
+module _ (space : ℕ) (e : Extent) where
   -- a reservation with a page of the extent meets it
-  meets_by : (page : ℕ) (r : Reservation) → first ≤ page → page < first + 8 ^ size → covers space page r ≡ true
-      → meets space size first (Some r) ≡ true
+  meets_by : (page : ℕ) (r : Reservation) → e.first ≤ page → page < e.first + 8 ^ e.size → covers space page r ≡ true
+      → meets space e.size e.first (Some r) ≡ true
   meets_by page r above below has =
       let at = CoversPageOf-covers space page r has in
-      and_from _ _ (eq-eqb r.space space at.space_is) (and_from _ _ (lt-ltb r.first (first + 8 ^ size) (omega (arith, at.low)))
-      (lt-ltb first (r.first + 8 ^ r.size) (omega (arith, at.high))))
+      and_from _ _ (eq-eqb r.space space at.space_is) (and_from _ _ (lt-ltb r.first (e.first + 8 ^ e.size) (omega (arith, at.low)))
+      (lt-ltb e.first (r.first + 8 ^ r.size) (omega (arith, at.high))))
 
   -- and one that meets it has one
-  meets_at : (r : Reservation) → meets space size first (Some r) ≡ true
-      → (page : ℕ) × (first ≤ page) × (page < first + 8 ^ size) × (covers space page r ≡ true)
+  meets_at : (r : Reservation) → meets space e.size e.first (Some r) ≡ true
+      → (page : ℕ) × (e.first ≤ page) × (page < e.first + 8 ^ e.size) × (covers space page r ≡ true)
   meets_at r is =
-      let parts = and_parts (eqb r.space space) (ltb r.first (first + 8 ^ size) && ltb first (r.first + 8 ^ r.size)) is in
-      let bounds = and_parts (ltb r.first (first + 8 ^ size)) (ltb first (r.first + 8 ^ r.size)) parts.1 in
-      let starts : r.first < first + 8 ^ size = ltb-true _ _ bounds.0 in
-      let ends : first < r.first + 8 ^ r.size = ltb-true _ _ bounds.1 in
-      let width : 0 < 8 ^ size = eight_pos size in
+      let parts = and_parts (eqb r.space space) (ltb r.first (e.first + 8 ^ e.size) && ltb e.first (r.first + 8 ^ r.size)) is in
+      let bounds = and_parts (ltb r.first (e.first + 8 ^ e.size)) (ltb e.first (r.first + 8 ^ r.size)) parts.1 in
+      let starts : r.first < e.first + 8 ^ e.size = ltb-true _ _ bounds.0 in
+      let ends : e.first < r.first + 8 ^ r.size = ltb-true _ _ bounds.1 in
+      let width : 0 < 8 ^ e.size = eight_pos e.size in
       let own : 0 < 8 ^ r.size = eight_pos r.size in (
-        max first r.first,
+        max e.first r.first,
         omega arith,
         omega arith,
-        covers-CoversPageOf space (max first r.first) r (record { space_is = eqb-true _ _ parts.0; low = omega arith; high = omega arith }),
+        covers-CoversPageOf space (max e.first r.first) r
+            (record { space_is = eqb-true _ _ parts.0; low = omega arith; high = omega arith }),
       )
 
-  pub meets_any-looked : (page : ℕ) → page / 8 ^ size ≡ page_at space first / 8 ^ size → is_placed m page ≡ true
-      → meets_any space records size first ≡ true
+-- it is an extent, and begins in the space
+pub record IsOfSpace (e : Extent) : Type 0 where
+  pub aligned : IsExtent e.size e.first
+  pub within : e.first < 1048576
+
+module _ (m : Populations) (records : List (Option Reservation)) (space : ℕ) (e : Extent) (mapped : IsMapped m records) (known : space < 16)
+    (pages : IsOfSpace e) where
+  pub meets_any-looked : (page : ℕ) → page / 8 ^ e.size ≡ page_at space e.first / 8 ^ e.size → is_placed m page ≡ true
+      → meets_any space records e.size e.first ≡ true
   meets_any-looked page same placed =
-      let at = page_in size space first page e low same in
+      let at = page_in e.size space e.first page pages.aligned pages.within same in
       let by = placed_size m page placed in
       let id = some_from_is_some (id_of m by.0 page) by.2 in
       let here : id_of m by.0 (page_at space at.0) ≡ Some id.0 = ap (id_of m by.0) (sym at.1) ∙ id.1 in
       let q = found_record_and (get_or records id.0 None) (λ r. (r.size ≡ by.0) × (covers space at.0 r ≡ true))
       ((mapped.exact space at.0 by.0 id.0 known at.2 by.1).0 here) in
-      list_any_at (meets space size first) records id.0 None (get_or_within records id.0 q.0 q.1)
-      (ap (meets space size first) q.1 ∙ meets_by at.0 q.0 at.3 at.4 q.2.1)
+      list_any_at (meets space e.size e.first) records id.0 None (get_or_within records id.0 q.0 q.1)
+      (ap (meets space e.size e.first) q.1 ∙ meets_by space e at.0 q.0 at.3 at.4 q.2.1)
 
-  pub meets_any-not_looked : ArePlaced records → ((page : ℕ) → page / 8 ^ size ≡ page_at space first / 8 ^ size → IsInNone m page)
-      → meets_any space records size first ≡ false
+  pub meets_any-not_looked : ArePlaced records → ((page : ℕ) → page / 8 ^ e.size ≡ page_at space e.first / 8 ^ e.size → IsInNone m page)
+      → meets_any space records e.size e.first ≡ false
   meets_any-not_looked placed none = false_from_ne_true _ (λ any.
-      let w = any_one (meets space size first) records None any in
+      let w = any_one (meets space e.size e.first) records None any in
       at w.0 (get_or records w.0 None) refl (w.1))
     where
-      at : (id : ℕ) (o : Option Reservation) → get_or records id None ≡ o → meets space size first (get_or records id None) ≡ true → ⊥
-      at id None is has = false≢true (sym (ap (meets space size first) is) ∙ has)
+      at : (id : ℕ) (o : Option Reservation) → get_or records id None ≡ o → meets space e.size e.first (get_or records id None) ≡ true → ⊥
+      at id None is has = false≢true (sym (ap (meets space e.size e.first) is) ∙ has)
       at id (Some r) is has =
-          let page = meets_at r (sym (ap (meets space size first) is) ∙ has) in
+          let page = meets_at space e r (sym (ap (meets space e.size e.first) is) ∙ has) in
           let small = (placed id r is).aligned.0 in
-          let end = end_in_space size first e low in
+          let end = end_in_space e.size e.first pages.aligned pages.within in
           let there = (mapped.exact space page.0 r.size id known (omega (arith, end, page.2)) small).1
           (subst (λ o. IsSomeAnd o (λ q. (q.size ≡ r.size) × (covers space page.0 q ≡ true))) (sym is) (refl, page.3)) in
-          none-some id (sym (none (page_at space page.0) (in_page size space first page.0 e page.1 page.2) r.size small) ∙ there)
+          let inside = in_page e.size space e.first page.0 pages.aligned page.1 page.2 in
+          none-some id (sym (none (page_at space page.0) inside r.size small) ∙ there)

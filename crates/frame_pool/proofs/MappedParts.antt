@@ -21,18 +21,18 @@ use Rattle.frame_pool.proofs.PartRecords.{split_suc, length-split, part_known, s
 use Rattle.pager_laws.proofs.EightParts.{eight_count}
 use Rattle.pager_laws.proofs.SplitFrames.{covers_whole, one_part_covers}
 
--- From this map on, the first n parts that the reservation was split into are in the map.
-pub record HasMapped (n : ℕ) (start m : Populations) (after : Records) (whole : Reservation) : Type 0 where
+-- From a map on, the first n parts that the reservation was split into are in this map.
+pub record HasMapped (n : ℕ) (m : Populations) (after : Records) (whole : Reservation) : Type 0 where
+  pub start : Populations
   pub was : WasSplitFrom start after whole
   pub mapped : IsMapped m (split_up_to n (is_used after.used) whole was.records)
 
 pub HasMapped-none : (start : Populations) (after : Records) (whole : Reservation) → WasSplitFrom start after whole
-    → HasMapped 0 start start after whole
-HasMapped-none start after whole was = record { was = was; mapped = was.mapped }
+    → HasMapped 0 start after whole
+HasMapped-none start after whole was = record { start = start; was = was; mapped = was.mapped }
 
-pub HasMapped-all : (start m : Populations) (after : Records) (whole : Reservation) → HasMapped 8 start m after whole
-    → IsMapped m after.records
-HasMapped-all start m after whole has = subst (IsMapped m) (sym has.was.split) has.mapped
+pub HasMapped-all : (m : Populations) (after : Records) (whole : Reservation) → HasMapped 8 m after whole → IsMapped m after.records
+HasMapped-all m after whole has = subst (IsMapped m) (sym has.was.split) has.mapped
 
 module _ (used : ℕ → Bool) (r : Reservation) (records : List (Option Reservation)) (splits : 0 < r.size) (may : MayEnter records r) where
   abbrev first : ℕ → ℕ
@@ -110,8 +110,8 @@ module _ (used : ℕ → Bool) (r : Reservation) (records : List (Option Reserva
       }
 
 -- the next part
-module _ (n : ℕ) (start m : Populations) (after : Records) (whole : Reservation) (splits : 0 < whole.size) (small : n < 8)
-    (has : HasMapped n start m after whole) where
+module _ (n : ℕ) (m : Populations) (after : Records) (whole : Reservation) (splits : 0 < whole.size) (small : n < 8)
+    (has : HasMapped n m after whole) where
   abbrev used : ℕ → Bool
   used = is_used after.used
 
@@ -135,8 +135,9 @@ module _ (n : ℕ) (start m : Populations) (after : Records) (whole : Reservatio
 
   -- and does where it is a reservation
   pub HasMapped-more : (q : Reservation) (new : Populations) → get_or after.records (part_of whole n).frame None ≡ Some q
-      → IsMapped new (set before q.frame (Some q)) → HasMapped (n + 1) start new after whole
+      → IsMapped new (set before q.frame (Some q)) → HasMapped (n + 1) new after whole
   HasMapped-more q new is mapped = record {
+    start = has.start;
     was = has.was;
     mapped =
         let set_at : Reservation → List (Option Reservation) = λ t. set before t.frame (Some q) in
@@ -145,8 +146,9 @@ module _ (n : ℕ) (start m : Populations) (after : Records) (whole : Reservatio
         ∙ sym (split_up_to-more n used whole has.was.records)) mapped;
   }
 
-  pub HasMapped-skip : get_or after.records (part_of whole n).frame None ≡ None → HasMapped (n + 1) start m after whole
+  pub HasMapped-skip : get_or after.records (part_of whole n).frame None ≡ None → HasMapped (n + 1) m after whole
   HasMapped-skip none = record {
+    start = has.start;
     was = has.was;
     mapped =
         let vacant = none_yet used whole has.was.records splits has.was.enters n (part_of whole n).frame small

@@ -31,7 +31,8 @@ pub record IsPartOf (k : ℕ) (r q : Reservation) : Type 0 where
 abbrev pub IsBeside : Reservation → ℕ → Type 0
 IsBeside r id = (id < r.frame) ⊎ (r.frame + 8 ^ r.size ≤ id)
 
--- From a layout in which r stands, r was split, perhaps again and again: what stands in it is of size k or larger, and below a frame of size k.
+-- From a layout in which r stands, r was split, perhaps again and again: what stands in it is of size k or larger, and of size k below a
+-- frame.
 pub record IsDown (k next : ℕ) (l cur : Layout) (r : Reservation) : Type 0 where
   pub settles : Settles l cur
   pub records_long : length cur.records ≡ length l.records
@@ -122,7 +123,7 @@ module _ (k : ℕ) (l : Layout) (r : Reservation) (laid : IsLaid l) (is : record
       let split = IsSplit-parted k l r laid.records_long (placed_own l r.frame r laid is) le in
       let who : (id : ℕ) (q : Reservation) → r.frame ≤ id → id < end → record_at (parted k r l) id ≡ Some q
       → IsPartOf k r q × (q.size ≡ k) =
-      λ id q low high stands. elim (who_stands k l (parted k r l) r.frame r laid is le split id q stands) [
+      λ id q low high stands. elim (who_stands k l (parted k r l) r laid is split id q stands) [
         | inl still ↦ absurd (still.0 (own id q low high still.1).0)
         | inr part ↦
             let size : k ≡ q.size = ap (λ (p : Reservation). p.size) part.2 in (
@@ -157,7 +158,7 @@ module _ (k : ℕ) (l : Layout) (r : Reservation) (laid : IsLaid l) (is : record
               let ends = part_ends m i q le two in
               elim out [ inl before ↦ omega (arith, same) | inr past ↦ omega (arith, same, ends, inside, eight_pos m) ])
               ∙ down.beside id out;
-          parts = λ id t at below now. elim (who_stands m cur new q.frame q sound stands le split id t now) [
+          parts = λ id t at below now. elim (who_stands m cur new q sound stands split id t now) [
             | inl still ↦ down.parts id t at below still.1
             | inr part ↦
                 let i = part.0 in
@@ -170,7 +171,7 @@ module _ (k : ℕ) (l : Layout) (r : Reservation) (laid : IsLaid l) (is : record
                   is = sym (part_at-again m s j i r le);
                 })
           ];
-          done = λ id t at below now. elim (who_stands m cur new q.frame q sound stands le split id t now) [
+          done = λ id t at below now. elim (who_stands m cur new q sound stands split id t now) [
             | inl still ↦ down.done id t at below still.1
             | inr part ↦ let here = part.1.at in absurd (omega arith)
           ];
@@ -258,22 +259,22 @@ module _ (k : ℕ) (l : Layout) (r : Reservation) (laid : IsLaid l) (is : record
             let here = laid.apart f j r.frame has (ap (has_frame f) is ∙ has_frame_from f r low high) in
             elim out [ inl before ↦ omega (arith, here, before) | inr past ↦ omega (arith, here, past, eight_pos r.size) ]
 
-module _ (k : ℕ) (l : Layout) (r : Reservation) (laid : IsLaid l) (is : record_at l r.frame ≡ Some r) (a b : Layout)
-    (down : IsDown k (r.frame + 8 ^ r.size) l a r) (other : IsDown k (r.frame + 8 ^ r.size) l b r) where
-  same_record : (id : ℕ) → record_at a id ≡ record_at b id
-  same_record id = elim (cases_lt id r.frame) [
-    | inl before ↦ down.beside id (inl before) ∙ sym (other.beside id (inl before))
-    | inr low ↦ elim (cases_lt id (r.frame + 8 ^ r.size)) [
-      | inr past ↦ down.beside id (inr past) ∙ sym (other.beside id (inr past))
-      | inl high ↦ inside (record_at a id) (record_at b id) refl refl low high
+  -- at every frame the same stands in them
+  module _ (a b : Layout) (down : IsDown k end l a r) (other : IsDown k end l b r) where
+    same_record : (id : ℕ) → record_at a id ≡ record_at b id
+    same_record id = elim (cases_lt id r.frame) [
+      | inl before ↦ down.beside id (inl before) ∙ sym (other.beside id (inl before))
+      | inr low ↦ elim (cases_lt id end) [
+        | inr past ↦ down.beside id (inr past) ∙ sym (other.beside id (inr past))
+        | inl high ↦ inside (record_at a id) (record_at b id) refl refl low high
+      ]
     ]
-  ]
-    where
-      inside : (o p : Option Reservation) → record_at a id ≡ o → record_at b id ≡ p → r.frame ≤ id → id < r.frame + 8 ^ r.size
-          → record_at a id ≡ record_at b id
-      inside (Some q) p at also low high = at ∙ sym (carried k l r laid is a b down other id q low high at)
-      inside None (Some q) at also low high = absurd (none-some q (sym at ∙ carried k l r laid is b a other down id q low high also))
-      inside None None at also low high = at ∙ sym also
+      where
+        inside : (o p : Option Reservation) → record_at a id ≡ o → record_at b id ≡ p → r.frame ≤ id → id < end
+            → record_at a id ≡ record_at b id
+        inside (Some q) p at also low high = at ∙ sym (carried a b down other id q low high at)
+        inside None (Some q) at also low high = absurd (none-some q (sym at ∙ carried b a other down id q low high also))
+        inside None None at also low high = at ∙ sym also
 
 -- a frame that is free in one of them is free in the other
 free_also : (l a b : Layout) → Settles l a → Settles l b → ((id : ℕ) → record_at a id ≡ record_at b id) → (f : ℕ) → is_free a f ≡ true

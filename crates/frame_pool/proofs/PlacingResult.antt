@@ -11,6 +11,7 @@ use Rattle.pager_model.specs.Records.{is_used}
 use Rattle.reservations.specs.Kept.{CoversPage}
 use Rattle.pager_model.proofs.ExtentLemmas.{eight_pos}
 use Rattle.pager_laws.specs.Laid.{IsLaid}
+use Rattle.frame_pool.specs.declared.layout.Found.{Found as FoundExtent}
 use Rattle.frame_pool.specs.Placed.{FindsExtent, PlacesPage, with_reservation, without_extent}
 use Rattle.pager_laws.proofs.PagePlaces.{CoversPageOf-covers, covering-found}
 use Rattle.pager_laws.proofs.LayoutPlacing.{WasPlaced-placing}
@@ -68,37 +69,44 @@ round_page size page start round =
     let rest = mod_below page (8 ^ size) (eight_pos size) in
     (omega (arith, whole, round), omega (arith, whole, rest, round))
 
-module _ (l new : Layout) (stamp space page : ℕ) (want : Want) (preferred size first broken start : ℕ)
-    (none : covering space page l.records ≡ None) (preferred_is : preferred ≡ preferred_in l space page want)
-    (finds : FindsExtent new (largest_extent preferred l) size first broken) (round : start ≡ extent_start size page) where
+-- The page that is placed, and how it is wanted.
+pub record Asked : Type 0 where
+  pub space : ℕ
+  pub page : ℕ
+  pub want : Want
+
+abbrev pub asked : ℕ → ℕ → Want → Asked
+asked space page want = record { space = space; page = page; want = want }
+
+module _ (l new : Layout) (stamp : ℕ) (a : Asked) (f : FoundExtent) (none : covering a.space a.page l.records ≡ None)
+    (finds : FindsExtent new (largest_extent (preferred_in l a.space a.page a.want) l) f.size f.first f.broken) where
   abbrev added : Reservation
-  added = record { space = space; first = start; size = size; frame = first; stamp = stamp }
+  added = record { space = a.space; first = extent_start f.size a.page; size = f.size; frame = f.first; stamp = stamp }
 
   -- it is the one that the definition makes
-  added_is : added ≡ new_reservation stamp space page finds.found
-  added_is = rw (round, finds.same_size, finds.same_first) refl
+  added_is : added ≡ new_reservation stamp a.space a.page finds.found
+  added_is = rw (finds.same_size, finds.same_first) refl
 
-  layout_is : with_reservation added page new ≡ (reserved stamp space page finds.found).layout
+  layout_is : with_reservation added a.page new ≡ (reserved stamp a.space a.page finds.found).layout
   layout_is =
-      ap (with_reservation added page) finds.layout
-      ∙ ap (λ r. with_reservation r page (without_extent finds.found)) added_is
+      ap (with_reservation added a.page) finds.layout
+      ∙ ap (λ r. with_reservation r a.page (without_extent finds.found)) added_is
 
-  placing_is : placing stamp space page want l ≡ Some (reserved stamp space page finds.found)
-  placing_is = ap (placing_in stamp space page want l) none ∙ ap (option_map (reserved stamp space page))
-      (ap (λ k. largest_extent k l) (sym preferred_is) ∙ finds.is)
+  placing_is : placing stamp a.space a.page a.want l ≡ Some (reserved stamp a.space a.page finds.found)
+  placing_is = ap (placing_in stamp a.space a.page a.want l) none ∙ ap (option_map (reserved stamp a.space a.page)) finds.is
 
-  pub IsLaid-added : IsLaid l → frame_in l space page ≡ None → IsLaid (with_reservation added page new)
+  pub IsLaid-added : IsLaid l → frame_in l a.space a.page ≡ None → IsLaid (with_reservation added a.page new)
   IsLaid-added laid unplaced =
-      subst IsLaid (sym layout_is) (WasPlaced-placing l stamp space page want
-      (reserved stamp space page finds.found) laid unplaced placing_is).laid
+      subst IsLaid (sym layout_is) (WasPlaced-placing l stamp a.space a.page a.want
+      (reserved stamp a.space a.page finds.found) laid unplaced placing_is).laid
 
-  pub PlacesPage-added : IsLaid l → frame_in l space page ≡ None
-      → PlacesPage l (with_reservation added page new) (placing stamp space page want l) (frame_for page added) broken
+  pub PlacesPage-added : IsLaid l → frame_in l a.space a.page ≡ None
+      → PlacesPage l (with_reservation added a.page new) (placing stamp a.space a.page a.want l) (frame_for a.page added) f.broken
   PlacesPage-added laid unplaced =
       let few : finds.found.broken ≤ 1 = omega (arith, finds.same_broken, finds.few_broken) in
-      let places = PlacesPage-from l (with_reservation added page new) stamp space page want
-      (reserved stamp space page finds.found) laid unplaced placing_is layout_is few in
-      subst (λ f. PlacesPage l (with_reservation added page new) (placing stamp space page want l) f broken)
-      (sym (ap (frame_for page) added_is))
-      (subst (PlacesPage l (with_reservation added page new) (placing stamp space page want l)
-      (reserved stamp space page finds.found).frame) (sym finds.same_broken) places)
+      let places = PlacesPage-from l (with_reservation added a.page new) stamp a.space a.page a.want
+      (reserved stamp a.space a.page finds.found) laid unplaced placing_is layout_is few in
+      subst (λ g. PlacesPage l (with_reservation added a.page new) (placing stamp a.space a.page a.want l) g f.broken)
+      (sym (ap (frame_for a.page) added_is))
+      (subst (PlacesPage l (with_reservation added a.page new) (placing stamp a.space a.page a.want l)
+      (reserved stamp a.space a.page finds.found).frame) (sym finds.same_broken) places)

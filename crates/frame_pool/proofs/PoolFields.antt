@@ -19,11 +19,13 @@ use Rattle.pager_model.specs.Layouts.{Layout, start_layout, placing, put_back, r
 use Rattle.pager_model.specs.Records.{is_used}
 use Rattle.pager_model.proofs.Lists.{get_or-alike}
 use Rattle.pager_model.proofs.Options.{none_from_is_some}
+use Rattle.frame_pool.specs.declared.layout.Place.{Place}
 use Rattle.frame_pool.specs.declared.pool.Pool.TheInside.{Inside}
 use Rattle.pager_laws.specs.Laid.{IsLaid, IsSound}
 use Rattle.frame_pool.specs.Placed.{IsPageAt, PlacesPage}
 use Rattle.frame_pool.specs.PoolState.{state_of}
 use Rattle.frame_pool.specs.Pooled.{IsPool, number_in}
+use Rattle.frame_pool.proofs.PlacingResult.{Asked}
 use Rattle.pager_laws.proofs.PagePlaces.{covers-CoversPageOf, has_frame_for, HasPlace, frame_in-from, frame_in-found, covering-is}
 use Rattle.pager_laws.proofs.LayoutRelease.{Gives-vacate, Gives-carve}
 use Rattle.pager_laws.proofs.LayoutPlacing.{WasPlaced-placing}
@@ -75,7 +77,8 @@ laid : (p : Inside) → IsPool p.frames.items p.layout p.used.processors (state_
 laid p pool = subst IsLaid (layout_of-pool p pool) pool.sound.laid
 
 -- of each frame it is noted whether it is used
-pub used_long : (frames : List (Option Framed)) (l : Layout) (claimers : ℕ) (st : FrameState) → IsPool frames l claimers st → length st.used ≡ length frames
+pub used_long : (frames : List (Option Framed)) (l : Layout) (claimers : ℕ) (st : FrameState) → IsPool frames l claimers st
+    → length st.used ≡ length frames
 used_long frames l claimers st pool = sym (length-map st.used is_some) ∙ pool.sound.laid.used_long ∙ sym pool.frames_known
 
 -- what a move leaves is a pool, where the state stays sound and the frames are there as it says
@@ -211,53 +214,60 @@ state_taken st m want frame broken =
     }
 
 -- A page has its place in a layout, whose frame is taken out of the pool.
-module _ (p : Inside) (space page : ℕ) (want : Want) (m : Layout) (frame broken : ℕ)
-    (pool : IsPool p.frames.items p.layout p.used.processors (state_of p)) (none : frame_of (state_of p) space page ≡ None)
-    (placed : PlacesPage p.layout m (placing p.entries space page want p.layout) frame broken) where
+module _ (p : Inside) (a : Asked) (m : Layout) (place : Place) (pool : IsPool p.frames.items p.layout p.used.processors (state_of p))
+    (none : frame_of (state_of p) a.space a.page ≡ None)
+    (placed : PlacesPage p.layout m (placing p.entries a.space a.page a.want p.layout) place.frame place.broken) where
   abbrev pub taking_of : Taking
-  taking_of = taking (state_of p) want placed.place
+  taking_of = taking (state_of p) a.want placed.place
 
   -- the placing is of the state's layout as well
-  placing_is : placing p.entries space page want (layout_of (state_of p)) ≡ Some placed.place
-  placing_is = ap (placing p.entries space page want) (layout_of-pool p pool) ∙ placed.is
+  placing_is : placing p.entries a.space a.page a.want (layout_of (state_of p)) ≡ Some placed.place
+  placing_is = ap (placing p.entries a.space a.page a.want) (layout_of-pool p pool) ∙ placed.is
 
-  pub take_frame-placed : take_frame (state_of p) space page want ≡ Some taking_of
-  take_frame-placed = ap (option_map (taking (state_of p) want)) placing_is
+  pub take_frame-placed : take_frame (state_of p) a.space a.page a.want ≡ Some taking_of
+  take_frame-placed = ap (option_map (taking (state_of p) a.want)) placing_is
 
-  pub state_taken-is : state_taken (state_of p) m want frame broken ≡ counted taking_of.state
+  pub state_taken-is : state_taken (state_of p) m a.want place.frame place.broken ≡ counted taking_of.state
   state_taken-is = rw (placed.layout, placed.same_frame, placed.same_broken) refl
 
   -- the frame is known, and wasn't used
-  pub frame_known : frame < length p.frames.items
+  pub frame_known : place.frame < length p.frames.items
   frame_known =
-      let places = WasPlaced-placing (layout_of (state_of p)) p.entries space page want placed.place pool.sound.laid none placing_is in
+      let l = layout_of (state_of p) in
+      let places = WasPlaced-placing l p.entries a.space a.page a.want placed.place pool.sound.laid none placing_is in
       omega (arith, places.known, placed.same_frame, pool.frames_known)
 
-  was_unused : is_some (used_at (state_of p) frame) ≡ false
-  was_unused = sym (is_used-layout_of (state_of p) frame) ∙ ap (λ k. is_used k.used frame) (layout_of-pool p pool) ∙ placed.unused
+  was_unused : is_some (used_at (state_of p) place.frame) ≡ false
+  was_unused =
+      sym (is_used-layout_of (state_of p) place.frame)
+      ∙ ap (λ k. is_used k.used place.frame) (layout_of-pool p pool)
+      ∙ placed.unused
 
-  pub nothing_noted : used_at (state_of p) frame ≡ None
-  nothing_noted = none_from_is_some (used_at (state_of p) frame) was_unused
+  pub nothing_noted : used_at (state_of p) place.frame ≡ None
+  nothing_noted = none_from_is_some (used_at (state_of p) place.frame) was_unused
 
-  pub frame_out : (frame < length (state_of p).free) × (is_some (used_at (state_of p) frame) ≡ false)
+  pub frame_out : (place.frame < length (state_of p).free) × (is_some (used_at (state_of p) place.frame) ≡ false)
   frame_out = (omega (arith, frame_known, pool.frames_known), was_unused)
 
   -- so it is there
-  pub frame_there : (read : Option Framed) → read ≡ get_or p.frames.items frame read → number_in read ≡ Some frame
+  pub frame_there : (read : Option Framed) → read ≡ get_or p.frames.items place.frame read → number_in read ≡ Some place.frame
   frame_there read is =
-      ap number_in (get_or_read p.frames.items frame read frame_known is None) ∙ pool.here frame frame_known
-      ∙ ap (λ b. cond b None (Some frame)) was_unused
+      ap number_in (get_or_read p.frames.items place.frame read frame_known is None) ∙ pool.here place.frame frame_known
+      ∙ ap (λ b. cond b None (Some place.frame)) was_unused
 
-  pub IsPool-taken : IsPool (set p.frames.items frame None) m p.used.processors (state_taken (state_of p) m want frame broken)
+  pub IsPool-taken : IsPool (set p.frames.items place.frame None) m p.used.processors
+      (state_taken (state_of p) m a.want place.frame place.broken)
   IsPool-taken =
       let st = state_of p in
-      let place : Option Used = Some (record { age = p.entries; wired = want.wired; claim = None }) in
-      let sound = IsSound-take _ _ st space page want taking_of pool.sound none take_frame-placed in
-      IsPool-after p.frames.items p.layout p.used.processors st (set p.frames.items frame None) m (state_taken st m want frame broken) pool
+      let noted : Option Used = Some (record { age = p.entries; wired = a.want.wired; claim = None }) in
+      let sound = IsSound-take _ _ st a.space a.page a.want taking_of pool.sound none take_frame-placed in
+      IsPool-after p.frames.items p.layout p.used.processors st (set p.frames.items place.frame None) m
+      (state_taken st m a.want place.frame place.broken) pool
       (subst (IsSound (length st.free) (length st.held)) (sym state_taken-is) sound)
-      (placed.used ∙ ap (λ us. set us frame true) pool.same_used ∙ sym (map-set is_some st.used frame place))
-      (length-set p.frames.items frame None)
-      (AreHere-set p.frames.items st.used frame None place pool.here (used_long p.frames.items p.layout p.used.processors st pool) refl)
+      (placed.used ∙ ap (λ us. set us place.frame true) pool.same_used ∙ sym (map-set is_some st.used place.frame noted))
+      (length-set p.frames.items place.frame None)
+      (AreHere-set p.frames.items st.used place.frame None noted pool.here
+      (used_long p.frames.items p.layout p.used.processors st pool) refl)
       (omega (arith, pool.few_broken, placed.few_broken))
 
 -- Giving up.
@@ -300,7 +310,9 @@ module _ (p : Inside) (space page frame : ℕ) (pool : IsPool p.frames.items p.l
   used_given None = (Gives-vacate p.layout place.id frame giver (laid p pool) place.is giver_has giver_used).used
   used_given (Some c) = (Gives-carve p.layout place.id frame giver (laid p pool) place.is giver_has giver_used).used
 
-  module _ (claim : Option ℕ) (m : Layout) (claims : claim ≡ claim_in (used_at (state_of p) frame)) (moves : (id : ℕ) → IfSome (record_at p.layout id) (λ r. has_frame frame (Some r) ≡ true → m ≡ layout_given claim frame r p.layout)) where
+  module _ (claim : Option ℕ) (m : Layout) (claims : claim ≡ claim_in (used_at (state_of p) frame))
+      (moves : (id : ℕ) → IfSome (record_at p.layout id)
+      (λ r. has_frame frame (Some r) ≡ true → m ≡ layout_given claim frame r p.layout)) where
     moved : m ≡ layout_given claim frame giver p.layout
     moved = subst (λ o. IfSome o (λ r. has_frame frame (Some r) ≡ true → m ≡ layout_given claim frame r p.layout)) place.is
         (moves place.id) giver_has

@@ -44,14 +44,14 @@ module _ (m : ℕ) (l : Layout) (r : Reservation) (laid : IsLaid l) (is : record
   -- a used frame is one of a part that stands after the split
   part_stands : (f : ℕ) → has_frame f (Some r) ≡ true → used f ≡ true
       → (j : ℕ) × (has_frame f (Some (part_at m r j)) ≡ true) × (record_at (parted m r l) (part_at m r j).frame ≡ Some (part_at m r j))
-  part_stands = used_stands m l (parted m r l) r.frame r laid is le split
+  part_stands = used_stands m l (parted m r l) r laid is split
 
   others_split : (id : ℕ) → (id < r.frame) ⊎ (r.frame + 8 ^ r.size ≤ id) → record_at (parted m r l) id ≡ record_at l id
   others_split id out = split.others id (outside_parts m r le id out)
 
   -- beside the reservation no frame becomes free or taken
   others_free_split : (f : ℕ) → (f < r.frame) ⊎ (r.frame + 8 ^ r.size ≤ f) → is_free (parted m r l) f ≡ is_free l f
-  others_free_split f out = (Replaces-split m l (parted m r l) r.frame r laid is le split).free f (false_from_ne_true _ (λ has.
+  others_free_split f out = (Replaces-split m l (parted m r l) r laid is split).free f (false_from_ne_true _ (λ has.
       let bounds = has_frame_bounds f r has in
       elim out [ inl before ↦ omega (arith, bounds.0, before) | inr past ↦ omega (arith, bounds.1, past) ]))
 

@@ -38,28 +38,23 @@ pub record IsPartAt (k : ℕ) (l : Layout) (r : Reservation) (j i : ℕ) : Type 
   pub at : j ≡ (part_at k r i).frame
   pub filled : is_empty_at k (is_used l.used) r i ≡ false
 
-module _ (k : ℕ) (l new : Layout) (id : ℕ) (r : Reservation) (laid : IsLaid l) (is : record_at l id ≡ Some r) (le : k ≤ r.size)
-    (split : IsSplit k l new r) where
-  -- the reservation is kept at its first frame
-  pub named : r.frame ≡ id
-  named = (laid.placed id r is).named
-
+module _ (k : ℕ) (l new : Layout) (r : Reservation) (laid : IsLaid l) (is : record_at l r.frame ≡ Some r) (split : IsSplit k l new r) where
   -- its frames and pages are of no other one
-  pub region : IsRegion l r id
-  region = IsRegion-own l id r laid is
+  pub region : IsRegion l r r.frame
+  region = IsRegion-own l r.frame r laid is
 
   -- a record beside the reservation is at no part's frame
-  pub beside_parts : (j : ℕ) (q : Reservation) → j ≢ id → record_at l j ≡ Some q → (i : ℕ) → i < part_count k r → j ≡ (part_at k r i).frame
-      → ⊥
+  pub beside_parts : (j : ℕ) (q : Reservation) → j ≢ r.frame → record_at l j ≡ Some q → (i : ℕ) → i < part_count k r
+      → j ≡ (part_at k r i).frame → ⊥
   beside_parts j q other stands i one at =
       let own = laid.placed j q stands in
-      let ends = part_ends k i r le one in
+      let ends = part_ends k i r split.small one in
       let in_r = has_frame_from j r (omega (arith, at)) (omega (arith, at, ends, eight_pos k)) in
       let in_q = has_frame_from j q (omega (arith, own.named)) (omega (arith, own.named, eight_pos q.size)) in
       other (region.alone j j in_r (ap (has_frame j) stands ∙ in_q))
 
   -- it still stands
-  pub stands_still : (j : ℕ) (q : Reservation) → j ≢ id → record_at l j ≡ Some q → record_at new j ≡ Some q
+  pub stands_still : (j : ℕ) (q : Reservation) → j ≢ r.frame → record_at l j ≡ Some q → record_at new j ≡ Some q
   stands_still j q other stands = split.others j (beside_parts j q other stands) ∙ stands
 
   -- and so does each part with a used place
@@ -69,7 +64,7 @@ module _ (k : ℕ) (l new : Layout) (id : ℕ) (r : Reservation) (laid : IsLaid 
 
   -- a record that stands then stood before and isn't the reservation, or is a part with a used place
   pub who_stands : (j : ℕ) (q : Reservation) → record_at new j ≡ Some q
-      → ((j ≢ id) × (record_at l j ≡ Some q)) ⊎ ((i : ℕ) × IsPartAt k l r j i × (part_at k r i ≡ q))
+      → ((j ≢ r.frame) × (record_at l j ≡ Some q)) ⊎ ((i : ℕ) × IsPartAt k l r j i × (part_at k r i ≡ q))
   who_stands j q stands = elim (find_part k r (part_count k r) j) [
     | inl at ↦ elim (cases_Bool (is_empty_at k (is_used l.used) r at.0)) [
       | inl empty ↦
@@ -81,13 +76,13 @@ module _ (k : ℕ) (l new : Layout) (id : ℕ) (r : Reservation) (laid : IsLaid 
         same_Some _ q (sym (ap (record_at new) at.2 ∙ part_stands at.0 at.1 filled) ∙ stands),
       )
     ]
-    | inr none ↦ inl (λ same. none 0 (eight_pos (r.size - k)) (omega (arith, same, named)), sym (split.others j none) ∙ stands)
+    | inr none ↦ inl (λ same. none 0 (eight_pos (r.size - k)) (omega (arith, same)), sym (split.others j none) ∙ stands)
   ]
 
   -- a page of a part is a page of the reservation
   pub whole_covers : (s p : ℕ) (q : Reservation) (i : ℕ) → i < part_count k r → part_at k r i ≡ q → covers s p q ≡ true
       → covers s p r ≡ true
-  whole_covers s p q i one same has = covers_whole k s p i r le one (ap (covers s p) same ∙ has)
+  whole_covers s p q i one same has = covers_whole k s p i r split.small one (ap (covers s p) same ∙ has)
 
   -- a frame of the reservation is one of a part then
   pub part_holds : (f j : ℕ) → has_frame f (Some r) ≡ true → has_frame f (record_at new j) ≡ true
@@ -111,23 +106,23 @@ module _ (k : ℕ) (l new : Layout) (id : ℕ) (r : Reservation) (laid : IsLaid 
   pub used_stands : (f : ℕ) → has_frame f (Some r) ≡ true → is_used l.used f ≡ true
       → (i : ℕ) × (has_frame f (Some (part_at k r i)) ≡ true) × (record_at new (part_at k r i).frame ≡ Some (part_at k r i))
   used_stands f has used =
-      let part = which_part k r le f has in
+      let part = which_part k r split.small f has in
       (part.0, part.2, split.parts part.0 part.1 ∙ used_part k r (is_used l.used) f part.0 used part.2)
 
   -- a part that stands came in its place, with a used one
   pub part_came : (j i : ℕ) → IsPartAt k l r j i → CameIn l new r j (part_at k r i)
   part_came j i part = record {
     placed = subst (λ n. IsPlaced (length l.records) n (part_at k r i)) (sym part.at)
-        (part_at-placed (length l.records) k i r (placed_own l id r laid is) le part.below);
-    frames = part_in_whole k r le i part.below;
-    pages = λ s p. covers_whole k s p i r le part.below;
+        (part_at-placed (length l.records) k i r (placed_own l r.frame r laid is) split.small part.below);
+    frames = part_in_whole k r split.small i part.below;
+    pages = λ s p. covers_whole k s p i r split.small part.below;
     some_used =
         let some = some_used_in (is_used l.used) (part_at k r i).frame (8 ^ k) part.filled in
         (some.0, has_frame_from some.0 (part_at k r i) some.1 some.2, ap (λ u. is_used u some.0) split.used ∙ some.3);
   }
 
   -- the reservation gave way to its parts
-  pub Replaces-split : Replaces l new r id
+  pub Replaces-split : Replaces l new r r.frame
   Replaces-split = record {
     region = region;
     records_long = split.records_long;
@@ -143,7 +138,7 @@ module _ (k : ℕ) (l new : Layout) (id : ℕ) (r : Reservation) (laid : IsLaid 
         (λ now. elim (split.free_cases f now) [
           | inl was ↦ was
           | inr emptied ↦
-              absurd (false≢true (sym out ∙ part_in_whole k r le emptied.part emptied.below f emptied.has))
+              absurd (false≢true (sym out ∙ part_in_whole k r split.small emptied.part emptied.below f emptied.has))
         ])
         (split.free_before f);
     used = λ f out. ap (λ u. is_used u f) split.used;
@@ -152,7 +147,7 @@ module _ (k : ℕ) (l new : Layout) (id : ℕ) (r : Reservation) (laid : IsLaid 
         let y = part_holds f m inside b in
         x.1.at ∙ ap (λ n. (part_at k r n).frame) (same_part k r f x.0 y.0 x.2 y.2) ∙ sym y.1.at;
     not_free = λ f j inside free has. elim (split.free_cases f free) [
-      | inl was ↦ laid.not_free f id was (ap (has_frame f) is ∙ inside)
+      | inl was ↦ laid.not_free f r.frame was (ap (has_frame f) is ∙ inside)
       | inr emptied ↦
           let x = part_holds f j inside has in
           false≢true (sym x.1.filled ∙ ap (is_empty_at k (is_used l.used) r) (same_part k r f x.0 emptied.part x.2 emptied.has)
@@ -169,15 +164,15 @@ module _ (k : ℕ) (l new : Layout) (id : ℕ) (r : Reservation) (laid : IsLaid 
 
   -- the new layout is sound
   pub IsLaid-split : IsLaid new
-  IsLaid-split = IsLaid-replaced l new r id laid Replaces-split
+  IsLaid-split = IsLaid-replaced l new r r.frame laid Replaces-split
 
   -- the same frames are in it
   pub within_split : (f : ℕ) → IsIn new f ↔ IsIn l f
   within_split f = elim (cases_Bool (has_frame f (Some r))) [
-    | inr out ↦ IsIn-beside l new r id laid Replaces-split f out
+    | inr out ↦ IsIn-beside l new r r.frame laid Replaces-split f out
     | inl inside ↦ (
-      λ _. inr (id, ap (has_frame f) is ∙ inside),
-      λ _. let part = which_part k r le f inside in
+      λ _. inr (r.frame, ap (has_frame f) is ∙ inside),
+      λ _. let part = which_part k r split.small f inside in
           elim (cases_Bool (is_empty_at k (is_used l.used) r part.0)) [
             | inl empty ↦ inl (split.free_part part.0 f part.1 empty part.2)
             | inr filled ↦ inr ((part_at k r part.0).frame, ap (has_frame f) (part_stands part.0 part.1 filled) ∙ part.2)
@@ -188,14 +183,14 @@ module _ (k : ℕ) (l new : Layout) (id : ℕ) (r : Reservation) (laid : IsLaid 
   -- and every page keeps its place
   pub pages_split : (s p : ℕ) → frame_in new s p ≡ frame_in l s p
   pages_split s p = elim (cases_Bool (covers s p r)) [
-    | inr out ↦ frame_in-beside l new r id laid Replaces-split s p out
+    | inr out ↦ frame_in-beside l new r r.frame laid Replaces-split s p out
     | inl has ↦
         same_option (frame_in new s p) (frame_in l s p)
         (λ f found.
         let place = frame_in-found new s p f found in
         let part = part_has_page place.id s p place.reservation has place.is place.covers_page in
         frame_in-from l s p f laid (record {
-          id = id;
+          id = r.frame;
           reservation = r;
           is = is;
           covers_page = has;
@@ -224,7 +219,7 @@ module _ (k : ℕ) (l new : Layout) (id : ℕ) (r : Reservation) (laid : IsLaid 
       → (other : ℕ) × (t : Reservation) × (record_at l other ≡ Some t) × (covers s p t ≡ true)
   covered_split j s p q stands has = elim (who_stands j q stands) [
     | inl still ↦ (j, q, still.1, has)
-    | inr part ↦ (id, r, is, whole_covers s p q part.0 part.1.below part.2 has)
+    | inr part ↦ (r.frame, r, is, whole_covers s p q part.0 part.1.below part.2 has)
   ]
 
   -- so whatever a split leaves settles
@@ -243,4 +238,5 @@ module _ (k : ℕ) (l new : Layout) (id : ℕ) (r : Reservation) (laid : IsLaid 
 pub Settles-parted : (k : ℕ) (l : Layout) (id : ℕ) (r : Reservation) → IsLaid l → record_at l id ≡ Some r → k ≤ r.size
     → Settles l (parted k r l)
 Settles-parted k l id r laid is le =
-    Settles-from k l (parted k r l) id r laid is le (IsSplit-parted k l r laid.records_long (placed_own l id r laid is) le)
+    let own = ap (record_at l) (laid.placed id r is).named ∙ is in
+    Settles-from k l (parted k r l) r laid own (IsSplit-parted k l r laid.records_long (placed_own l id r laid is) le)

@@ -91,11 +91,15 @@ owns-alone st c space what names =
 
 -- Entries on the frames.
 
+-- Every processor goes on owning what its place says: the entry's own, and the others, which keep what they have.
+record OwnsOn (st after : FrameState) (c : ℕ) (space : Option ℕ) (what : What) : Type 0 where
+  pub own : (p q : Progress) → progress_after p space what ≡ Some q → OwnsBy st c p.doing → OwnsBy after c q.doing
+  pub others : (d : ℕ) → d ≢ c → Keeps st after d
+
 -- What an entry of a processor on the frames does, where they allow it: every processor goes on owning what its place says; the
 -- pages of the space that it names have the frames that the space has for them, and those of other spaces keep theirs.
 record GoesOn (st after : FrameState) (c : ℕ) (space : Option ℕ) (what : What) : Type 0 where
-  pub own : (p q : Progress) → progress_after p space what ≡ Some q → OwnsBy st c p.doing → OwnsBy after c q.doing
-  pub others : (d : ℕ) → d ≢ c → Keeps st after d
+  pub owns : OwnsOn st after c space what
   pub named : (base : ℕ → Option ℕ) (s p : ℕ) → space ≡ Some s → base p ≡ frame_of st s p → base_after base true what p ≡ frame_of after s p
   pub other : (s p : ℕ) → is_that s space ≡ false → frame_of after s p ≡ frame_of st s p
 
@@ -150,8 +154,10 @@ GoesOn-answer frames processors st c space number (Evict t page) sound allowed a
     })) in
     let pages = frame_of-give_page st space page allowed.0 sound.laid allowed.1 in
     record {
-      own = λ p q. owns-answer st (counted after) c (keeps c) p q number (Evict t page) answered.reply;
-      others = λ d _. keeps d;
+      owns = record {
+        own = λ p q. owns-answer st (counted after) c (keeps c) p q number (Evict t page) answered.reply;
+        others = λ d _. keeps d;
+      };
       named = named_pages st (counted after) space (λ p. eqb p page) None pages;
       other = other_pages st (counted after) space (λ p. eqb p page) None pages;
     }
@@ -179,8 +185,10 @@ GoesOn-moved frames processors st mark c (Some s) (Take page frame want) sound a
     let after = counted (state_taken st (take_frame st s page want)) in
     let takes = Takes-from frames processors st s page frame want sound allowed.0 allowed.2 in
     record {
-      own = λ p q goes. owns-take st after c (takes.keeps c) p.made p.doing q s page frame goes;
-      others = λ d _. takes.keeps d;
+      owns = record {
+        own = λ p q goes. owns-take st after c (takes.keeps c) p.made p.doing q s page frame goes;
+        others = λ d _. takes.keeps d;
+      };
       named = named_pages st after s (λ p. eqb p page) (Some frame) takes.pages;
       other = other_pages st after s (λ p. eqb p page) (Some frame) takes.pages;
     }
@@ -195,13 +203,11 @@ GoesOn-moved frames processors st mark c (Some s) (Give page frame) sound allowe
     })) in
     let pages = frame_of-give_page st s page frame sound.laid allowed in
     record {
-      own = λ p q goes. owns-give st (counted after) c (keeps c) p.made p.doing q s page frame goes (holds-given st s page frame c (record {
-        frames = frames;
-        processors = processors;
-        sound = sound;
-        is = allowed;
-      }));
-      others = λ d _. keeps d;
+      owns = record {
+        own = λ p q goes. owns-give st (counted after) c (keeps c) p.made p.doing q s page frame goes
+            (holds-given st s page frame c (record { frames = frames; processors = processors; sound = sound; is = allowed }));
+        others = λ d _. keeps d;
+      };
       named = named_pages st (counted after) s (λ p. eqb p page) None pages;
       other = other_pages st (counted after) s (λ p. eqb p page) None pages;
     }
@@ -212,20 +218,24 @@ GoesOn-moved frames processors st mark c (Some s) (Clear first len) sound allowe
     (Keeps-give_each frames processors s (range_with_len first len) st d sound) in
     let pages = frame_of-give_each frames processors s first len st sound in
     record {
-      own = λ p q goes. owns-clear st (counted after) c (keeps c) p.made p.doing q s first len goes;
-      others = λ d _. keeps d;
+      owns = record {
+        own = λ p q goes. owns-clear st (counted after) c (keeps c) p.made p.doing q s first len goes;
+        others = λ d _. keeps d;
+      };
       named = named_pages st (counted after) s (in_range first len) None pages;
       other = other_pages st (counted after) s (in_range first len) None pages;
     }
 GoesOn-moved frames processors st mark c space (Claim victim page frame need) sound allowed names =
     let after = claimed st frame (Some c) in
     record {
-      own = λ p q goes owns. owns-claim (counted after) c p.made p.doing space (record {
-        space = victim;
-        page = page;
-        frame = frame;
-      }) need (record { frame = (claims-claimed st victim page frame c allowed.1).frame }) q goes;
-      others = λ d other. Keeps-move st after d (Keeps-claimed st victim page frame c d allowed.1 other);
+      owns = record {
+        own = λ p q goes owns. owns-claim (counted after) c p.made p.doing space (record {
+          space = victim;
+          page = page;
+          frame = frame;
+        }) need (record { frame = (claims-claimed st victim page frame c allowed.1).frame }) q goes;
+        others = λ d other. Keeps-move st after d (Keeps-claimed st victim page frame c d allowed.1 other);
+      };
       named = λ base s p _ now. now ∙ sym (frame_of-claimed st frame (Some c) s p);
       other = λ s p _. frame_of-claimed st frame (Some c) s p;
     }
@@ -240,8 +250,10 @@ GoesOn-moved frames processors st mark c (Some s) (UseHeld page frame want) soun
     λ t p. takes.pages t p ∙ ap (cond (eqb s t && eqb p page) (Some frame)) (same t p) in
     let nothing = (takes.keeps c).nothing (nothing-dropped frames processors st c allowed.1.0 sound allowed.1.1) in
     record {
-      own = λ p q goes owns. owns-use after c p.made p.doing s page frame nothing q goes;
-      others = λ d other. Keeps-then st drops after d (Keeps-dropped st c d other) (takes.keeps d);
+      owns = record {
+        own = λ p q goes owns. owns-use after c p.made p.doing s page frame nothing q goes;
+        others = λ d other. Keeps-then st drops after d (Keeps-dropped st c d other) (takes.keeps d);
+      };
       named = named_pages st after s (λ p. eqb p page) (Some frame) pages;
       other = other_pages st after s (λ p. eqb p page) (Some frame) pages;
     }
@@ -249,14 +261,18 @@ GoesOn-moved frames processors st mark c space (DropHeld frame) sound allowed na
     let after = dropped st c in
     let nothing = HasNothing-counted after c (nothing-dropped frames processors st c frame sound allowed) in
     record {
-      own = λ p q goes owns. owns-drop (counted after) c p.made p.doing q frame goes nothing;
-      others = λ d other. Keeps-move st after d (Keeps-dropped st c d other);
+      owns = record {
+        own = λ p q goes owns. owns-drop (counted after) c p.made p.doing q frame goes nothing;
+        others = λ d other. Keeps-move st after d (Keeps-dropped st c d other);
+      };
       named = λ base s p _ now. now ∙ sym (frame_of-dropped frames processors st c s p sound);
       other = λ s p _. frame_of-dropped frames processors st c s p sound;
     }
 GoesOn-moved frames processors st mark c space (Got frame) sound allowed names = record {
-  own = λ p q goes owns. owns-got (counted st) c p.made p.doing q frame goes allowed;
-  others = λ d _. Keeps-counted st d;
+  owns = record {
+    own = λ p q goes owns. owns-got (counted st) c p.made p.doing q frame goes allowed;
+    others = λ d _. Keeps-counted st d;
+  };
   named = λ base s p _ now. now;
   other = λ s p _. refl;
 }
@@ -265,20 +281,26 @@ GoesOn-moved frames processors st mark c (Some s) (Unclaim frame) sound allowed 
     let after = claimed st frame None in
     let nothing = HasNothing-counted after c (nothing-unclaimed frames processors st frame c sound allowed.0) in
     record {
-      own = λ p q goes owns. owns-unclaim (counted after) c p.made p.doing q s frame goes nothing;
-      others = λ d other. Keeps-move st after d (Keeps-unclaimed st frame c d allowed.0 other);
+      owns = record {
+        own = λ p q goes owns. owns-unclaim (counted after) c p.made p.doing q s frame goes nothing;
+        others = λ d other. Keeps-move st after d (Keeps-unclaimed st frame c d allowed.0 other);
+      };
       named = λ base t p _ now. now ∙ sym (frame_of-claimed st frame None t p);
       other = λ t p _. frame_of-claimed st frame None t p;
     }
 GoesOn-moved frames processors st mark c space (Refused wired claimed held) sound allowed names = record {
-  own = λ p q goes. owns-refusal st (counted st) c (Keeps-counted st c) p.made p.doing q wired claimed held goes;
-  others = λ d _. Keeps-counted st d;
+  owns = record {
+    own = λ p q goes. owns-refusal st (counted st) c (Keeps-counted st c) p.made p.doing q wired claimed held goes;
+    others = λ d _. Keeps-counted st d;
+  };
   named = λ base s p _ now. now;
   other = λ s p _. refl;
 }
 GoesOn-moved frames processors st mark c space (Rest short) sound allowed names = record {
-  own = λ p q goes. owns-rest st (counted st) c (Keeps-counted st c) p.made p.doing q short goes;
-  others = λ d _. Keeps-counted st d;
+  owns = record {
+    own = λ p q goes. owns-rest st (counted st) c (Keeps-counted st c) p.made p.doing q short goes;
+    others = λ d _. Keeps-counted st d;
+  };
   named = λ base s p _ now. now;
   other = λ s p _. refl;
 }
@@ -296,24 +318,21 @@ pub names-is : (space : Option ℕ) (s : ℕ) → is_that s space ≡ true → s
 names-is None s h = absurd (false≢true h)
 names-is (Some t) s h = ap Some (eqb-true t s h)
 
--- every processor owns what its place says after an entry, where its own processor does and the others keep what they have
-owns-more : (g : Given) (h : List Entry) (e : Entry) (after : FrameState)
-    → ((c : ℕ) (p : Progress) → progress_at g h c ≡ Some p → OwnsBy (frames_at g h) c p.doing)
-    → ((p q : Progress) → progress_after p e.space e.what ≡ Some q → OwnsBy (frames_at g h) e.processor p.doing
-    → OwnsBy after e.processor q.doing)
-    → ((d : ℕ) → d ≢ e.processor → Keeps (frames_at g h) after d) → (c : ℕ) (q : Progress) → progress_at g (h ++ e ∷ []) c ≡ Some q
+-- so after the entry every processor owns what its place says
+owns-more : (g : Given) (h : List Entry) (e : Entry) (after : FrameState) → IsKept g h
+    → OwnsOn (frames_at g h) after e.processor e.space e.what → (c : ℕ) (q : Progress) → progress_at g (h ++ e ∷ []) c ≡ Some q
     → OwnsBy after c q.doing
-owns-more g h e after owned own others c q goes =
+owns-more g h e after kept on c q goes =
     elim (is_of c e) as (λ b. is_of c e ≡ b → OwnsBy after c q.doing) [
       | true ↦ λ mine.
           let before = progress_before (progress_at g h c) e q (sym (progress_at-own g h e c mine) ∙ goes) in
           let same = eqb-true e.processor c mine in
-          subst (λ d. OwnsBy after d q.doing) same (own before.0 q before.2
-          (subst (λ d. OwnsBy (frames_at g h) d before.0.doing) (sym same) (owned c before.0 before.1)))
+          subst (λ d. OwnsBy after d q.doing) same (on.own before.0 q before.2
+          (subst (λ d. OwnsBy (frames_at g h) d before.0.doing) (sym same) (kept.owns c before.0 before.1)))
       | false ↦ λ other.
-          let keeps = others c (λ same. eqb-false e.processor c other (sym same)) in
+          let keeps = on.others c (λ same. eqb-false e.processor c other (sym same)) in
           Keeps-owns (frames_at g h) after c (is_holding q.doing) (victim_in q.doing) keeps
-          (owned c q (sym (progress_at-other g h e c other) ∙ goes))
+          (kept.owns c q (sym (progress_at-other g h e c other) ∙ goes))
     ] refl
 
 -- each entry that may follow keeps what is kept
@@ -327,7 +346,7 @@ IsKept-more g h c space false what kept may =
     record {
       sound = subst (IsSound g.frames (length g.marks)) (sym same) kept.sound;
       owns = λ d q goes. subst (λ after. OwnsBy after d q.doing) (sym same)
-          (owns-more g h e st kept.owns (owns-alone st c space what may.parts) (λ d _. Keeps-same st d) d q goes);
+          (owns-more g h e st kept (record { own = owns-alone st c space what may.parts; others = λ d _. Keeps-same st d }) d q goes);
       agrees = λ s p. elim (is_that s space) as (λ b. is_that s space ≡ b
           → (space_at g (h ++ e ∷ []) s).base p ≡ frame_of (frames_at g (h ++ e ∷ [])) s p) [
             | true ↦ λ named.
@@ -349,7 +368,7 @@ IsKept-more g h c space true what kept may =
     record {
       sound = subst (IsSound g.frames (length g.marks)) (sym moves) (IsSound-moved g.frames (length g.marks) st
           (mark_of g c) c space what kept.sound may.processor allowed);
-      owns = λ d q goes. subst (λ after. OwnsBy after d q.doing) (sym moves) (owns-more g h e _ kept.owns on.own on.others d q goes);
+      owns = λ d q goes. subst (λ after. OwnsBy after d q.doing) (sym moves) (owns-more g h e _ kept on.owns d q goes);
       agrees = λ s p. elim (is_that s space) as (λ b. is_that s space ≡ b
           → (space_at g (h ++ e ∷ []) s).base p ≡ frame_of (frames_at g (h ++ e ∷ [])) s p) [
             | true ↦ λ named.

@@ -81,7 +81,8 @@ pub record IsEmptied (k : ℕ) (used : ℕ → Bool) (r : Reservation) (n f : �
   pub empty : is_empty_at k used r part ≡ true
   pub has : has_frame f (Some (part_at k r part)) ≡ true
 
-module _ (k : ℕ) (used : ℕ → Bool) (r : Reservation) (free : List Bool) (le : k ≤ r.size) (within : r.frame + 8 ^ r.size ≤ length free) where
+module _ (k : ℕ) (used : ℕ → Bool) (r : Reservation) (free : List Bool) (le : k ≤ r.size)
+    (within : r.frame + 8 ^ r.size ≤ length free) where
   -- one part changes no length
   pub length-freed_part : (fs : List Bool) (i : ℕ) → length fs ≡ length free → i < part_count k r
       → length (freed_part k used r fs i) ≡ length free
@@ -176,6 +177,7 @@ module _ (k : ℕ) (used : ℕ → Bool) (r : Reservation) (free : List Bool) (l
 -- What a split does to a layout: each part stands where it has a used place, and is free where it has none; every other record
 -- and every other frame is as before.
 pub record IsSplit (k : ℕ) (old new : Layout) (r : Reservation) : Type 0 where
+  pub small : k ≤ r.size
   pub records_long : length new.records ≡ length old.records
   pub free_long : length new.free ≡ length old.free
   pub used : new.used ≡ old.used
@@ -196,6 +198,7 @@ IsSplit-parted k l r long placed le =
     let n = part_count k r in
     let most : n ≤ n = omega arith in
     record {
+      small = le;
       records_long = length-parted k used r l.records le placed n;
       free_long = length-free_up_to k used r l.free le within n most;
       used = refl;

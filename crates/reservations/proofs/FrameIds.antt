@@ -36,7 +36,10 @@ none_begins records frame are free = at (get_or records frame None) refl
 
 -- a reservation that is no longer noted leaves a gap
 module _ (records : List (Option Reservation)) (ids : List (Option ℕ)) (used : List Bool) (id : ℕ) (r : Reservation)
-    (noted : AreNoted records ids used 0 0) (placed : IsPlaced (length records) id r) (is : get_or records id None ≡ Some r) where
+    (are : AreKept records ids used) (is : get_or records id None ≡ Some r) where
+  named : r.frame ≡ id
+  named = (are.placed id r is).named
+
   pub gone : (j : ℕ) → j ≡ id → get_or (set records id None) j None ≡ None
   gone j here = get_or-set_default records id j None here
 
@@ -48,24 +51,24 @@ module _ (records : List (Option Reservation)) (ids : List (Option ℕ)) (used :
   not_outside f j here out has =
       let at : has_frame f (Some r) ≡ true = sym (ap (has_frame f) (ap (λ k. get_or records k None) here ∙ is)) ∙ has in
       let bounds = has_frame_bounds f r at in
-      elim out [ inl below ↦ omega (arith, bounds.0, placed.named) | inr past ↦ omega (arith, bounds.1, placed.named) ]
+      elim out [ inl below ↦ omega (arith, bounds.0, named) | inr past ↦ omega (arith, bounds.1, named) ]
 
   pub one_id : (f j : ℕ) → id ≤ f → f < id + 8 ^ r.size → has_frame f (get_or records j None) ≡ true → j ≡ id
   one_id f j low high has =
-      let by_j = (noted.exact f j (inr (omega arith))).1 has in
-      let mine = has_frame_from f r (omega (arith, placed.named)) (omega (arith, placed.named)) in
-      let by_id = (noted.exact f id (inr (omega arith))).1 (ap (has_frame f) is ∙ mine) in
+      let by_j = (are.noted.exact f j (inr (omega arith))).1 has in
+      let mine = has_frame_from f r (omega (arith, named)) (omega (arith, named)) in
+      let by_id = (are.noted.exact f id (inr (omega arith))).1 (ap (has_frame f) is ∙ mine) in
       same_Some j id (sym by_j ∙ by_id)
 
   pub AreNoted-open : AreNoted (set records id None) ids used id (id + 8 ^ r.size)
   AreNoted-open = record {
     exact = λ f j out.
-        let was = noted.exact f j (inr (omega arith)) in
+        let was = are.noted.exact f j (inr (omega arith)) in
         elim (cases_eq j id) [
           | inl here ↦ (λ e. absurd (not_outside f j here out (was.0 e)), λ has. absurd (no_frame f _ (gone j here) has))
           | inr other ↦ (λ e. ap (has_frame f) (kept j other) ∙ was.0 e, λ has. was.1 (sym (ap (has_frame f) (kept j other)) ∙ has))
         ];
-    idle = λ f out. noted.idle f (inr (omega arith));
+    idle = λ f out. are.noted.idle f (inr (omega arith));
     gap = λ f j low high has. elim (cases_eq j id) [
       | inl here ↦ no_frame f _ (gone j here) has
       | inr other ↦ other (one_id f j low high (sym (ap (has_frame f) (kept j other)) ∙ has))
@@ -97,66 +100,90 @@ pub own_idle : (used : List Bool) (low w : ℕ) (o : Option Reservation) → Bel
 own_idle used low w None belongs f at_least below e = belongs f at_least below
 own_idle used low w (Some r) belongs f at_least below e = absurd (none-some r.frame (sym e))
 
--- a part of the gap is closed
-module _ (records : List (Option Reservation)) (ids after : List (Option ℕ)) (used : List Bool) (low high w : ℕ) (o : Option Reservation)
-    (noted : AreNoted records ids used low high) (vacant : get_or records low None ≡ None) (within : low < length records)
-    (inside : low + w ≤ high) (belongs : Belongs used low w o) (filled : IsFilled ids after low w (first_frame o)) where
-  pub placed_at : (f j : ℕ) → j ≡ low → has_frame f (get_or (set records low o) j None) ≡ has_frame f o
-  placed_at f j here = ap (has_frame f) (ap (λ k. get_or (set records low o) k None) here ∙ get_or-set_same records low o None within)
+-- Of each frame which reservation begins at it, which one it is noted to be in, and whether it is used.
+pub record Notes : Type 0 where
+  pub records : List (Option Reservation)
+  pub ids : List (Option ℕ)
+  pub used : List Bool
 
-  pub same_at : (f j : ℕ) → j ≢ low → has_frame f (get_or (set records low o) j None) ≡ has_frame f (get_or records j None)
-  same_at f j other = ap (has_frame f) (get_or-set_other records low j o None other)
+-- What comes into a gap: the frames of a reservation from this one on, or as many frames of none.
+pub record Filling : Type 0 where
+  pub low : ℕ
+  pub width : ℕ
+  pub what : Option Reservation
 
-  pub beside : (f : ℕ) → (f < low) ⊎ (high ≤ f) → (f < low) ⊎ (low + w ≤ f)
-  beside f out = elim out [ inl below ↦ inl below | inr past ↦ inr (omega arith) ]
+-- It comes into the part of a gap that is left below `high`, and after it these frames are noted.
+pub record Fills (n : Notes) (p : Filling) (high : ℕ) (after : List (Option ℕ)) : Type 0 where
+  pub noted : AreNoted n.records n.ids n.used p.low high
+  pub vacant : get_or n.records p.low None ≡ None
+  pub within : p.low < length n.records
+  pub inside : p.low + p.width ≤ high
+  pub belongs : Belongs n.used p.low p.width p.what
+  pub filled : IsFilled n.ids after p.low p.width (first_frame p.what)
 
-  pub not_own : (f : ℕ) → (f < low) ⊎ (high ≤ f) → has_frame f o ≡ true → ⊥
+module _ (n : Notes) (p : Filling) (high : ℕ) (after : List (Option ℕ)) (fills : Fills n p high after) where
+  abbrev filled_records : List (Option Reservation)
+  filled_records = set n.records p.low p.what
+
+  pub placed_at : (f j : ℕ) → j ≡ p.low → has_frame f (get_or filled_records j None) ≡ has_frame f p.what
+  placed_at f j here = ap (has_frame f)
+      (ap (λ k. get_or filled_records k None) here ∙ get_or-set_same n.records p.low p.what None fills.within)
+
+  pub same_at : (f j : ℕ) → j ≢ p.low → has_frame f (get_or filled_records j None) ≡ has_frame f (get_or n.records j None)
+  same_at f j other = ap (has_frame f) (get_or-set_other n.records p.low j p.what None other)
+
+  pub beside : (f : ℕ) → (f < p.low) ⊎ (high ≤ f) → (f < p.low) ⊎ (p.low + p.width ≤ f)
+  beside f out = elim out [ inl below ↦ inl below | inr past ↦ inr (omega (arith, fills.inside)) ]
+
+  pub not_own : (f : ℕ) → (f < p.low) ⊎ (high ≤ f) → has_frame f p.what ≡ true → ⊥
   not_own f out has =
-      let bounds = own_bounds used low w o belongs f has in
-      elim out [ inl below ↦ omega (arith, bounds.0) | inr past ↦ omega (arith, bounds.1) ]
+      let bounds = own_bounds n.used p.low p.width p.what fills.belongs f has in
+      elim out [ inl below ↦ omega (arith, bounds.0) | inr past ↦ omega (arith, bounds.1, fills.inside) ]
 
-  pub noted_beside : (f j : ℕ) → (f < low) ⊎ (high ≤ f) → (get_or after f None ≡ Some j) ↔
-      (has_frame f (get_or (set records low o) j None) ≡ true)
+  pub noted_beside : (f j : ℕ) → (f < p.low) ⊎ (high ≤ f) → (get_or after f None ≡ Some j) ↔
+      (has_frame f (get_or filled_records j None) ≡ true)
   noted_beside f j out =
-      let same = filled.outside f (beside f out) in
-      let was = noted.exact f j out in
-      elim (cases_eq j low) [
+      let same = fills.filled.outside f (beside f out) in
+      let was = fills.noted.exact f j out in
+      elim (cases_eq j p.low) [
         | inl here ↦ (
-          λ e. absurd (no_frame f _ (ap (λ k. get_or records k None) here ∙ vacant) (was.0 (sym same ∙ e))),
+          λ e. absurd (no_frame f _ (ap (λ k. get_or n.records k None) here ∙ fills.vacant) (was.0 (sym same ∙ e))),
           λ has. absurd (not_own f out (sym (placed_at f j here) ∙ has)),
         )
         | inr other ↦ (λ e. same_at f j other ∙ was.0 (sym same ∙ e), λ has. same ∙ was.1 (sym (same_at f j other) ∙ has))
       ]
 
-  pub noted_inside : (f j : ℕ) → low ≤ f → f < low + w → (get_or after f None ≡ Some j) ↔
-      (has_frame f (get_or (set records low o) j None) ≡ true)
+  pub noted_inside : (f j : ℕ) → p.low ≤ f → f < p.low + p.width → (get_or after f None ≡ Some j) ↔
+      (has_frame f (get_or filled_records j None) ≡ true)
   noted_inside f j at_least below =
-      let value = filled.inside f at_least below in
-      let own = own_noted used low w o belongs f j at_least below in (
+      let value = fills.filled.inside f at_least below in
+      let own = own_noted n.used p.low p.width p.what fills.belongs f j at_least below in (
         λ e. let is = own.0 (sym value ∙ e) in placed_at f j is.0 ∙ is.1,
-        λ has. elim (cases_eq j low) [
+        λ has. elim (cases_eq j p.low) [
           | inl here ↦ value ∙ own.1 (here, sym (placed_at f j here) ∙ has)
-          | inr other ↦ absurd (noted.gap f j at_least (omega arith) (sym (same_at f j other) ∙ has))
+          | inr other ↦ absurd (fills.noted.gap f j at_least (omega (arith, fills.inside)) (sym (same_at f j other) ∙ has))
         ],
       )
 
   -- a frame beside the new gap is in the part or beside the old gap
-  pub where_is : (f : ℕ) → (f < low + w) ⊎ (high ≤ f) → ((low ≤ f) × (f < low + w)) ⊎ ((f < low) ⊎ (high ≤ f))
+  pub where_is : (f : ℕ) → (f < p.low + p.width) ⊎ (high ≤ f) → ((p.low ≤ f) × (f < p.low + p.width)) ⊎ ((f < p.low) ⊎ (high ≤ f))
   where_is f out = elim out [
-    | inl below ↦ elim (cases_lt f low) [ inl before ↦ inr (inl before) | inr at_least ↦ inl (at_least, below) ]
+    | inl below ↦ elim (cases_lt f p.low) [ inl before ↦ inr (inl before) | inr at_least ↦ inl (at_least, below) ]
     | inr past ↦ inr (inr past)
   ]
 
-  pub AreNoted-place : AreNoted (set records low o) after used (low + w) high
+  pub AreNoted-place : AreNoted filled_records after n.used (p.low + p.width) high
   AreNoted-place = record {
     exact = λ f j out. elim (where_is f out) [ inl part ↦ noted_inside f j part.0 part.1 | inr old ↦ noted_beside f j old ];
     idle = λ f out none. elim (where_is f out) [
-      | inl part ↦ own_idle used low w o belongs f part.0 part.1 (sym (filled.inside f part.0 part.1) ∙ none)
-      | inr old ↦ noted.idle f old (sym (filled.outside f (beside f old)) ∙ none)
+      | inl part ↦ own_idle n.used p.low p.width p.what fills.belongs f part.0 part.1 (sym (fills.filled.inside f part.0 part.1) ∙ none)
+      | inr old ↦ fills.noted.idle f old (sym (fills.filled.outside f (beside f old)) ∙ none)
     ];
-    gap = λ f j at_least below has. elim (cases_eq j low) [
-      | inl here ↦ let bounds = own_bounds used low w o belongs f (sym (placed_at f j here) ∙ has) in omega (arith, bounds.1)
-      | inr other ↦ noted.gap f j (omega arith) below (sym (same_at f j other) ∙ has)
+    gap = λ f j at_least below has. elim (cases_eq j p.low) [
+      | inl here ↦
+          let bounds = own_bounds n.used p.low p.width p.what fills.belongs f (sym (placed_at f j here) ∙ has) in
+          omega (arith, bounds.1)
+      | inr other ↦ fills.noted.gap f j (omega arith) below (sym (same_at f j other) ∙ has)
     ];
   }
 
@@ -272,12 +299,21 @@ pub AreKept-dissolve : (records : List (Option Reservation)) (ids after : List (
 AreKept-dissolve records ids after used id r are is none filled long =
     let placed = are.placed id r is in
     let known = get_or_within records id r is in
-    let open_gap = AreNoted-open records ids used id r are.noted placed is in
+    let open_gap = AreNoted-open records ids used id r are is in
     let vacant : get_or (set records id None) id None ≡ None = get_or-set_same records id None None known in
     let belongs : Belongs used id (8 ^ r.size) None =
     λ f low high. unused_in (is_used used) r.frame (8 ^ r.size) none f (omega (arith, placed.named)) (omega (arith, placed.named)) in
-    let closed = AreNoted-place (set records id None) ids after used id (id + 8 ^ r.size) (8 ^ r.size) None open_gap vacant
-    (omega (arith, known, length-set records id None)) (omega arith) belongs filled in
+    let n : Notes = record { records = set records id None; ids = ids; used = used } in
+    let p : Filling = record { low = id; width = 8 ^ r.size; what = None } in
+    let closed : AreNoted (set (set records id None) id None) after used (id + 8 ^ r.size) (id + 8 ^ r.size) =
+    AreNoted-place n p (id + 8 ^ r.size) after (record {
+      noted = open_gap;
+      vacant = vacant;
+      within = omega (arith, known, length-set records id None);
+      inside = omega arith;
+      belongs = belongs;
+      filled = filled;
+    }) in
     record {
       ids_long = long ∙ are.ids_long ∙ sym (length-set records id None);
       used_long = are.used_long ∙ sym (length-set records id None);
@@ -299,8 +335,16 @@ AreKept-add records ids after used r f are placed apart has filled long =
     λ g j at_least below is. false≢true (sym (apart g j (has_frame_from g r at_least below)) ∙ is) in
     let open_gap = AreNoted-gap records ids used low high are.noted free in
     let vacant = vacant_in_gap records ids used low high are.placed open_gap (omega (arith, eight_pos r.size)) in
-    let belongs : Belongs used low (8 ^ r.size) (Some r) = (refl, refl) in
-    let closed = AreNoted-place records ids after used low high (8 ^ r.size) (Some r) open_gap vacant known (omega arith) belongs filled in
+    let n : Notes = record { records = records; ids = ids; used = used } in
+    let p : Filling = record { low = low; width = 8 ^ r.size; what = Some r } in
+    let closed : AreNoted (set records low (Some r)) after used high high = AreNoted-place n p high after (record {
+      noted = open_gap;
+      vacant = vacant;
+      within = known;
+      inside = omega arith;
+      belongs = (refl, refl);
+      filled = filled;
+    }) in
     let before : AreKept (set records low (Some r)) after used = record {
       ids_long = long ∙ are.ids_long ∙ sym (length-set records low (Some r));
       used_long = are.used_long ∙ sym (length-set records low (Some r));

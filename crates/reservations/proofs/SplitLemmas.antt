@@ -56,8 +56,8 @@ part_placed frames i r placed splits one =
       pages_aligned = (small, aligned_part (r.size - 1) r.size r.first i (omega arith) placed.pages_aligned.1);
     }
 
-module _ (records : List (Option Reservation)) (used : List Bool) (r : Reservation) (frames i : ℕ) (long : length records ≡ frames)
-    (splits : 0 < r.size) (one : i < 8) (placed : IsPlaced frames r.frame r) where
+module _ (records : List (Option Reservation)) (used : List Bool) (r : Reservation) (i : ℕ) (splits : 0 < r.size) (one : i < 8)
+    (placed : IsPlaced (length records) r.frame r) where
   pub part_known : r.frame + i * 8 ^ (r.size - 1) < length records
   part_known = omega (arith, part_of_eight i r.size splits one, placed.within, eight_pos (r.size - 1))
 
@@ -69,7 +69,7 @@ module _ (records : List (Option Reservation)) (used : List Bool) (r : Reservati
         | inr whole ↦
             let same = same_Some (part_of r i) q (sym whole ∙ e) in
             subst (λ p. IsPlaced (length records) (r.frame + i * 8 ^ (r.size - 1)) p) same
-            (subst (λ n. IsPlaced n (r.frame + i * 8 ^ (r.size - 1)) (part_of r i)) (sym long) (part_placed frames i r placed splits one))
+            (part_placed (length records) i r placed splits one)
       ])
 
   pub part_belongs : Belongs used (r.frame + i * 8 ^ (r.size - 1)) (8 ^ (r.size - 1)) (kept_part (is_used used) r i)
@@ -93,5 +93,14 @@ module _ (records : List (Option Reservation)) (used : List Bool) (r : Reservati
       let vacant = vacant_in_gap records ids used low (r.frame + 8 ^ r.size) are noted (omega (arith, ends, eight_pos (r.size - 1))) in
       let next : low + w ≡ r.frame + (i + 1) * w = omega arith in
       subst (λ n. AreNoted (set records low (kept_part (is_used used) r i)) after used n (r.frame + 8 ^ r.size)) next
-      (AreNoted-place records ids after used low (r.frame + 8 ^ r.size) w (kept_part (is_used used) r i) noted vacant part_known
-      (omega (arith, ends)) part_belongs filled)
+      (AreNoted-place
+      (record { records = records; ids = ids; used = used })
+      (record { low = low; width = w; what = kept_part (is_used used) r i })
+      (r.frame + 8 ^ r.size) after (record {
+        noted = noted;
+        vacant = vacant;
+        within = part_known;
+        inside = omega (arith, ends);
+        belongs = part_belongs;
+        filled = filled;
+      }))

@@ -8,9 +8,10 @@ use Rattle.std.proofs.lemmas.List.FromFn.{get_or-map-range_with_len, length-map-
 use Rattle.pager_model.specs.Frame.{Framed, zero_frame}
 use Rattle.pager_model.specs.declared.region.Region.{Region}
 use Rattle.pager_model.specs.declared.reply.Answered.{Answered}
+use Rattle.pager_model.specs.CallEntries.{clear_entry}
 use Rattle.pager_model.specs.Regions.{in_range, region_at}
 use Rattle.pager_model.specs.SizeSets.{SizeSet}
-use Rattle.pager_model.specs.SpaceStates.{SpaceState, empty_state}
+use Rattle.pager_model.specs.SpaceStates.{SpaceState, empty_state, space_after}
 use Rattle.space_core.specs.Beginning.{SameRegions, GaveUp, NoneResident, ClearsOne, ClearsNone, Unmapped}
 use Rattle.space_tests.specs.Ranges.{IsRange}
 use Rattle.space_tests.specs.Spares.{HasSpare}
@@ -142,11 +143,27 @@ left_base : (b : Bool) (o : Option ℕ) (number : ℕ) → (if b then None else 
 left_base true o number h = absurd (none-some number h)
 left_base false o number h = h
 
+-- no page of the range is resident any more, and the space stands for a clearing of it
+pub record Cleared (first len : ℕ) (old new : Kept) : Type 0 where
+  pub number : ℕ
+  pub same_frames : new.frames ≡ old.frames
+  pub same_processors : length new.images ≡ length old.images
+  pub stands : (st : SpaceState) → StandsFor old st → StandsFor new (space_after st (clear_entry 0 number first len))
+
+pub Cleared-none : (first len : ℕ) (old mid new : Kept) → ClearsBut first len old mid → ClearsNone mid new first len
+    → Cleared first len old new
+Cleared-none first len old mid new so_far none = record {
+  number = mid.number;
+  same_frames = none.same.same.frames ∙ so_far.same_frames;
+  same_processors = none.same.same.processors ∙ so_far.same_processors;
+  stands = λ st stands. none.stands st 0 (so_far.stands st stands);
+}
+
 -- an unmap leaves the spare frames spare
-pub spare_unmapped : (first len : ℕ) (old mid cleared new : Kept) (a : Answered) (spare : List Framed) → ClearsBut first len old mid
-    → ClearsNone mid cleared first len → Unmapped cleared new first a → HasSpare old spare → HasSpare new spare
-spare_unmapped first len old mid cleared new a spare so_far none unmapped had =
-    let stands = unmapped.stands _ (none.stands _ 0 (so_far.stands had.state had.stands)) 0 0 in
-    still_spare old new spare _ unmapped.resting stands (unmapped.same_frames ∙ none.same.same.frames ∙ so_far.same_frames)
-    (unmapped.same_processors ∙ none.same.same.processors ∙ so_far.same_processors)
+pub spare_unmapped : (first len : ℕ) (old cleared new : Kept) (a : Answered) (spare : List Framed) → Cleared first len old cleared
+    → Unmapped cleared new first a → HasSpare old spare → HasSpare new spare
+spare_unmapped first len old cleared new a spare clears unmapped had =
+    let stands = unmapped.stands _ (clears.stands had.state had.stands) 0 0 in
+    still_spare old new spare _ unmapped.resting stands (unmapped.same_frames ∙ clears.same_frames)
+    (unmapped.same_processors ∙ clears.same_processors)
     (λ p number has. sym (had.stands.base p) ∙ left_base (in_range first len p) (had.state.base p) number (stands.base p ∙ has)) had

@@ -10,7 +10,7 @@ use Rattle.std.proofs.lemmas.Bool.Decides.{nat_tests}
 use Rattle.std.proofs.lemmas.Map.Entries.{lookup-filter-keys}
 use Rattle.std.proofs.lemmas.Option.{none-some}
 use Rattle.pager_model.specs.Regions.{in_range}
-use Rattle.pager_model.specs.Stored.{Copy, copy_in, copy_at, keeps_at, zero_words, SameCopies, SetsCopy, DropsCopies, TellsZero}
+use Rattle.pager_model.specs.Stored.{Copy, Stored, copy_in, copy_at, keeps_at, zero_words, SameCopies, SetsCopy, DropsCopies, TellsZero}
 use Rattle.store_core.specs.MemoryState.{copies_of, stored_copies}
 
 -- the entries of a map from pages to words
@@ -67,11 +67,17 @@ pub tells_zero : (copies : List Copy) (faults : ℕ) → copies ≡ [] → Tells
 unfolding copy_at
 tells_zero copies faults none = record { tells = refl; zero = λ p. ap (λ cs. copy_in cs p) none }
 
--- a store's copies that are the entries es, and after a change of the map the entries fs
-module _ (copies more : List Copy) (faults rose : ℕ) (es fs : Entries) (was : copies_of es ≡ copies) (is : copies_of fs ≡ more) where
+-- a store's copies are the entries es, and after a change of the map the entries fs
+module _ (copies : List Copy) (faults rose : ℕ) (es fs : Entries) (was : copies_of es ≡ copies) where
+  abbrev before : Stored
+  before = stored_copies copies faults
+
+  abbrev after : Stored
+  after = stored_copies (copies_of fs) rose
+
   -- an update at a page sets its copy, and keeps it
   pub sets_copy : (page : ℕ) (copy : Option (List ℕ)) → ((p : ℕ) → look fs p ≡ cond (is_at (nat_cmp page) p) (Some copy) (look es p))
-      → SetsCopy page copy (stored_copies copies faults) (stored_copies more rose) × (keeps_at (stored_copies more rose) page ≡ true)
+      → SetsCopy page copy before after × (keeps_at after page ≡ true)
   sets_copy page copy updates = (record { tells = refl; copies = λ _ p. sets p; keeps = keeps; others = others }, here)
     where
       at : (p : ℕ) → look fs p ≡ cond (p == page) (Some copy) (look es p)
@@ -82,28 +88,31 @@ module _ (copies more : List Copy) (faults rose : ℕ) (es fs : Entries) (was : 
       chosen true rest d = refl
       chosen false rest d = refl
 
-      sets : (p : ℕ) → copy_at (stored_copies more rose) p ≡ cond (p == page) copy (copy_at (stored_copies copies faults) p)
-      sets p = rw (copy_at-look more rose fs is p, copy_at-look copies faults es was p, at p)
+      sets : (p : ℕ) → copy_at after p ≡ cond (p == page) copy (copy_at before p)
+      sets p = rw (copy_at-look (copies_of fs) rose fs refl p, copy_at-look copies faults es was p, at p)
           (chosen (p == page) (look es p) (Some zero_words))
 
       kept : (b : Bool) (rest : Option (Option (List ℕ))) → is_some rest ≡ true → is_some (cond b (Some copy) rest) ≡ true
       kept true rest h = refl
       kept false rest h = h
 
-      keeps : (p : ℕ) → keeps_at (stored_copies copies faults) p ≡ true → keeps_at (stored_copies more rose) p ≡ true
-      keeps p h = rw (keeps_at-look more rose fs is p, at p) (kept (p == page) (look es p) (sym (keeps_at-look copies faults es was p) ∙ h))
+      keeps : (p : ℕ) → keeps_at before p ≡ true → keeps_at after p ≡ true
+      keeps p h = rw (keeps_at-look (copies_of fs) rose fs refl p, at p)
+          (kept (p == page) (look es p) (sym (keeps_at-look copies faults es was p) ∙ h))
 
-      others : (p : ℕ) → p ≢ page → keeps_at (stored_copies more rose) p ≡ keeps_at (stored_copies copies faults) p
+      others : (p : ℕ) → p ≢ page → keeps_at after p ≡ keeps_at before p
       others p apart =
           let off : (p == page) ≡ false = grind (arith, nat_tests)
-          in rw (keeps_at-look more rose fs is p, keeps_at-look copies faults es was p, at p, off) refl
+          in rw (keeps_at-look (copies_of fs) rose fs refl p, keeps_at-look copies faults es was p, at p, off) refl
 
-      here : keeps_at (stored_copies more rose) page ≡ true
-      here = let on : (page == page) ≡ true = grind (arith, nat_tests) in rw (keeps_at-look more rose fs is page, at page, on) refl
+      here : keeps_at after page ≡ true
+      here =
+          let on : (page == page) ≡ true = grind (arith, nat_tests)
+          in rw (keeps_at-look (copies_of fs) rose fs refl page, at page, on) refl
 
   -- what is left without the pages of a range has dropped their copies
   pub drops_copies : (first len : ℕ) → fs ≡ filter (λ e. not (in_range first len e.0)) es → rose ≡ faults
-      → DropsCopies first len (stored_copies copies faults) (stored_copies more rose)
+      → DropsCopies first len before after
   drops_copies first len left same = record { tells = refl; copies = λ _ p. drops p; keeps = keeps; faults = same }
     where
       at : (p : ℕ) → look fs p ≡ cond (not (in_range first len p)) (look es p) None
@@ -117,13 +126,12 @@ module _ (copies more : List Copy) (faults rose : ℕ) (es fs : Entries) (was : 
       chosen true rest d = refl
       chosen false rest d = refl
 
-      drops : (p : ℕ) → copy_at (stored_copies more rose) p ≡ cond (in_range first len p) (Some zero_words)
-          (copy_at (stored_copies copies faults) p)
-      drops p = rw (copy_at-look more rose fs is p, copy_at-look copies faults es was p, at p)
+      drops : (p : ℕ) → copy_at after p ≡ cond (in_range first len p) (Some zero_words) (copy_at before p)
+      drops p = rw (copy_at-look (copies_of fs) rose fs refl p, copy_at-look copies faults es was p, at p)
           (chosen (in_range first len p) (look es p) (Some zero_words))
 
-      keeps : (p : ℕ) → in_range first len p ≡ false → keeps_at (stored_copies more rose) p ≡ keeps_at (stored_copies copies faults) p
-      keeps p off = rw (keeps_at-look more rose fs is p, keeps_at-look copies faults es was p, at p, off) refl
+      keeps : (p : ℕ) → in_range first len p ≡ false → keeps_at after p ≡ keeps_at before p
+      keeps p off = rw (keeps_at-look (copies_of fs) rose fs refl p, keeps_at-look copies faults es was p, at p, off) refl
 
 -- what a test of the pages leaves of the entries
 pub copies_of_filter : (p : ℕ → Bool) (es : Entries) → copies_of (filter (λ e. p e.0) es) ≡ filter (λ c. p c.page) (copies_of es)

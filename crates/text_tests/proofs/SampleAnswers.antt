@@ -50,21 +50,19 @@ still_empty g entries c n e what is =
     ∙ ap (space_after (state_of_space g c entries)) what))
     (record { flat = ap (λ f. after_call f (Load c 0)) is.flat; next = refl })
 
-pub filled_more : (j : JournalName) (c n place : ℕ) (a b : AuthorState) (p q : PassState) (e : Entry) → Filled j c n a p → e ≡ unmapped c n
-    → b ≡ written a e → q ≡ kept p place e → Filled j c (n + 1) b q
-filled_more j c n place a b p q e f is author pass =
-    subst (λ (x : AuthorState). Filled j c (n + 1) x q) (sym author) (subst (λ (x : PassState). Filled j c (n + 1) (written a e) x)
-    (sym pass) (record {
-      author_of = f.author_of;
-      part = f.part;
-      space = still_empty j.setting a.entries c n e is f.space;
-      pass_of = f.pass_of;
-      own = f.own;
-      room = f.room;
-      count = length_push p.entries (record { number = place; entry = e }) ∙ ap (λ k. k + 1) f.count;
-      progress =
-          ap (progress_in j.setting c) (map-append (λ (m : Numbered). m.entry) p.entries (record { number = place; entry = e } ∷ []))
-          ∙ progress_from-append _ (entries_in p.entries) (e ∷ [])
-          ∙ ap (progress_by (progress_in j.setting c (entries_in p.entries))) is
-          ∙ answered j.setting c n (entries_in p.entries) f.progress;
-    }))
+pub filled_more : (j : JournalName) (c n place : ℕ) (a : AuthorState) (p : PassState) (e : Entry) → Filled j c n a p → e ≡ unmapped c n
+    → Filled j c (n + 1) (written a e) (kept p place e)
+filled_more j c n place a p e f is = record {
+  author_of = f.author_of;
+  part = f.part;
+  space = still_empty j.setting a.entries c n e is f.space;
+  pass_of = f.pass_of;
+  own = f.own;
+  room = f.room;
+  count = length_push p.entries (record { number = place; entry = e }) ∙ ap (λ k. k + 1) f.count;
+  progress =
+      ap (progress_in j.setting c) (map-append (λ (m : Numbered). m.entry) p.entries (record { number = place; entry = e } ∷ []))
+      ∙ progress_from-append _ (entries_in p.entries) (e ∷ [])
+      ∙ ap (progress_by (progress_in j.setting c (entries_in p.entries))) is
+      ∙ answered j.setting c n (entries_in p.entries) f.progress;
+}

@@ -3,11 +3,13 @@ use Rattle.std.proofs.Common.{◌≡◌, ◌≢◌, ◌<◌, ◌≤◌, ◌⊎�
 use Rattle.std.proofs.lemmas.List.{get_or-set_same, get_or-set_other, length-set, get_or-replicate, get_or_past, length-replicate}
 use Rattle.std.proofs.lemmas.Bool.{cases_eq, cases_lt, ne_eqb, eq-eqb}
 use Rattle.std.specs.Bool.{then_some}
+use Rattle.pager_model.proofs.Lists.{get_or_within}
 use Rattle.pager_model.proofs.Options.{cases_Option}
 use Rattle.used_frames.specs.AgeOrders.{Links, AreLinks, IsInOrder, IsLeastFrom, IsNextFrom, IsStop, age_of, least_after, linked, next_of, prev_of}
 
 -- what links say after two were linked
-module _ (links : Links) (before after : ℕ) (are : AreLinks links) (before_known : before ≤ links.end) (after_known : after ≤ links.end) where
+module _ (links : Links) (before after : ℕ) (are : AreLinks links) (before_known : before ≤ links.end)
+    (after_known : after ≤ links.end) where
   pub next-linked_same : next_of (linked links before after) before ≡ after
   next-linked_same = get_or-set_same links.next before after 0 (omega (arith, are.next_long))
 
@@ -38,8 +40,15 @@ module _ (links : Links) (before after : ℕ) (are : AreLinks links) (before_kno
 pub no_age_at_end : (links : Links) (ages : List (Option ℕ)) → IsInOrder links ages → age_of ages links.end ≡ None
 no_age_at_end links ages is = get_or_past ages links.end None (omega (arith, is.long))
 
+-- The frame isn't in the order, and of this age it would be the youngest there.
+pub record IsYoungest (links : Links) (ages : List (Option ℕ)) (frame age : ℕ) : Type 0 where
+  pub known : frame < links.end
+  pub out : age_of ages frame ≡ None
+  pub above : (other old : ℕ) → age_of ages other ≡ Some old → old < age
+
 -- A youngest frame goes in.
-module _ (links : Links) (ages : List (Option ℕ)) (frame age : ℕ) (are : AreLinks links) (is : IsInOrder links ages) (known : frame < links.end) (out : age_of ages frame ≡ None) (youngest : (other old : ℕ) → age_of ages other ≡ Some old → old < age) where
+module _ (links : Links) (ages : List (Option ℕ)) (frame age : ℕ) (are : AreLinks links) (is : IsInOrder links ages)
+    (youngest : IsYoungest links ages frame age) where
   abbrev last : ℕ
   last = prev_of links links.end
 
@@ -50,14 +59,17 @@ module _ (links : Links) (ages : List (Option ℕ)) (frame age : ℕ) (are : Are
   more = set ages frame (Some age)
 
   own_age : age_of more frame ≡ Some age
-  own_age = get_or-set_same ages frame (Some age) None (omega (arith, is.long))
+  own_age = get_or-set_same ages frame (Some age) None (omega (arith, is.long, youngest.known))
 
   other_age : (at : ℕ) → at ≢ frame → age_of more at ≡ age_of ages at
   other_age at other = get_or-set_other ages frame at (Some age) None other
 
   -- each age after is the new one or one from before
   age_cases : (at old : ℕ) → age_of more at ≡ Some old → ((at ≡ frame) × (old ≡ age)) ⊎ ((at ≢ frame) × (age_of ages at ≡ Some old))
-  age_cases at old has = grind (arith, get_or-set_same, get_or-set_other, is.long)
+  age_cases at old has = grind (arith, get_or-set_same, get_or-set_other, is.long, youngest.known)
+
+  frame_known : frame ≤ links.end
+  frame_known = omega (arith, youngest.known)
 
   last_known : last ≤ links.end
   last_known = are.prev_known links.end
@@ -67,33 +79,33 @@ module _ (links : Links) (ages : List (Option ℕ)) (frame age : ℕ) (are : Are
 
   -- the frame was no stop
   stop_other : (at : ℕ) → IsStop ages links.end at → at ≢ frame
-  stop_other at stop same = let end : at ≡ links.end = stop (ap (age_of ages) same ∙ out) in absurd (omega arith)
+  stop_other at stop same = let end : at ≡ links.end = stop (ap (age_of ages) same ∙ youngest.out) in absurd (omega (arith, youngest.known))
 
   last_other : last ≢ frame
   last_other = stop_other last last_stop
 
   -- what the new links say
   next_own : next_of pushed frame ≡ links.end
-  next_own = next-linked_same (linked links last frame) frame links.end (AreLinks-linked links last frame are last_known (omega arith))
-      (omega arith) (omega arith)
+  next_own = next-linked_same (linked links last frame) frame links.end (AreLinks-linked links last frame are last_known frame_known)
+      frame_known (omega arith)
 
   next_last : next_of pushed last ≡ frame
   next_last =
       get_or-set_other (set links.next last frame) frame last links.end 0 last_other
-      ∙ next-linked_same links last frame are last_known (omega arith)
+      ∙ next-linked_same links last frame are last_known frame_known
 
   next_other : (at : ℕ) → at ≢ frame → at ≢ last → next_of pushed at ≡ next_of links at
   next_other at apart before =
       get_or-set_other (set links.next last frame) frame at links.end 0 apart ∙ get_or-set_other links.next last at frame 0 before
 
   prev_end : prev_of pushed links.end ≡ frame
-  prev_end = prev-linked_same (linked links last frame) frame links.end (AreLinks-linked links last frame are last_known (omega arith))
-      (omega arith) (omega arith)
+  prev_end = prev-linked_same (linked links last frame) frame links.end (AreLinks-linked links last frame are last_known frame_known)
+      frame_known (omega arith)
 
   prev_own : prev_of pushed frame ≡ last
   prev_own =
-      get_or-set_other (set links.prev frame last) links.end frame frame 0 (λ same. absurd (omega arith))
-      ∙ prev-linked_same links last frame are last_known (omega arith)
+      get_or-set_other (set links.prev frame last) links.end frame frame 0 (λ same. absurd (omega (arith, youngest.known)))
+      ∙ prev-linked_same links last frame are last_known frame_known
 
   prev_other : (at : ℕ) → at ≢ frame → at ≢ links.end → prev_of pushed at ≡ prev_of links at
   prev_other at apart before =
@@ -116,12 +128,12 @@ module _ (links : Links) (ages : List (Option ℕ)) (frame age : ℕ) (are : Are
   next-own_is = record {
     stop = λ _. refl;
     from = λ old has. elim (age_cases links.end old has) [
-      | inl own ↦ absurd (omega arith)
+      | inl own ↦ absurd (omega (arith, youngest.known))
       | inr other ↦ let none = no_age_at_end links ages is in cc
     ];
     least = λ at old has above. elim (age_cases at old has) [
       | inl own ↦ absurd (omega arith)
-      | inr other ↦ absurd (omega (arith, youngest at old other.1))
+      | inr other ↦ absurd (omega (arith, youngest.above at old other.1))
     ];
   }
 
@@ -133,7 +145,7 @@ module _ (links : Links) (ages : List (Option ℕ)) (frame age : ℕ) (are : Are
   next-last_is = record {
     stop = λ none. let has = own_age in cc;
     from = λ old has. elim (age_cases frame old has) [
-      | inl own ↦ omega (arith, least_after-age (age_of ages last) (youngest last))
+      | inl own ↦ omega (arith, least_after-age (age_of ages last) (youngest.above last))
       | inr other ↦ absurd (other.0 refl)
     ];
     least = λ at old has above. elim (age_cases at old has) [
@@ -157,7 +169,9 @@ module _ (links : Links) (ages : List (Option ℕ)) (frame age : ℕ) (are : Are
         least = λ at' old has above. elim (age_cases at' old has) [
           | inl own ↦ elim (cases_Option (age_of ages (next_of links at))) [
             | inl none ↦ absurd (next_inside at stop before (was.stop none))
-            | inr some ↦ (some.0, other_age (next_of links at) apart ∙ some.1, omega (arith, youngest (next_of links at) some.0 some.1))
+            | inr some ↦
+                let below = youngest.above (next_of links at) some.0 some.1 in
+                (some.0, other_age (next_of links at) apart ∙ some.1, omega (arith, below))
           ]
           | inr other ↦
               let least = was.least at' old other.1 above in
@@ -171,10 +185,10 @@ module _ (links : Links) (ages : List (Option ℕ)) (frame age : ℕ) (are : Are
     differ = λ one other old has_one has_other. elim (age_cases one old has_one) [
       | inl own ↦ elim (age_cases other old has_other) [
         | inl same ↦ own.0 ∙ sym same.0
-        | inr old_one ↦ absurd (omega (arith, youngest other old old_one.1))
+        | inr old_one ↦ absurd (omega (arith, youngest.above other old old_one.1))
       ]
       | inr old_one ↦ elim (age_cases other old has_other) [
-        | inl own ↦ absurd (omega (arith, youngest one old old_one.1))
+        | inl own ↦ absurd (omega (arith, youngest.above one old old_one.1))
         | inr same ↦ is.differ one other old old_one.1 same.1
       ]
     ];
@@ -218,7 +232,11 @@ module _ (links : Links) (ages : List (Option ℕ)) (frame age : ℕ) (are : Are
   }
 
 -- A frame goes out.
-module _ (links : Links) (ages : List (Option ℕ)) (frame age : ℕ) (are : AreLinks links) (is : IsInOrder links ages) (known : frame < links.end) (in_order : age_of ages frame ≡ Some age) where
+module _ (links : Links) (ages : List (Option ℕ)) (frame age : ℕ) (are : AreLinks links) (is : IsInOrder links ages)
+    (in_order : age_of ages frame ≡ Some age) where
+  known : frame < links.end
+  known = omega (arith, get_or_within ages frame age in_order, is.long)
+
   abbrev before : ℕ
   before = prev_of links frame
 
@@ -232,7 +250,7 @@ module _ (links : Links) (ages : List (Option ℕ)) (frame age : ℕ) (are : Are
   fewer = set ages frame None
 
   gone : age_of fewer frame ≡ None
-  gone = get_or-set_same ages frame None None (omega (arith, is.long))
+  gone = get_or-set_same ages frame None None (omega (arith, known, is.long))
 
   kept_age : (at : ℕ) → at ≢ frame → age_of fewer at ≡ age_of ages at
   kept_age at other = get_or-set_other ages frame at None None other
@@ -248,7 +266,7 @@ module _ (links : Links) (ages : List (Option ℕ)) (frame age : ℕ) (are : Are
   frame_stop none = cc
 
   stop_apart : (at : ℕ) → IsStop fewer links.end at → at ≢ frame
-  stop_apart at stop same = let end : at ≡ links.end = stop (ap (age_of fewer) same ∙ gone) in absurd (omega arith)
+  stop_apart at stop same = let end : at ≡ links.end = stop (ap (age_of fewer) same ∙ gone) in absurd (omega (arith, known))
 
   stop_was : (at : ℕ) → IsStop fewer links.end at → IsStop ages links.end at
   stop_was at stop none = stop (kept_age at (stop_apart at stop) ∙ none)

@@ -8,7 +8,7 @@ use Rattle.std.proofs.Math.Seq.{map-set_same}
 use Rattle.pager_model.specs.declared.reservation.Used.{Used}
 use Rattle.pager_model.specs.FrameStates.{claim_in, with_claim}
 use Rattle.pager_model.proofs.Lists.{get_or-alike, get_or_within}
-use Rattle.pager_model.proofs.Options.{none_from_never}
+use Rattle.pager_model.proofs.Options.{none_from_never, some_from_is_some}
 use Rattle.used_frames.specs.AgeOrders.{Links, IsInOrder}
 use Rattle.used_frames.specs.Kept.{AreKept, AreMutual, link_age}
 
@@ -110,7 +110,8 @@ AreKept-reorder notes order new claims frame note are ordered same_claim = recor
 }
 
 -- a claim is in the list of claims, and conversely
-module _ (notes : List (Option Used)) (order : Links) (claims : List (Option ℕ)) (are : AreKept notes order claims) (frame processor : ℕ) where
+module _ (notes : List (Option Used)) (order : Links) (claims : List (Option ℕ)) (are : AreKept notes order claims)
+    (frame processor : ℕ) where
   pub claim_listed : claim_in (get_or notes frame None) ≡ Some processor → get_or claims processor None ≡ Some frame
   claim_listed claims_it = (are.claimed frame processor).0 (claim_at notes frame ∙ claims_it)
 
@@ -131,48 +132,52 @@ claim_in-with_claim : (claim : Option ℕ) (note : Option Used) → is_some note
 claim_in-with_claim claim None some = cc
 claim_in-with_claim claim (Some u) some = refl
 
+-- a claimed frame is a used one
+some_from_claim : (note : Option Used) (processor : ℕ) → claim_in note ≡ Some processor → is_some note ≡ true
+some_from_claim None processor is = cc
+some_from_claim (Some u) processor is = refl
+
 -- a claim or none in place of another leaves the order
-module _ (notes : List (Option Used)) (order : Links) (claims : List (Option ℕ)) (are : AreKept notes order claims) (frame processor : ℕ)
-    (u : Used) (is : get_or notes frame None ≡ Some u) (known : processor < length claims) where
-  frame_within : frame < length (map claim_in notes)
-  frame_within = omega (arith, get_or_within notes frame u is, length-map notes claim_in)
+module _ (notes : List (Option Used)) (order : Links) (claims : List (Option ℕ)) (are : AreKept notes order claims)
+    (frame processor : ℕ) where
+  frame_within : is_some (get_or notes frame None) ≡ true → frame < length (map claim_in notes)
+  frame_within some =
+      let used = some_from_is_some (get_or notes frame None) some in
+      omega (arith, get_or_within notes frame used.0 used.1, length-map notes claim_in)
 
   reclaimed : (claim : Option ℕ) → map link_age (set notes frame (with_claim claim (get_or notes frame None))) ≡ map link_age notes
   reclaimed claim = map-set_same link_age notes frame _ None (link_age-with_claim claim (get_or notes frame None))
 
-  pub AreKept-claim : claim_in (get_or notes frame None) ≡ None → get_or claims processor None ≡ None
+  pub AreKept-claim : is_some (get_or notes frame None) ≡ true → processor < length claims → claim_in (get_or notes frame None) ≡ None
+      → get_or claims processor None ≡ None
       → AreKept (set notes frame (with_claim (Some processor) (get_or notes frame None))) order (set claims processor (Some frame))
-  AreKept-claim unclaimed nothing = record {
+  AreKept-claim some known unclaimed nothing = record {
     ordered = rw (reclaimed (Some processor)) are.ordered;
     claimed = rw (
       map-set claim_in notes frame (with_claim (Some processor) (get_or notes frame None)),
-      claim_in-with_claim (Some processor) (get_or notes frame None) (ap is_some is),
+      claim_in-with_claim (Some processor) (get_or notes frame None) some,
     )
-        (AreMutual-claim (map claim_in notes) claims frame processor are.claimed frame_within known
+        (AreMutual-claim (map claim_in notes) claims frame processor are.claimed (frame_within some) known
         (claim_at notes frame ∙ unclaimed) nothing);
   }
+
+  -- whoever claims a frame is among the processors
+  pub claimant_known : claim_in (get_or notes frame None) ≡ Some processor → processor < length claims
+  claimant_known claims_it = get_or_within claims processor frame (claim_listed notes order claims are frame processor claims_it)
 
   -- any note without a claim
   pub AreMutual-cleared : (note : Option Used) → claim_in note ≡ None → claim_in (get_or notes frame None) ≡ Some processor
       → AreMutual (map claim_in (set notes frame note)) (set claims processor None)
   AreMutual-cleared note no_claim claims_it =
       rw (map-set claim_in notes frame note, no_claim)
-      (AreMutual-unclaim (map claim_in notes) claims frame processor are.claimed frame_within known (claim_at notes frame ∙ claims_it))
+      (AreMutual-unclaim (map claim_in notes) claims frame processor are.claimed
+      (frame_within (some_from_claim (get_or notes frame None) processor claims_it)) (claimant_known claims_it)
+      (claim_at notes frame ∙ claims_it))
 
   pub AreKept-unclaim : claim_in (get_or notes frame None) ≡ Some processor
       → AreKept (set notes frame (with_claim None (get_or notes frame None))) order (set claims processor None)
   AreKept-unclaim claims_it = record {
     ordered = rw (reclaimed None) are.ordered;
     claimed = AreMutual-cleared (with_claim None (get_or notes frame None))
-        (claim_in-with_claim None (get_or notes frame None) (ap is_some is)) claims_it;
+        (claim_in-with_claim None (get_or notes frame None) (some_from_claim (get_or notes frame None) processor claims_it)) claims_it;
   }
-
--- a used frame has a note
-pub some_from_is_some : (note : Option Used) → is_some note ≡ true → (u : Used) × (note ≡ Some u)
-some_from_is_some None is = cc
-some_from_is_some (Some u) is = (u, refl)
-
--- and so has a claimed one
-pub some_from_claim : (note : Option Used) (processor : ℕ) → claim_in note ≡ Some processor → (u : Used) × (note ≡ Some u)
-some_from_claim None processor is = cc
-some_from_claim (Some u) processor is = (u, refl)

@@ -1,5 +1,6 @@
-use Rattle.std.proofs.Common.{◌≡◌, ◌-◌, ◌^◌, arith, ap, sym, ◌∙◌, set, length}
+use Rattle.std.proofs.Common.{◌≡◌, ◌-◌, ◌^◌, arith, ap, sym, subst, ◌∙◌, set, length}
 use Rattle.pager_model.specs.Records.{is_used, part_of, kept_part}
+use Rattle.pager_model.specs.RecordPlaces.{IsPlaced}
 use Rattle.pager_model.proofs.ExtentLemmas.{eight_pos, eight_small, part_of_eight, aligned_end}
 use Rattle.reservations.proofs.SplitLemmas.{split_up_to-more, ArePlaced-part, AreNoted-part}
 use Rattle.reservations.proofs.write_parts.Goals as goal
@@ -37,12 +38,14 @@ loop-i-preserved c =
     let was = c.loop-i.invariant in
     let pages : c.pages.result ≡ 8 ^ (r.size - 1) = c.pages.ensures ∙ ap (λ k. 8 ^ k) c.smaller-size.ensures in
     let long : length c.loop-i.records ≡ length used = omega (arith, c.loop-i.auto.records, c.requires.records_long) in
+    let whole_placed = subst (λ n. IsPlaced n r.frame r) (sym long) c.requires.whole_placed in
     let noted = rw (pages, c.kept_part.ensures) at c.write.ensures.records in
     let filled = rw (pages, c.smaller-size.ensures, c.kept_part.ensures) at c.write.ensures.ids in
     record {
       split =
           noted ∙ ap (λ rs. set rs (part_of r i).frame (kept_part (is_used used) r i)) was.split
           ∙ sym (split_up_to-more i (is_used used) r c.args.records.now);
-      placed = rw noted (ArePlaced-part c.loop-i.records used r _ i long c.requires.splits c.loop-i-test.true c.requires.whole_placed was.placed);
-      noted = rw noted (AreNoted-part c.loop-i.records used r _ i long c.requires.splits c.loop-i-test.true c.requires.whole_placed _ _ was.placed was.noted filled);
+      placed = rw noted (ArePlaced-part c.loop-i.records used r i c.requires.splits c.loop-i-test.true whole_placed was.placed);
+      noted = rw noted (AreNoted-part c.loop-i.records used r i c.requires.splits c.loop-i-test.true whole_placed _ _ was.placed was.noted
+          filled);
     }

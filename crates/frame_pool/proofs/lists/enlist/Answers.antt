@@ -12,7 +12,8 @@ returns-then-level-lt3-clause-listed c = λ records none known are.
     let told = rw is at c.yields_in.ensures in
     let named = rw is at c.requires.there in
     rw (c.insert.ensures, is)
-    (AreListed-enlisted c.args.sizes c.args.lists.now.lists st.used records c.args.id r none known are c.in-Some.size named
+    (AreListed-enlisted c.args.sizes c.args.lists.now.lists st.used records c.args.id r
+    (record { none = none; known = known; listed = are }) c.in-Some.size named
     (sym told ∙ c.in-Some.is) (omega arith))
 
 pub returns-else-level-lt3-clause-listed : goal.returns-else-level-lt3-clause-listed
@@ -21,7 +22,8 @@ returns-else-level-lt3-clause-listed c = λ records none known are.
     let found = found_record_and (reservation_at st c.args.id) (λ r. r.frame ≡ c.args.id) c.requires.there in
     let told = rw found.1 at c.yields_in.ensures in
     rw found.1
-    (AreListed-not_enlisted c.args.sizes c.args.lists.now.lists st.used records c.args.id found.0 none known are
+    (AreListed-not_enlisted c.args.sizes c.args.lists.now.lists st.used records c.args.id found.0
+    (record { none = none; known = known; listed = are })
     (λ k yields. omega (arith, same_Some c.in-Some.size k (sym c.in-Some.is ∙ told ∙ yields))))
 
 pub returns-in_default-clause-listed : goal.returns-in_default-clause-listed
@@ -30,5 +32,6 @@ returns-in_default-clause-listed c = λ records none known are.
     let found = found_record_and (reservation_at st c.args.id) (λ r. r.frame ≡ c.args.id) c.requires.there in
     let told = rw found.1 at c.yields_in.ensures in
     rw found.1
-    (AreListed-not_enlisted c.args.sizes c.args.lists.now.lists st.used records c.args.id found.0 none known are
+    (AreListed-not_enlisted c.args.sizes c.args.lists.now.lists st.used records c.args.id found.0
+    (record { none = none; known = known; listed = are })
     (λ k yields. absurd (none-some k (sym c.in_default.is ∙ told ∙ yields))))

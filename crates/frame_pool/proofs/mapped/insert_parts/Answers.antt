@@ -23,14 +23,14 @@ insert-requires c =
     let has = c.loop-i.invariant in
     let pages = eighth c.pages-pages.result r.size c.requires.splits c.pages-pages.ensures in
     let is = rw pages at (sym c.in-Some.ensures.record) in
-    (_, has.mapped, part_enters c.loop-i.i c.args.map.now c.loop-i.map c.args.reservations.now r c.requires.splits c.loop-i-test.true has c.in-Some.part is)
+    let enters = part_enters c.loop-i.i c.loop-i.map c.args.reservations.now r c.requires.splits c.loop-i-test.true has c.in-Some.part is in
+    (_, has.mapped, enters)
 
 pub loop-i-preserved : goal.loop-i-preserved
 loop-i-preserved c =
     let r = c.args.whole.now in
     let i = c.loop-i.i in
     let has = c.loop-i.invariant in
-    let start = c.args.map.now in
     let st = c.args.reservations.now in
     let splits = c.requires.splits in
     let small = c.loop-i-test.true in
@@ -38,16 +38,16 @@ loop-i-preserved c =
     elim c.match-get.branch [
       | in-Some w ↦
           let is = rw pages at (sym w.in-Some.ensures.record) in
-          let may = part_enters i start c.loop-i.map st r splits small has w.in-Some.part is in
-          rw w.map-is (HasMapped-more i start c.loop-i.map st r splits small has w.in-Some.part w.insert.new.map is
+          let may = part_enters i c.loop-i.map st r splits small has w.in-Some.part is in
+          rw w.map-is (HasMapped-more i c.loop-i.map st r splits small has w.in-Some.part w.insert.new.map is
           (w.insert.ensures _ has.mapped may))
       | in_default w ↦
           let none = rw pages at (sym c.get.ensures.record ∙ w.in_default.is) in
-          rw w.map-is (HasMapped-skip i start c.loop-i.map st r splits small has none)
+          rw w.map-is (HasMapped-skip i c.loop-i.map st r splits small has none)
     ]
 
 pub returns : goal.returns
 returns c =
     let done : c.loop-i.i ≡ 8 = omega arith in
-    HasMapped-all c.args.map.now c.loop-i.map c.args.reservations.now c.args.whole.now
-    (subst (λ n. HasMapped n c.args.map.now c.loop-i.map c.args.reservations.now c.args.whole.now) done c.loop-i.invariant)
+    HasMapped-all c.loop-i.map c.args.reservations.now c.args.whole.now
+    (subst (λ n. HasMapped n c.loop-i.map c.args.reservations.now c.args.whole.now) done c.loop-i.invariant)

@@ -2,4 +2,4 @@ use Rattle.frame_pool.proofs.MappedParts.{HasMapped}
 use Rattle.frame_pool.proofs.mapped.insert_parts.Given as goal
 
 abbrev pub invariant-loop-i : goal.invariant-loop-i
-invariant-loop-i l = HasMapped l.i l.fn.map l.map l.reservations l.whole
+invariant-loop-i l = HasMapped l.i l.map l.reservations l.whole

@@ -25,9 +25,8 @@ write_parts-requires-clause-noted c =
     let found : reservation_at c.args.self.now c.args.id ≡ Some r = sym c.get.ensures.record ∙ c.unwrap-whole.ensures in
     let is = rw (← c.self.view_is) at found in
     let are = c.self.invariant in
-    let placed = are.placed c.args.id r is in
-    let open_gap = AreNoted-open records c.self.inside.ids.items c.self.inside.used c.args.id r are.noted placed is in
-    rw (c.as_mut_slice.ensures.value, c.as_mut_slice-2.ensures.value, placed.named) open_gap
+    let open_gap = AreNoted-open records c.self.inside.ids.items c.self.inside.used c.args.id r are is in
+    rw (c.as_mut_slice.ensures.value, c.as_mut_slice-2.ensures.value, (are.placed c.args.id r is).named) open_gap
 
 pub invariant_of-self : goal.invariant_of-self
 invariant_of-self c =

@@ -1,4 +1,4 @@
-use Rattle.space_tests.proofs.SpareFrames.{clears_one_more, range_again, may_unmap, spare_unmapped}
+use Rattle.space_tests.proofs.SpareFrames.{clears_one_more, range_again, may_unmap, Cleared-none, spare_unmapped}
 use Rattle.space_tests.proofs.tests.clear.Goals as goal
 
 pub unmap-requires-clause-cleared : goal.unmap-requires-clause-cleared
@@ -7,7 +7,10 @@ unmap-requires-clause-cleared c κs =
 
 pub returns-in_default-clause-spare : goal.returns-in_default-clause-spare
 returns-in_default-clause-spare c spare had =
-    spare_unmapped c.args.first c.args.length _ c.loop.space c.clear_next.new.self _ _ spare c.loop.invariant.clears c.in_default.ensures.none c.unmap.ensures had
+    let first = c.args.first in
+    let len = c.args.length in
+    let cleared = Cleared-none first len _ c.loop.space c.clear_next.new.self c.loop.invariant.clears c.in_default.ensures.none in
+    spare_unmapped first len _ c.clear_next.new.self _ _ spare cleared c.unmap.ensures had
 
 pub loop-preserved : goal.loop-preserved
 loop-preserved c =

@@ -1,31 +1,23 @@
-use Rattle.std.proofs.Common.{◌≡◌, ◌<◌, ℕ, List, Option, Some, None, map, set, length, get_or, sym, refl, ap, ◌∙◌, arith}
+use Rattle.std.proofs.Common.{◌≡◌, ℕ, List, Option, Some, None, map, set, get_or, sym, refl, ap, ◌∙◌, arith}
 use Rattle.std.proofs.lemmas.List.{map-set}
 use Rattle.std.proofs.lemmas.Bool.{not-true, not-false}
 use Rattle.std.proofs.Math.Seq.{map-set_same}
 use Rattle.pager_model.specs.declared.reservation.Used.{Used}
 use Rattle.pager_model.specs.FrameStates.{claim_in}
-use Rattle.pager_model.proofs.Lists.{get_or_within}
 use Rattle.used_frames.specs.AgeOrders.{Links}
 use Rattle.used_frames.specs.declared.UsedFrames.TheInside.{Inside}
 use Rattle.used_frames.specs.Kept.{AreMutual, link_age}
-use Rattle.used_frames.proofs.NoteChanges.{AreMutual-cleared, AreMutual-same, claim_listed, link_age_at, link_age-unwired, link_age-wired}
+use Rattle.used_frames.proofs.NoteChanges.{AreMutual-cleared, AreMutual-same, claimant_known, link_age_at, link_age-unwired, link_age-wired}
 use Rattle.used_frames.proofs.UsedFrames.remove.Goals as goal
 use Rattle.used_frames.proofs.UsedFrames.remove.Goals.{in-Some, in_default, After-set}
 
 noted : (c : After-set) → get_or c.self.inside.notes c.args.frame None ≡ Some c.unwrap-used.result
 noted c = sym c.get.ensures ∙ c.unwrap-used.ensures
 
--- whoever claimed the frame is among the processors
-listed : (c : After-set) (processor : ℕ) → c.unwrap-used.result.claim ≡ Some processor → processor < length c.self.inside.claims.items
-listed c processor claims_it =
-    get_or_within c.self.inside.claims.items processor c.args.frame
-    (claim_listed _ _ _ c.self.invariant c.args.frame processor (ap claim_in (noted c) ∙ claims_it))
-
 cleared : (c : After-set) (processor : ℕ) → c.unwrap-used.result.claim ≡ Some processor
     → AreMutual (map claim_in (set c.self.inside.notes c.args.frame None)) (set c.self.inside.claims.items processor None)
 cleared c processor claims_it =
-    AreMutual-cleared _ _ _ c.self.invariant c.args.frame processor c.unwrap-used.result (noted c) (listed c processor claims_it) None refl
-    (ap claim_in (noted c) ∙ claims_it)
+    AreMutual-cleared _ _ _ c.self.invariant c.args.frame processor None refl (ap claim_in (noted c) ∙ claims_it)
 
 unclaimed : (c : After-set) → c.unwrap-used.result.claim ≡ None
     → AreMutual (map claim_in (set c.self.inside.notes c.args.frame None)) c.self.inside.claims.items
@@ -38,11 +30,10 @@ record IsReleased (left : List (Option Used)) (links : Links) (fields : Inside) 
   claimed : AreMutual (map claim_in left) fields.claims.items
 
 pub index_mut-requires : goal.index_mut-requires
-index_mut-requires c = omega (
-  arith,
-  listed (goal.at.index_mut-requires c).After-set c.in-Some.processor c.in-Some.is,
-  c.self.inside.claims.ok.0,
-)
+index_mut-requires c =
+    let after = (goal.at.index_mut-requires c).After-set in
+    let known = claimant_known _ _ _ c.self.invariant c.args.frame c.in-Some.processor (ap claim_in (noted after) ∙ c.in-Some.is) in
+    omega (arith, known, c.self.inside.claims.ok.0)
 
 pub invariant_of-self : goal.invariant_of-self
 invariant_of-self c =

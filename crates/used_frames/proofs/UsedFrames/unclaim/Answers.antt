@@ -1,25 +1,22 @@
-use Rattle.std.proofs.Common.{◌≡◌, ◌<◌, Some, None, length, get_or, arith}
+use Rattle.std.proofs.Common.{◌≡◌, Some, None, get_or, arith}
 use Rattle.pager_model.specs.FrameStates.{claim_in}
-use Rattle.pager_model.proofs.Lists.{get_or_within}
-use Rattle.used_frames.proofs.NoteChanges.{AreKept-unclaim, claim_listed, some_from_claim}
+use Rattle.used_frames.proofs.NoteChanges.{AreKept-unclaim, claimant_known}
 use Rattle.used_frames.proofs.UsedFrames.unclaim.Goals as goal
 use Rattle.used_frames.proofs.UsedFrames.unclaim.Goals.{After-unwrap-frame}
 
 claims_it : (c : After-unwrap-frame) → claim_in (get_or c.self.inside.notes c.unwrap-frame.result None) ≡ Some c.args.processor
 claims_it c = rw (← c.self.view_is) at (rw c.unwrap-frame.ensures at c.claimed_by.ensures.found)
 
-known : (c : After-unwrap-frame) → c.args.processor < length c.self.inside.claims.items
-known c = get_or_within c.self.inside.claims.items c.args.processor c.unwrap-frame.result
-    (claim_listed _ _ _ c.self.invariant c.unwrap-frame.result c.args.processor (claims_it c))
-
 pub index_mut-requires : goal.index_mut-requires
-index_mut-requires c = omega (arith, known (goal.at.index_mut-requires c).After-unwrap-frame, c.self.inside.claims.ok.0)
+index_mut-requires c =
+    let known = claimant_known _ _ _ c.self.invariant c.unwrap-frame.result c.args.processor
+    (claims_it (goal.at.index_mut-requires c).After-unwrap-frame) in
+    omega (arith, known, c.self.inside.claims.ok.0)
 
 pub invariant_of-self : goal.invariant_of-self
 invariant_of-self c =
     let inside = c.self.inside in
     let after = (goal.at.invariant_of-self c).After-unwrap-frame in
-    let some = some_from_claim _ c.args.processor (claims_it after) in
     rw c.set_claim.ensures
-    (AreKept-unclaim inside.notes inside.order inside.claims.items c.self.invariant c.unwrap-frame.result c.args.processor some.0 some.1
-    (known after) (claims_it after))
+    (AreKept-unclaim inside.notes inside.order inside.claims.items c.self.invariant c.unwrap-frame.result c.args.processor
+    (claims_it after))

@@ -1,10 +1,10 @@
 use Rattle.std.proofs.Common.{option_map, refl, sym, ap, ◌∙◌, arith}
-use Rattle.pager_model.specs.Layouts.{populated, placing_in, reserved, largest_extent}
+use Rattle.pager_model.specs.Layouts.{populated, placing_in, preferred_in, reserved, largest_extent}
 use Rattle.pager_laws.specs.Laid.{IsLaid}
 use Rattle.frame_pool.specs.LayoutState.{layout_in}
 use Rattle.frame_pool.specs.Placed.{FindsExtent, with_reservation}
 use Rattle.frame_pool.proofs.LayoutInOrder.{IsLaid-populated}
-use Rattle.frame_pool.proofs.PlacingResult.{PlacesPage-from, placing-covered, record_at-covered, HasPage-covered, unused_covered, round_page, IsLaid-added, PlacesPage-added}
+use Rattle.frame_pool.proofs.PlacingResult.{asked, PlacesPage-from, placing-covered, record_at-covered, HasPage-covered, unused_covered, round_page, IsLaid-added, PlacesPage-added}
 use Rattle.frame_pool.proofs.layout.Layout.place.Goals as goal
 use Rattle.frame_pool.proofs.layout.Layout.place.Goals.{After-extent_round-pages}
 
@@ -47,11 +47,12 @@ pub put-frame-requires-clause-has : goal.put-frame-requires-clause-has
 put-frame-requires-clause-has c =
     round_page c.in_ok-found.found.size c.args.page c.extent_round-pages.result.first c.extent_round-pages.ensures.first
 
--- the extent that was found is one of the layout
+-- the extent that was found is one of the layout, of the size that the page prefers
 finds : (c : After-extent_round-pages)
-    → FindsExtent c.largest_extent.new.self (largest_extent c.preferred-size.result
-    (layout_in c.self.inside)) c.in_ok-found.found.size c.in_ok-found.found.first c.in_ok-found.found.broken
-finds c = rw (← c.self.view_is) at c.in_ok-found.ensures.found
+    → FindsExtent c.largest_extent.new.self
+    (largest_extent (preferred_in (layout_in c.self.inside) c.args.space c.args.page c.args.want.now) (layout_in c.self.inside))
+    c.in_ok-found.found.size c.in_ok-found.found.first c.in_ok-found.found.broken
+finds c = rw (← c.self.view_is, c.preferred-size.ensures) at c.in_ok-found.ensures.found
 
 -- which is sound with the new reservation
 laid_with : (c : After-extent_round-pages)
@@ -63,8 +64,10 @@ laid_with : (c : After-extent_round-pages)
       frame = c.in_ok-found.found.first;
       stamp = c.args.stamp;
     }) c.args.page c.largest_extent.new.self)
-laid_with c = IsLaid-added
-    (layout_in c.self.inside) c.largest_extent.new.self c.args.stamp c.args.space c.args.page c.args.want.now c.preferred-size.result _ _ _ c.extent_round-pages.result.first (sym c.in_default.ensures) c.preferred-size.ensures (finds c) c.extent_round-pages.ensures.first c.self.invariant.0 (rw (← c.self.view_is) at c.requires.unplaced)
+laid_with c = rw c.extent_round-pages.ensures.first
+    (IsLaid-added (layout_in c.self.inside) c.largest_extent.new.self c.args.stamp
+    (asked c.args.space c.args.page c.args.want.now) c.in_ok-found.found
+    (sym c.in_default.ensures) (finds c) c.self.invariant.0 (rw (← c.self.view_is) at c.requires.unplaced))
 
 pub put-frame-requires-clause-laid : goal.put-frame-requires-clause-laid
 put-frame-requires-clause-laid c =
@@ -78,9 +81,10 @@ invariant_of-self-2 c =
 pub returns-clause-placed : goal.returns-clause-placed
 returns-clause-placed c =
     let found = rw (← c.self-2.view_is) at (finds (goal.at.returns-clause-placed c).After-extent_round-pages) in
-    rw (c.put-frame.ensures.put, c.put-frame.ensures.frame, ← c.self.view_is)
-    (PlacesPage-added (layout_in c.self.inside)
-    (layout_in c.self-2.inside) c.args.stamp c.args.space c.args.page c.args.want.now c.preferred-size.result _ _ _ c.extent_round-pages.result.first (sym c.in_default.ensures) c.preferred-size.ensures found c.extent_round-pages.ensures.first c.self.invariant.0 (rw (← c.self.view_is) at c.requires.unplaced))
+    rw (c.put-frame.ensures.put, c.put-frame.ensures.frame, ← c.self.view_is, c.extent_round-pages.ensures.first)
+    (PlacesPage-added (layout_in c.self.inside) (layout_in c.self-2.inside) c.args.stamp
+    (asked c.args.space c.args.page c.args.want.now) c.in_ok-found.found
+    (sym c.in_default.ensures) found c.self.invariant.0 (rw (← c.self.view_is) at c.requires.unplaced))
 
 pub returns-in_err-found-clause-none : goal.returns-in_err-found-clause-none
 returns-in_err-found-clause-none c =

@@ -8,7 +8,7 @@ use Rattle.frame_pool.proofs.BreakSteps.{Fills, Fills-from, part_stands, goes_on
 use Rattle.pager_laws.proofs.LayoutBreak.{part_size-less}
 use Rattle.pager_laws.proofs.PartYields.{same_size_from}
 use Rattle.frame_pool.proofs.layout.Layout.split_to_break.Goals as goal
-use Rattle.frame_pool.proofs.layout.Layout.split_to_break.Goals.{After-level}
+use Rattle.frame_pool.proofs.layout.Layout.split_to_break.Goals.{After-level, After-lowest_as_wide}
 
 -- the reservation stood
 stood : (c : After-level) → record_at c.args.self.now c.args.id ≡ Some c.unwrap-whole.result
@@ -69,30 +69,27 @@ lowest_as_wide-requires-clause-parts c =
     (λ i one. subst (λ m. record_at m (part_at (part_size l.sizes r) r i).frame ≡ Some (part_at (part_size l.sizes r) r i))
     (sym c.self-2.view_is) (part_stands l c.split_down.new.self c.args.id r full i one))
 
-pub returns-clause-next : goal.returns-clause-next
-returns-clause-next c =
-    let l = c.args.self.now in
+-- so the lowest of them that yields as much is told
+lowest : (c : After-lowest_as_wide) → Fills c.args.self.now c.split_down.new.self c.args.id c.unwrap-whole.result
+    → let l = c.args.self.now in
     let r = c.unwrap-whole.result in
-    let next = c.lowest_as_wide.result in
-    let full = fills (goal.at.returns-clause-next c).After-level (sym c.is_size.ensures ∙ c.if-is_size.false)
-    (omega (arith, c.level.ensures.level, c.if-level-eq0.false)) in
+    let size = part_size l.sizes r in
+    c.lowest_as_wide.result ≡ first_of (option_map (part_at size r) (lowest_as_wide l.sizes size (is_used l.used) r))
+lowest c full =
     let used = ap (λ (m : Layout). m.used) (c.self-2.view_is ∙ full.split) in
     let sizes = ap (λ (m : Layout). m.sizes) (c.self-2.view_is ∙ full.split) in
-    let lowest : next ≡ first_of (option_map (part_at (part_size l.sizes r) r)
-    (lowest_as_wide l.sizes (part_size l.sizes r) (is_used l.used) r)) =
-    rw (← c.part_size-size.ensures, ← used, ← sizes) c.lowest_as_wide.ensures in
-    rw full.is (goes_on-lowest l c.split_down.new.self c.args.id r full next lowest)
+    rw (← c.part_size-size.ensures, ← used, ← sizes) c.lowest_as_wide.ensures
+
+pub returns-clause-next : goal.returns-clause-next
+returns-clause-next c =
+    let full = fills (goal.at.returns-clause-next c).After-level (sym c.is_size.ensures ∙ c.if-is_size.false)
+    (omega (arith, c.level.ensures.level, c.if-level-eq0.false)) in
+    rw full.is (goes_on-lowest c.args.self.now c.split_down.new.self c.args.id c.unwrap-whole.result full c.lowest_as_wide.result
+    (lowest (goal.at.returns-clause-next c).After-lowest_as_wide full))
 
 pub returns-clause-breaks : goal.returns-clause-breaks
 returns-clause-breaks c =
-    let l = c.args.self.now in
-    let r = c.unwrap-whole.result in
-    let next = c.lowest_as_wide.result in
     let full = fills (goal.at.returns-clause-breaks c).After-level (sym c.is_size.ensures ∙ c.if-is_size.false)
     (omega (arith, c.level.ensures.level, c.if-level-eq0.false)) in
-    let used = ap (λ (m : Layout). m.used) (c.self-2.view_is ∙ full.split) in
-    let sizes = ap (λ (m : Layout). m.sizes) (c.self-2.view_is ∙ full.split) in
-    let lowest : next ≡ first_of (option_map (part_at (part_size l.sizes r) r)
-    (lowest_as_wide l.sizes (part_size l.sizes r) (is_used l.used) r)) =
-    rw (← c.part_size-size.ensures, ← used, ← sizes) c.lowest_as_wide.ensures in
-    CanBreak-lowest l c.split_down.new.self c.args.id r full next lowest
+    CanBreak-lowest c.args.self.now c.split_down.new.self c.args.id c.unwrap-whole.result full c.lowest_as_wide.result
+    (lowest (goal.at.returns-clause-breaks c).After-lowest_as_wide full)

@@ -16,8 +16,8 @@ pub remove-requires : goal.remove-requires
 remove-requires c =
     let there = rw (← c.self.view_is) at c.requires.there in
     record {
-      known = known_to_lists
-          (reserved_in c.self.inside) _ c.args.reservation.now c.self.invariant.laid there c.self.inside.lists c.self.inside.map c.self.invariant;
+      known = known_to_lists (reserved_in c.self.inside) _ c.args.reservation.now c.self.invariant.laid there
+          c.self.inside.lists c.self.inside.map c.self.invariant;
     }
 
 pub enlist-requires-clause-unlisted : goal.enlist-requires-clause-unlisted
@@ -37,12 +37,18 @@ invariant_of-self c =
     let m = c.enlist.new.lists.frames in
     let room : m ≡ inside.lists.frames = c.enlist.ensures.room ∙ ap (λ (k : KeptLists). k.frames) c.remove.ensures in
     let after : ℕ → Records → Layout = λ n st. record { sizes = l.sizes; free = replicate n false; records = st.records; used = st.used } in
-    IsInOrder-again l r.frame r c.self.invariant.laid is (frame_for page r) true (Some (stamped r c.args.stamp))
-    (after m c.populate.new.self) inside.lists c.enlist.new.lists inside.map inside.map c.self.invariant
-    (place_has r page c.requires.has)
-    (subst (λ n. IsLaid (after n c.populate.new.self)) (sym room) (subst (λ st. IsLaid (after inside.lists.frames st))
-    (sym done) laid)) refl (length-replicate m false) (ap (λ (st : Records). st.used) done) (ap (λ (st : Records). st.records) done)
-    room (rw c.remove.ensures at c.enlist.ensures.listed)
+    IsInOrder-again l r.frame r c.self.invariant.laid is (Some (stamped r c.args.stamp)) (after m c.populate.new.self)
+    inside.lists c.enlist.new.lists inside.map inside.map c.self.invariant (record {
+      frame = frame_for page r;
+      has = place_has r page c.requires.has;
+      becomes = true;
+      laid = subst (λ n. IsLaid (after n c.populate.new.self)) (sym room)
+          (subst (λ st. IsLaid (after inside.lists.frames st)) (sym done) laid);
+      sizes = refl;
+      used = ap (λ (st : Records). st.used) done;
+      records = ap (λ (st : Records). st.records) done;
+    })
+    (length-replicate m false) room (rw c.remove.ensures at c.enlist.ensures.listed)
     (subst (λ (st : Records). IsMapped inside.map st.records) (sym done)
     (IsMapped-alike inside.map l.records r.frame r (stamped r c.args.stamp) c.self.invariant.mapped is refl refl refl))
 

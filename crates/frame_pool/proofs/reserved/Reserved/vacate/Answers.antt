@@ -47,8 +47,8 @@ pub remove-requires : goal.remove-requires
 remove-requires c =
     let found = rw (c.unwrap-reservation.ensures, ← c.self.view_is) at c.reservation_of.ensures.found in
     record {
-      known = known_to_lists
-          (reserved_in c.self.inside) _ c.unwrap-reservation.result c.self.invariant.laid found.0 c.self.inside.lists c.self.inside.map c.self.invariant;
+      known = known_to_lists (reserved_in c.self.inside) _ c.unwrap-reservation.result c.self.invariant.laid found.0
+          c.self.inside.lists c.self.inside.map c.self.invariant;
     }
 
 pub remove-requires-then-vacate-clause-mapped : goal.remove-requires-then-vacate-clause-mapped
@@ -68,10 +68,17 @@ invariant_of-self c =
     let gone = c.dissolve.ensures ∙ ap (λ st. with_record st r.frame None) (unused w) in
     let after = vacated l c.args.frame r true c.dissolve.new.self (tells w ∙ c.if-vacate.true) gone in
     rw c.remove.ensures
-    (IsInOrder-gone l r.frame r c.self.invariant.laid
-    (owner w).0 c.args.frame _ inside.lists inside.map c.remove-then-vacate.new.map c.self.invariant (owner w).1
-    (subst IsLaid (sym after) (laid_without w)) refl (length-replicate inside.lists.frames false) (ap (λ (st : Records). st.used) gone)
-    (ap (λ (st : Records). st.records) gone)
+    (IsInOrder-gone l r.frame r c.self.invariant.laid (owner w).0 _ inside.lists inside.map c.remove-then-vacate.new.map c.self.invariant
+    (record {
+      frame = c.args.frame;
+      has = (owner w).1;
+      becomes = false;
+      laid = subst IsLaid (sym after) (laid_without w);
+      sizes = refl;
+      used = ap (λ (st : Records). st.used) gone;
+      records = ap (λ (st : Records). st.records) gone;
+    })
+    (length-replicate inside.lists.frames false)
     (subst (λ (st : Records). IsMapped c.remove-then-vacate.new.map st.records) (sym c.dissolve.ensures) c.remove-then-vacate.ensures))
 
 pub returns-then-vacate : goal.returns-then-vacate
@@ -104,11 +111,18 @@ invariant_of-self-2 c =
     let after = vacated l c.args.frame r false c.vacate.new.self (tells w ∙ c.if-vacate.false) (unused w) in
     let left : ℕ → Layout =
     λ n. record { sizes = l.sizes; free = replicate n false; records = c.vacate.new.self.records; used = c.vacate.new.self.used } in
-    IsInOrder-again l r.frame r c.self.invariant.laid (owner w).0 c.args.frame false (record_at l r.frame)
-    (left m) inside.lists c.enlist.new.lists inside.map inside.map c.self.invariant (owner w).1
-    (subst (λ n. IsLaid (left n)) (sym (room (goal.at.invariant_of-self-2 c).After-enlist))
-    (subst IsLaid (sym after) (laid_without w))) refl (length-replicate m false) (ap (λ (st : Records). st.used) (unused w))
-    (ap (λ (st : Records). st.records) (unused w) ∙ sym (set-get_or inside.reservations.records r.frame None))
+    IsInOrder-again l r.frame r c.self.invariant.laid (owner w).0 (record_at l r.frame) (left m) inside.lists c.enlist.new.lists
+    inside.map inside.map c.self.invariant (record {
+      frame = c.args.frame;
+      has = (owner w).1;
+      becomes = false;
+      laid = subst (λ n. IsLaid (left n)) (sym (room (goal.at.invariant_of-self-2 c).After-enlist))
+          (subst IsLaid (sym after) (laid_without w));
+      sizes = refl;
+      used = ap (λ (st : Records). st.used) (unused w);
+      records = ap (λ (st : Records). st.records) (unused w) ∙ sym (set-get_or inside.reservations.records r.frame None);
+    })
+    (length-replicate m false)
     (room (goal.at.invariant_of-self-2 c).After-enlist) (rw c.remove.ensures at c.enlist.ensures.listed)
     (subst (λ (st : Records). IsMapped inside.map st.records) (sym (unused w)) c.self.invariant.mapped)
 

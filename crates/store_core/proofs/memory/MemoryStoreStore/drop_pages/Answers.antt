@@ -11,7 +11,8 @@ returns c =
     (copies_of c.self.inside.copies.entries) =
     ap copies_of left ∙ copies_of_filter (λ p. not (in_range c.args.first c.args.length p)) c.self.inside.copies.entries
     in record {
-      dropped = drops_copies _ _ _ _ _ _ (ap (λ s. s.copies) c.self.view_is) refl _ _ left (ap (λ s. s.faults) c.self.view_is);
+      dropped = drops_copies _ _ _ _ c.drop_copies.new.copies.entries (ap (λ s. s.copies) c.self.view_is) _ _ left
+          (ap (λ s. s.faults) c.self.view_is);
       unread = ap (λ s. s.reads) c.self.view_is;
       state = rw (← c.self.view_is, copies) refl;
     }

@@ -10,4 +10,4 @@ commit-next_author-requires-clause-order c = answer_next _ _ _ _ _ _ c.loop-numb
 pub loop-number-preserved : goal.loop-number-preserved
 loop-number-preserved c =
     let e = c.commit-next_author.ensures in
-    filled_more _ _ _ c.commit-next_author.result.0 _ _ _ _ _ c.loop-number.invariant c.answer.ensures e.author e.pass
+    rw (e.author, e.pass) (filled_more _ _ _ c.commit-next_author.result.0 _ _ _ c.loop-number.invariant c.answer.ensures)

@@ -12,4 +12,4 @@ returns-clause-pushed c = λ ages age is out youngest.
     get_or_read c.self.inside.prev.items _ _ (omega (arith, c.self.invariant.prev_long)) c.index-last.ensures 0
     ∙ ap (λ (l : Links). prev_of l l.end) c.self.view_is in
     rw (c.link-3.ensures, ap (λ (l : Links). l.end) c.link-2.view_is, c.link.ensures, last)
-    (IsInOrder-push self ages c.args.frame age are is c.requires out youngest)
+    (IsInOrder-push self ages c.args.frame age are is (record { known = c.requires; out = out; above = youngest }))

@@ -15,4 +15,4 @@ returns-clause-removed c = λ ages age is in_order.
     let after : c.index-after.result.now ≡ next_of self c.args.frame =
     get_or_read c.self.inside.next.items _ _ (omega (arith, c.self.invariant.next_long)) c.index-after.ensures 0
     ∙ ap (λ (l : Links). next_of l c.args.frame) c.self.view_is in
-    rw (c.link.ensures, before, after) (IsInOrder-remove self ages c.args.frame age are is c.requires in_order)
+    rw (c.link.ensures, before, after) (IsInOrder-remove self ages c.args.frame age are is in_order)
