@@ -55,21 +55,22 @@ get_or-with_slot bits (Slot t) b s inside = elim (cases_eq s t) [
 
 -- ---- the copy of one page changes
 
-pub sets_page : (count page : ℕ) (copy : PageCopy) (xs ys : List PageCopy) → ys ≡ set (grown xs page) page copy
-    → SetsPage page copy (slots count xs) (slots count ys)
-sets_page count page copy xs ys is = record { count = refl; copies = copies }
+-- the slots with this copy of the page
+abbrev pub with_copy : Slots → ℕ → PageCopy → Slots
+with_copy old page copy = slots old.count (set (grown old.pages page) page copy)
+
+pub sets_page : (old : Slots) (page : ℕ) (copy : PageCopy) → SetsPage page copy old (with_copy old page copy)
+sets_page old page copy = record { count = refl; copies = copies }
   where
-    copies : (p : ℕ) → get_or ys p Zero ≡ cond (p == page) copy (get_or xs p Zero)
+    copies : (p : ℕ) → copy_of (with_copy old page copy) p ≡ cond (p == page) copy (copy_of old p)
     copies p = elim (cases_eq p page) [
       | inl same ↦
-          ap (λ zs. get_or zs p Zero) is
-          ∙ (ap (λ q. get_or (set (grown xs page) page copy) q Zero) same
-          ∙ (get_or-set_same (grown xs page) page copy Zero (in_grown xs page)
-          ∙ ap (λ b. cond b copy (get_or xs p Zero)) (sym (eq-eqb p page same))))
+          ap (λ q. get_or (set (grown old.pages page) page copy) q Zero) same
+          ∙ (get_or-set_same (grown old.pages page) page copy Zero (in_grown old.pages page)
+          ∙ ap (λ b. cond b copy (copy_of old p)) (sym (eq-eqb p page same)))
       | inr other ↦
-          ap (λ zs. get_or zs p Zero) is
-          ∙ (get_or-set_other (grown xs page) page p copy Zero other
-          ∙ (get_or-grown xs page p ∙ ap (λ b. cond b copy (get_or xs p Zero)) (sym (ne_eqb p page other))))
+          get_or-set_other (grown old.pages page) page p copy Zero other
+          ∙ (get_or-grown old.pages page p ∙ ap (λ b. cond b copy (copy_of old p)) (sym (ne_eqb p page other)))
     ]
 
 -- the copy that a page has now is its new one, or it is another page and has the copy that it had
@@ -80,62 +81,68 @@ page_cases page copy old new sets p = elim (cases_eq p page) [
   | inr other ↦ inr (other, sets.copies p ∙ ap (λ b. cond b copy (copy_of old p)) (ne_eqb p page other))
 ]
 
-module _ (count page : ℕ) (copy before : PageCopy) (xs ys : List PageCopy) (bits : List Bool)
-    (are : AreSlots (slots count xs) bits) (was : before ≡ get_or xs page Zero) (is : ys ≡ set (grown xs page) page copy)
-    (there : IfSome (slot_in copy) (λ s. s < count))
-    (apart : IfSome (slot_in copy) (λ s. (p : ℕ) → p ≢ page → slot_in (get_or xs p Zero) ≢ Some s)) where
-  abbrev sets : SetsPage page copy (slots count xs) (slots count ys)
-  sets = sets_page count page copy xs ys is
+-- the page may get this copy: the slot of it is there, and no other page has it
+pub record MayGet (old : Slots) (page : ℕ) (copy : PageCopy) : Type 0 where
+  pub there : IfSome (slot_in copy) (λ s. s < old.count)
+  pub apart : IfSome (slot_in copy) (λ s. (p : ℕ) → p ≢ page → slot_in (copy_of old p) ≢ Some s)
 
-  pub own_after : HaveOwnSlots (slots count ys)
+module _ (old : Slots) (page : ℕ) (copy : PageCopy) (bits : List Bool) (are : AreSlots old bits) (may : MayGet old page copy) where
+  abbrev new : Slots
+  new = with_copy old page copy
+
+  abbrev before : PageCopy
+  before = copy_of old page
+
+  sets : SetsPage page copy old new
+  sets = sets_page old page copy
+
+  pub own_after : HaveOwnSlots new
   own_after = record { there = in_range; apart = distinct }
     where
-      in_range : (p s : ℕ) → get_or ys p Zero ≡ Slot s → s < count
-      in_range p s at = elim (page_cases page copy (slots count xs) (slots count ys) sets p) [
-        | inl same ↦ at_slot (λ t. t < count) copy s there (sym same.1 ∙ at)
+      in_range : (p s : ℕ) → copy_of new p ≡ Slot s → s < old.count
+      in_range p s at = elim (page_cases page copy old new sets p) [
+        | inl same ↦ at_slot (λ t. t < old.count) copy s may.there (sym same.1 ∙ at)
         | inr other ↦ are.own.there p s (sym other.1 ∙ at)
       ]
 
-      taken : (p s : ℕ) → p ≢ page → get_or xs p Zero ≡ Slot s → copy ≡ Slot s → ⊥
-      taken p s other had at = at_slot (λ t. (q : ℕ) → q ≢ page → slot_in (get_or xs q Zero) ≢ Some t) copy s apart at p other
+      taken : (p s : ℕ) → p ≢ page → copy_of old p ≡ Slot s → copy ≡ Slot s → ⊥
+      taken p s other had at = at_slot (λ t. (q : ℕ) → q ≢ page → slot_in (copy_of old q) ≢ Some t) copy s may.apart at p other
           (ap slot_in had)
 
-      distinct : (p q s : ℕ) → get_or ys p Zero ≡ Slot s → get_or ys q Zero ≡ Slot s → p ≡ q
-      distinct p q s one two = elim (page_cases page copy (slots count xs) (slots count ys) sets p) [
-        | inl here ↦ elim (page_cases page copy (slots count xs) (slots count ys) sets q) [
+      distinct : (p q s : ℕ) → copy_of new p ≡ Slot s → copy_of new q ≡ Slot s → p ≡ q
+      distinct p q s one two = elim (page_cases page copy old new sets p) [
+        | inl here ↦ elim (page_cases page copy old new sets q) [
           | inl also ↦ here.0 ∙ sym also.0
           | inr other ↦ absurd (taken q s other.0 (sym other.1 ∙ two) (sym here.1 ∙ one))
         ]
-        | inr there ↦ elim (page_cases page copy (slots count xs) (slots count ys) sets q) [
+        | inr there ↦ elim (page_cases page copy old new sets q) [
           | inl also ↦ absurd (taken p s there.0 (sym there.1 ∙ one) (sym also.1 ∙ two))
           | inr other ↦ are.own.apart p q s (sym there.1 ∙ one) (sym other.1 ∙ two)
         ]
       ]
 
   -- a slot that the page gets is taken
-  any_new : (s : ℕ) → is_in s copy ≡ true → list_any (is_in s) ys ≡ true
+  any_new : (s : ℕ) → is_in s copy ≡ true → list_any (is_in s) new.pages ≡ true
   any_new s at =
-      ap (list_any (is_in s)) is
-      ∙ list_any_at (is_in s) (set (grown xs page) page copy) page Zero (rw (length-set (grown xs page) page copy) (in_grown xs page))
-      (ap (is_in s) (get_or-set_same (grown xs page) page copy Zero (in_grown xs page)) ∙ at)
+      list_any_at (is_in s) new.pages page Zero (rw (length-set (grown old.pages page) page copy) (in_grown old.pages page))
+      (ap (is_in s) (get_or-set_same (grown old.pages page) page copy Zero (in_grown old.pages page)) ∙ at)
 
   -- a slot that the page had and has no longer is free
-  any_old : (s : ℕ) → is_in s copy ≡ false → is_in s before ≡ true → list_any (is_in s) ys ≡ false
-  any_old s lacks had = list_any-none (is_in s) ys Zero (λ p. elim (page_cases page copy (slots count xs) (slots count ys) sets p) [
+  any_old : (s : ℕ) → is_in s copy ≡ false → is_in s before ≡ true → list_any (is_in s) new.pages ≡ false
+  any_old s lacks had = list_any-none (is_in s) new.pages Zero (λ p. elim (page_cases page copy old new sets p) [
     | inl same ↦ ap (is_in s) same.1 ∙ lacks
-    | inr other ↦ elim (cases_Bool (is_in s (get_or ys p Zero))) [
-      | inl held ↦ absurd (other.0 (are.own.apart p page s (sym other.1 ∙ in_slot s (get_or ys p Zero) held)
-          (sym was ∙ in_slot s before had)))
+    | inr other ↦ elim (cases_Bool (is_in s (copy_of new p))) [
+      | inl held ↦ absurd (other.0 (are.own.apart p page s (sym other.1 ∙ in_slot s (copy_of new p) held)
+          (in_slot s before had)))
       | inr none ↦ none
     ]
   ])
 
   -- any other is as before
-  any_other : (s : ℕ) → is_in s copy ≡ false → is_in s before ≡ false → list_any (is_in s) ys ≡ list_any (is_in s) xs
+  any_other : (s : ℕ) → is_in s copy ≡ false → is_in s before ≡ false → list_any (is_in s) new.pages ≡ list_any (is_in s) old.pages
   any_other s lacks none =
-      ap (list_any (is_in s)) is
-      ∙ (list_any-set_failing (is_in s) (grown xs page) page copy Zero lacks (ap (is_in s) (get_or-grown xs page page ∙ sym was) ∙ none)
-      ∙ list_any-grown xs page s)
+      list_any-set_failing (is_in s) (grown old.pages page) page copy Zero lacks (ap (is_in s) (get_or-grown old.pages page page) ∙ none)
+      ∙ list_any-grown old.pages page s
 
   had_bit : IfSome (slot_in before) (λ s. s < length bits)
   had_bit = inside before refl
@@ -143,12 +150,12 @@ module _ (count page : ℕ) (copy before : PageCopy) (xs ys : List PageCopy) (bi
       inside : (c : PageCopy) → before ≡ c → IfSome (slot_in c) (λ s. s < length bits)
       inside Zero at = tt
       inside Lost at = tt
-      inside (Slot s) at = let low = are.own.there page s (sym was ∙ at) in omega (arith, low, are.wide)
+      inside (Slot s) at = let low = are.own.there page s at in omega (arith, low, are.wide)
 
   has_bit : IfSome (slot_in copy) (λ s. s < length (with_slot bits before true))
-  has_bit = inside copy there
+  has_bit = inside copy may.there
     where
-      inside : (c : PageCopy) → IfSome (slot_in c) (λ s. s < count) → IfSome (slot_in c) (λ s. s < length (with_slot bits before true))
+      inside : (c : PageCopy) → IfSome (slot_in c) (λ s. s < old.count) → IfSome (slot_in c) (λ s. s < length (with_slot bits before true))
       inside Zero low = tt
       inside Lost low = tt
       inside (Slot s) low = omega (arith, low, are.wide, length-with_slot bits before true)
@@ -165,29 +172,29 @@ module _ (count page : ℕ) (copy before : PageCopy) (xs ys : List PageCopy) (bi
   and_false true = refl
   and_false false = refl
 
-  free_after : (s : ℕ) → get_or after s false ≡ is_free (slots count ys) s
+  free_after : (s : ℕ) → get_or after s false ≡ is_free new s
   free_after s = elim (cases_Bool (is_in s copy)) [
-    | inl new ↦
+    | inl gets ↦
         bit_after s
-        ∙ (ap (λ b. cond b false (cond (is_in s before) true (get_or bits s false))) new
-        ∙ sym (ap (λ b. nat_lt s count && not b) (any_new s new) ∙ and_false (nat_lt s count)))
+        ∙ (ap (λ b. cond b false (cond (is_in s before) true (get_or bits s false))) gets
+        ∙ sym (ap (λ b. nat_lt s old.count && not b) (any_new s gets) ∙ and_false (nat_lt s old.count)))
     | inr lacks ↦ elim (cases_Bool (is_in s before)) [
       | inl had ↦
-          let low : s < count = are.own.there page s (sym was ∙ in_slot s before had) in
-          let test : nat_lt s count ≡ true = grind (arith, nat_tests) in
+          let low : s < old.count = are.own.there page s (in_slot s before had) in
+          let test : nat_lt s old.count ≡ true = grind (arith, nat_tests) in
           bit_after s
           ∙ (ap (λ b. cond b false (cond (is_in s before) true (get_or bits s false))) lacks
           ∙ (ap (λ b. cond b true (get_or bits s false)) had
-          ∙ sym (ap (λ b. nat_lt s count && not b) (any_old s lacks had) ∙ ap (λ b. b && true) test)))
+          ∙ sym (ap (λ b. nat_lt s old.count && not b) (any_old s lacks had) ∙ ap (λ b. b && true) test)))
       | inr none ↦
           bit_after s
           ∙ (ap (λ b. cond b false (cond (is_in s before) true (get_or bits s false))) lacks
           ∙ (ap (λ b. cond b true (get_or bits s false)) none
-          ∙ (are.free s ∙ sym (ap (λ b. nat_lt s count && not b) (any_other s lacks none)))))
+          ∙ (are.free s ∙ sym (ap (λ b. nat_lt s old.count && not b) (any_other s lacks none)))))
     ]
   ]
 
-  pub slots_after : AreSlots (slots count ys) after
+  pub slots_after : AreSlots new after
   slots_after = record {
     own = own_after;
     free = free_after;
