@@ -1,9 +1,8 @@
 //! The words of answers and of entries.
 
-ghost use Rattle.std.specs.Prelude.{◌≡◌, ◌≤◌, [], ◌∷◌, codes, decimal, length};
+ghost use Rattle.std.specs.Prelude.{◌≡◌, ◌≤◌, [], ◌∷◌, ◌++◌, codes, decimal, length};
 ghost use Rattle.pager_model.specs.PrintedText.{answered_words, flag_word, history_line, hit_word, need_words, reply_words, size_words, want_words, what_words, writing_word, written_word};
-ghost use Rattle.pager_model.specs.TraceText.{line_of_words};
-ghost use Rattle.report_text.specs.Lines.{Adds, GrowsBy, HasRoom, line_text};
+ghost use Rattle.report_text.specs.Lines.{Adds, GrowsBy, HasRoom, line_text, spaced};
 
 use crate::line::Line;
 use pager_model::{Answered, Need, Numbered, Reply, Want, What};
@@ -21,15 +20,14 @@ pub fn line_of_entry(numbered: &Numbered) -> Line
     line
 }
 
-/// The line of a processor's answer: the processor, the call's number, and the answer.
-pub fn line_of_answer(processor: u32, number: u32, answered: &Answered) -> Line
-    ensures { line_text result ≡ line_of_words (decimal processor ∷ decimal number ∷ answered_words answered.now) }
+/// Adds an answer to a line that has its processor's number: the call's number, the answer, and the line's end.
+pub fn end_answer(line: &mut Line, number: u32, answered: &Answered)
+    requires { length (line_text line.old) ≤ 20 }
+    ensures { line_text line.new ≡ (line_text line.old ++ spaced (decimal number ∷ answered_words answered.now)) ++ 10 ∷ [] }
 {
-    let mut line = Line::numbered(u64::from(processor));
     line.add_counts(&[number]);
-    add_answered(&mut line, answered);
+    add_answered(line, answered);
     line.end();
-    line
 }
 
 /// Adds what happened: its name, and its fields.

@@ -1,6 +1,6 @@
 //! A line as it is written.
 
-ghost use Rattle.std.specs.Prelude.{◌≡◌, ◌+◌, ◌*◌, ◌≤◌, [], ◌∷◌, ◌++◌, decimal, length, map, Some};
+ghost use Rattle.std.specs.Prelude.{◌≡◌, ◌+◌, ◌*◌, ◌<◌, ◌≤◌, [], ◌∷◌, ◌++◌, decimal, length, map, take, Some};
 ghost use Rattle.pager_model.specs.PrintedText.{part_word};
 ghost use Rattle.report_text.specs.Lines.{Adds, GrowsBy, HasRoom, line_text};
 
@@ -46,6 +46,20 @@ impl Line {
         self.bytes.as_slice()
     }
 
+    /// How many bytes it has.
+    pub fn len(&self) -> usize
+        ensures { result ≡ length (line_text self.now) }
+    {
+        self.bytes.len()
+    }
+
+    /// Cuts it back to so many bytes.
+    pub fn cut(&mut self, len: usize)
+        ensures { line_text self.new ≡ take len (line_text self.old) }
+    {
+        self.bytes.truncate(len);
+    }
+
     /// Adds bytes.
     fn put(&mut self, bytes: &[u8])
         requires { HasRoom (length bytes.now) self.old }
@@ -70,8 +84,23 @@ impl Line {
         ensures text { Adds (decimal number ∷ []) self.old self.new }
         ensures short { GrowsBy 21 self.old self.new }
     {
-        let mut buffer = Buffer::new();
-        self.add_name(buffer.format(number));
+        if number < 10 {
+            self.add_digit(number as u8);
+        } else {
+            let mut buffer = Buffer::new();
+            self.add_name(buffer.format(number));
+        }
+    }
+
+    /// Adds a number of one digit, as most numbers of processors, spaces and sizes are.
+    fn add_digit(&mut self, digit: u8)
+        requires digit { digit < 10 }
+        requires room { HasRoom 2 self.old }
+        ensures text { Adds (decimal digit ∷ []) self.old self.new }
+        ensures short { GrowsBy 2 self.old self.new }
+    {
+        self.bytes.push(b' ');
+        self.bytes.push(b'0' + digit);
     }
 
     /// Adds counts, or other numbers of 32 bits.

@@ -1,14 +1,16 @@
 //! The report of a run: each call's answer, the history where it is asked for, and the counts.
 
-ghost use Rattle.std.specs.Prelude.{◌≡◌, if◌then◌else◌, [], option_to_list, slice_get, OnOk, OnErr};
+ghost use Rattle.std.specs.Prelude.{◌≡◌, if◌then◌else◌, [], decimal, option_to_list, slice_get, OnOk, OnErr};
 ghost use Rattle.io_core.specs.Faults.{Rose};
 ghost use Rattle.pager_model.specs.Legal.{entries_in};
 ghost use Rattle.pager_model.specs.PrintedText.{answers_of, answers_text, history_text, out_text, summary_text};
+ghost use Rattle.report_text.specs.Lines.{line_text};
 ghost use Rattle.report_text.specs.Parts.{has_history};
 ghost use Rattle.report_text.specs.Writing.{Puts, outgoing};
 ghost use Rattle.report_text.specs.Written.{WroteAll, WrotePart};
 
-use crate::entry_words::{line_of_answer, line_of_entry};
+use crate::entry_words::{end_answer, line_of_entry};
+use crate::line::Line;
 use crate::summary_lines::summary_lines;
 use crate::writing::Room;
 use io_core::{Sink, WriteFailed};
@@ -115,33 +117,40 @@ fn put_answers_of<K: Sink>(
         (outgoing (K.taken sink.new) (K.faults sink.new) room.new.bytes.items)
         (answers_of (entries_in history.now.items) processor) }
 {
+    // The number of the processor begins each of its lines.
+    let mut line = Line::numbered(u64::from(processor));
     let mut from = 0;
     while let Some(place) = history.next_by(from, processor) {
-        put_answer_of(room, sink, processor, history, place)?;
+        put_answer_of(room, sink, &mut line, processor, history, place)?;
         from = place + 1;
     }
     Ok(())
 }
 
-/// Puts the line of the entry at a place, where it is an answer of the processor. Others have none.
+/// Puts the line of the entry at a place, where it is an answer of the processor, whose number the line has then and now. Others have none.
 fn put_answer_of<K: Sink>(
     room: &mut Room,
     sink: &mut K,
+    line: &mut Line,
     processor: u32,
     history: &History,
     place: usize,
 ) -> Result<(), WriteFailed>
-    ensures { Puts result
+    requires { line_text line.old ≡ decimal processor }
+    ensures puts { Puts result
         (outgoing (K.taken sink.old) (K.faults sink.old) room.old.bytes.items)
         (outgoing (K.taken sink.new) (K.faults sink.new) room.new.bytes.items)
         (answers_of (entries_in (option_to_list (slice_get history.now.items place))) processor) }
+    ensures line { line_text line.new ≡ decimal processor }
 {
-    match history.answer_by(place, processor) {
-        Some((number, answered)) => {
-            room.put_line(sink, &line_of_answer(processor, number, &answered))
-        }
-        None => Ok(()),
-    }
+    let Some((number, answered)) = history.answer_by(place, processor) else {
+        return Ok(());
+    };
+    let begun = line.len();
+    end_answer(line, number, &answered);
+    let put = room.put_line(sink, line);
+    line.cut(begun);
+    put
 }
 
 /// Puts the history where the parts have it.

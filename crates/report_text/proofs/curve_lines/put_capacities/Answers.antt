@@ -5,26 +5,25 @@ use Rattle.std.proofs.lemmas.List.FromFn.{length-range_with_len}
 use Rattle.report_text.specs.CurveText.{curve_line}
 use Rattle.report_text.specs.Lines.{line_text}
 use Rattle.report_text.specs.Writing.{Sent, outgoing}
-use Rattle.report_text.proofs.SentBytes.{at_place, sent_next, next_failed}
+use Rattle.report_text.proofs.SentBytes.{text_at, sent_next, next_failed}
 use Rattle.report_text.proofs.curve_lines.put_capacities.Goals as goal
 
 pub returns-in_err-put_line : goal.returns-in_err-put_line
 returns-in_err-put_line g c =
+    let f = curve_line c.args.tiles.now c.args.pages.now in
     let n = length c.args.tiles.now in
     let i = c.loop-place.place in
-    let at = at_place n i c.loop-place-test.true in
     let line : line_text c.line_of_capacity.result ≡ curve_line c.args.tiles.now c.args.pages.now i = search rules in
-    next_failed (curve_line c.args.tiles.now c.args.pages.now) (range_with_len 0 n) i i 0 at.0 at.1 _ line []
+    next_failed f (range_with_len 0 n) i _ [] (text_at f n i _ c.loop-place-test.true line)
     c.from_residual.result [] c.from_residual.ensures.0 c.loop-place.invariant c.in_err-put_line.ensures
 
 pub loop-place-preserved : goal.loop-place-preserved
 loop-place-preserved g c =
+    let f = curve_line c.args.tiles.now c.args.pages.now in
     let n = length c.args.tiles.now in
     let i = c.loop-place.place in
-    let at = at_place n i c.loop-place-test.true in
     let line : line_text c.line_of_capacity.result ≡ curve_line c.args.tiles.now c.args.pages.now i = search rules in
-    sent_next (curve_line c.args.tiles.now c.args.pages.now)
-    (range_with_len 0 n) i i 0 at.0 at.1 _ line [] c.loop-place.invariant c.in_ok-put_line.ensures
+    sent_next f (range_with_len 0 n) i _ [] (text_at f n i _ c.loop-place-test.true line) c.loop-place.invariant c.in_ok-put_line.ensures
 
 pub returns : goal.returns
 returns g c =

@@ -5,24 +5,23 @@ use Rattle.std.proofs.lemmas.List.FromFn.{length-range_with_len}
 use Rattle.pager_model.specs.Legal.{entries_in}
 use Rattle.pager_model.specs.PrintedText.{answers_of}
 use Rattle.report_text.specs.Writing.{Sent, outgoing}
-use Rattle.report_text.proofs.SentBytes.{at_place, sent_next, next_failed}
+use Rattle.report_text.proofs.SentBytes.{text_at, sent_next, next_failed}
 use Rattle.report_text.proofs.report.put_answers.Goals as goal
 
 pub returns-in_err-put_answers_of : goal.returns-in_err-put_answers_of
 returns-in_err-put_answers_of g c =
+    let f = answers_of (entries_in c.args.history.now.items) in
     let n = c.args.processors in
     let i = c.loop-processor.processor in
-    let at = at_place n i c.loop-processor-test.true in
-    next_failed (answers_of (entries_in c.args.history.now.items)) (range_with_len 0 n) i i 0 at.0 at.1 _ refl []
+    next_failed f (range_with_len 0 n) i _ [] (text_at f n i _ c.loop-processor-test.true refl)
     c.from_residual.result [] c.from_residual.ensures.0 c.loop-processor.invariant c.in_err-put_answers_of.ensures
 
 pub loop-processor-preserved : goal.loop-processor-preserved
 loop-processor-preserved g c =
+    let f = answers_of (entries_in c.args.history.now.items) in
     let n = c.args.processors in
     let i = c.loop-processor.processor in
-    let at = at_place n i c.loop-processor-test.true in
-    sent_next (answers_of (entries_in c.args.history.now.items))
-    (range_with_len 0 n) i i 0 at.0 at.1 _ refl [] c.loop-processor.invariant c.in_ok-put_answers_of.ensures
+    sent_next f (range_with_len 0 n) i _ [] (text_at f n i _ c.loop-processor-test.true refl) c.loop-processor.invariant c.in_ok-put_answers_of.ensures
 
 pub returns : goal.returns
 returns g c =

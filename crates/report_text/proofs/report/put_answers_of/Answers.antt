@@ -1,4 +1,4 @@
-use Rattle.std.proofs.Common.{◌≡◌, ◌<◌, ◌≤◌, ◌+◌, ◌-◌, ℕ, [], List, length, get_or, flat_map, option_to_list, inl, inr, ap, subst, sym, arith, take, ◌∙◌}
+use Rattle.std.proofs.Common.{◌≡◌, ◌<◌, ◌≤◌, ◌+◌, ◌-◌, ℕ, [], List, length, flat_map, option_to_list, inl, inr, ap, subst, sym, arith, take, ◌∙◌}
 use Rattle.std.specs.List.{slice_get}
 use Rattle.std.proofs.lemmas.List.{take_all}
 use Rattle.std.proofs.lemmas.Option.{slice_get_cases}
@@ -8,14 +8,18 @@ use Rattle.pager_model.specs.PrintedText.{answers_of}
 use Rattle.run_history.specs.Places.{NoneIn, is_by}
 use Rattle.report_text.specs.Writing.{Sent, outgoing}
 use Rattle.report_text.proofs.EntryAnswers.{answer_of, answers-by_entry, nothing_between}
-use Rattle.report_text.proofs.SentBytes.{sent_next, next_failed}
+use Rattle.report_text.proofs.SentBytes.{IsTextAt, sent_next, next_failed}
 use Rattle.report_text.proofs.report.put_answers_of.Goals as goal
 
--- the entry at a place, and its text
-at : (c : ℕ) (history : List Numbered) (i : ℕ) → i < length history
-    → (n : Numbered) × (n ≡ get_or history i n) × (answers_of (entries_in (option_to_list (slice_get history i))) c ≡ answer_of c n)
-at c history i within = elim (slice_get_cases history i).1 [
-  | inl found ↦ (found.0, sym found.3, ap (λ o. answers_of (entries_in (option_to_list o)) c) found.2)
+-- the text of the entry at a place
+text_of : (c : ℕ) (history : List Numbered) (i : ℕ) → i < length history
+    → IsTextAt (answer_of c) history i (answers_of (entries_in (option_to_list (slice_get history i))) c)
+text_of c history i within = elim (slice_get_cases history i).1 [
+  | inl found ↦ record {
+    default = found.0;
+    within = within;
+    is = ap (λ o. answers_of (entries_in (option_to_list o)) c) found.2 ∙ ap (answer_of c) (sym found.3);
+  }
   | inr past ↦ absurd (omega arith)
 ]
 
@@ -32,23 +36,22 @@ returns-in_err-put_answer_of g c =
     let history = c.args.history.now.items in
     let i = c.in-Some.place in
     let first = c.in-Some.ensures.some in
-    let n = at c.args.processor history i first.within in
     rw (sym (answers-by_entry c.args.processor history))
-    (next_failed (answer_of c.args.processor) history i n.0 n.0 first.within n.1 _ n.2 []
+    (next_failed (answer_of c.args.processor) history i _ [] (text_of c.args.processor history i first.within)
     c.from_residual.result [] c.from_residual.ensures.0
     (rw (up_to c.args.processor history c.loop-place.from i first.behind (omega (arith, first.within)) first.first) at c.loop-place.invariant.1)
-    c.in_err-put_answer_of.ensures)
+    c.in_err-put_answer_of.ensures.puts)
 
 pub loop-place-preserved : goal.loop-place-preserved
 loop-place-preserved g c =
     let history = c.args.history.now.items in
     let i = c.in-Some.place in
-    let first = c.in-Some.ensures.some in
-    let n = at c.args.processor history i first.within in (
+    let first = c.in-Some.ensures.some in (
       omega (arith, first.within),
-      sent_next (answer_of c.args.processor) history i n.0 n.0 first.within n.1 _ n.2 []
+      sent_next (answer_of c.args.processor) history i _ [] (text_of c.args.processor history i first.within)
           (rw (up_to c.args.processor history c.loop-place.from i first.behind (omega (arith, first.within)) first.first) at c.loop-place.invariant.1)
-          c.in_ok-put_answer_of.ensures,
+          c.in_ok-put_answer_of.ensures.puts,
+      c.in_ok-put_answer_of.ensures.line,
     )
 
 pub returns : goal.returns
