@@ -5,12 +5,12 @@ use Rattle.pager_model.specs.Options.{is_that}
 use Rattle.pager_model.specs.declared.entry.Numbered.{Numbered}
 use Rattle.std.specs.Prelude.{Option, Some, None, IfSome}
 use Rattle.pager_model.specs.declared.entry.Entry.{Entry}
-use Rattle.pager_model.specs.declared.entry.Need.{Need}
 use Rattle.pager_model.specs.declared.entry.What.{What}
 use Rattle.pager_model.specs.declared.entry.What.TheVariants.{Answer, Out, Failed, Take, Give, Clear, Claim, UseHeld, DropHeld, Got, Unclaim, Refused, Rest}
-use Rattle.pager_model.specs.Entries.{IsOn, ClaimIsOn, NamesItsParts, space_part, frames_part, entries_of}
+use Rattle.pager_model.specs.Entries.{IsOn, NamesItsParts, space_part, frames_part, entries_of}
 use Rattle.pager_model.specs.Legal.{SpaceJudges, FramesJudge, KeepsOrder, entries_in}
 use Rattle.pager_model.specs.Settings.{Given}
+use Rattle.pager_model.proofs.FrameEntries.{claim_names}
 use Rattle.journal_core.specs.Clauses.{NamesOnly, AllowedAfter}
 use Rattle.journal_core.specs.Journals.{AuthorState, PassState}
 use Rattle.journal_core.specs.Parts.{part_list, own_list}
@@ -18,10 +18,6 @@ use Rattle.journal_core.specs.Seats.{author_view, pass_view}
 use Rattle.journal_core.specs.Views.{most_entries, MayGrow, joined}
 use Rattle.journal_core.proofs.HistoryLength.{hit-same}
 use Rattle.journal_core.proofs.HistoryLists.{own_entries}
-
-claim_on_something : (need : Option Need) (space : Option ℕ) (frames : Bool) → ClaimIsOn need space frames → frames ≡ true
-claim_on_something None space frames on = on.1
-claim_on_something (Some need) space frames on = on.1
 
 -- an entry that names no space names the frames
 on_something : (space : Option ℕ) (frames : Bool) (what : What) → IsOn space frames what → space ≡ None → frames ≡ true
@@ -31,7 +27,7 @@ on_something space frames (Failed page writing count) on none = absurd (cc (on.0
 on_something space frames (Take page frame want) on none = on.1
 on_something space frames (Give page frame) on none = on.1
 on_something space frames (Clear first len) on none = on.1
-on_something space frames (Claim victim page frame need) on none = claim_on_something need space frames on
+on_something space frames (Claim victim page frame need) on none = claim_names need space frames on
 on_something space frames (UseHeld page frame want) on none = on.1
 on_something space frames (DropHeld frame) on none = on.1
 on_something space frames (Got frame) on none = on.1

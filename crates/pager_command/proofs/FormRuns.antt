@@ -1,10 +1,13 @@
 -- A run by a form, where it was made, and where none was.
 use Rattle.std.proofs.Common.{◌≡◌, ◌≢◌, ℕ, ◌≤◌, ◌⊎◌, inl, inr, List, [], length, map, Option, Some, None, IsSome, refl, sym, ◌∙◌, arith}
 use Rattle.std.proofs.lemmas.Bool.{false≢true}
+use Rattle.std.proofs.lemmas.List.{length-map}
 use Rattle.std.proofs.lemmas.Option.{none-some}
 use Rattle.pager_core.specs.declared.run_parts.Gathered.{Gathered}
 use Rattle.pager_model.specs.Legal.{entries_in}
 use Rattle.pager_model.specs.Plans.{Plan}
+use Rattle.pager_model.specs.Stored.{Stored}
+use Rattle.replay_core.specs.Replays.{IsReplay, AreItsCounts}
 use Rattle.pager_command.specs.declared.form.Form.{Form}
 use Rattle.pager_command.specs.declared.outcome.Outcome.{Outcome}
 use Rattle.pager_command.specs.declared.status.TheConstants.{DONE, MEMORY, WRITE_FAULT}
@@ -29,8 +32,16 @@ unmade (Some plan) form status ended not_done not_failed not_memory =
       | inr other ↦ elim other [ inl failed ↦ absurd (not_failed failed) | inr memory ↦ absurd (not_memory memory) ]
     ]
 
+-- a replay over a store for each space at least is a run
+pub WasRun-over : {P : Type 0} (seen : P → Stored) (plan : Plan) (stores : List P) (gathered : Gathered P) → plan.spaces ≤ length stores
+    → IsReplay plan (map seen stores) gathered.history.items (map seen gathered.stores.items)
+    → AreItsCounts plan (map seen stores) gathered.history.items gathered.summary
+    → WasRun seen (replayed plan (map seen stores) gathered)
+WasRun-over seen plan stores gathered enough run counts =
+    record { enough = omega (arith, enough, length-map stores seen); run = run; counts = counts }
+
 -- there was no memory for a run of a text that was read
-pub stopped_for_memory : (form : Form) (left left' : Option (List ℕ)) (faults faults' stores : ℕ) (plan : Plan)
+stopped_for_memory : (form : Form) (left left' : Option (List ℕ)) (faults faults' stores : ℕ) (plan : Plan)
     → WasRead plan left left' → faults' ≡ faults → Admits form plan → plan.spaces ≤ stores
     → IsStopped form left left' faults faults' stores MEMORY None
 stopped_for_memory form left left' faults faults' stores plan read same admitted enough =
@@ -144,6 +155,14 @@ module _ {T K P : Type 0} (views : Views T K P) (form : Form) (ran : Ran T K P) 
         wrote = λ is. absurd (omega (arith, is, which));
         part = λ is. absurd (omega (arith, is, which));
       }
+
+  -- none was made of a text that was read, for want of memory
+  pub RunsBy-unmade : (plan : Plan) → WasRead plan (views.left ran.before.source) (views.left ran.after.source)
+      → views.reads ran.after.source ≡ views.reads ran.before.source → plan.spaces ≤ length ran.stores → Admits form plan
+      → ran.outcome.status ≡ MEMORY → ran.outcome.refusal ≡ None → ran.outcome.trace ≡ None → ran.outcome.history.items ≡ []
+      → map views.out.seen ran.outcome.stores.items ≡ map views.out.seen ran.stores → ran.after.sink ≡ ran.before.sink → Promised
+  RunsBy-unmade plan read no_fault enough admitted status_is refusal_is =
+      stopped (rw (status_is, refusal_is) (stopped_for_memory form _ _ _ _ _ plan read no_fault admitted enough))
 
   -- none was made, and the outcome says why
   pub RunsBy-stopped : (n status : ℕ) (refusal : Option TraceFault)

@@ -4,7 +4,7 @@ use Rattle.std.proofs.lemmas.List.{length-map, length-take}
 use Rattle.contiguity_plan.specs.declared.plan.Plan.{Plan as Emptying}
 use Rattle.contiguity_plan.specs.Emptying.{IsOver, IsPlanned}
 use Rattle.io_core.specs.Faults.{Rose}
-use Rattle.pager_core.proofs.StartMachines.{actors_few}
+use Rattle.pager_model.proofs.Actors.{actors_few}
 use Rattle.pager_model.specs.declared.entry.Numbered.{Numbered}
 use Rattle.pager_model.specs.Legal.{IsLegal, entries_in, frames_at}
 use Rattle.pager_model.specs.Plans.{Plan}

@@ -1,5 +1,5 @@
 -- How a run ends that was made, by what was gathered of it and written.
-use Rattle.std.proofs.Common.{◌≡◌, ℕ, ◌⊎◌, inl, inr, List, Some, None, ap, arith}
+use Rattle.std.proofs.Common.{◌≡◌, ℕ, ◌⊎◌, inl, inr, List, Some, None, ap, sym, subst, arith}
 use Rattle.io_core.specs.Faults.{Rose}
 use Rattle.pager_model.specs.declared.summary.Summary.{Summary}
 use Rattle.pager_model.specs.PrintedText.{out_text}
@@ -7,14 +7,31 @@ use Rattle.report_text.specs.declared.report.Parts.{Parts}
 use Rattle.report_text.specs.Parts.{has_history}
 use Rattle.report_text.specs.Written.{WroteAll, WrotePart}
 use Rattle.pager_command.specs.declared.form.Form.{Form}
+use Rattle.pager_command.specs.declared.form.Form.TheVariants.{Order, Turns, Replay}
 use Rattle.pager_command.specs.declared.status.TheConstants.{DONE, WRITE_FAULT}
 use Rattle.pager_command.specs.Runs.{EndsRun, Prints, WasRun, report_of}
 use Rattle.pager_command.specs.Views.{Ending, OutViews, Replayed}
 
--- the report of a run was written, or a part of it, by a form that prints it
+-- by the form these parts of a report are printed
+abbrev pub IsReportedBy : Parts → Form → Type 0
+IsReportedBy parts (Order asked) = asked ≡ parts
+IsReportedBy parts (Turns seed asked) = asked ≡ parts
+IsReportedBy parts (Replay asked) = asked ≡ parts
+IsReportedBy parts form = ⊥
+
+prints_report : {P : Type 0} (form : Form) (parts : Parts) (run : Replayed P) → IsReportedBy parts form
+    → Prints form run.plan run.stores run.gathered.history.items (report_of parts run.plan run.stores run.gathered.history.items)
+prints_report (Order asked) parts run is =
+    ap (λ p. report_of p run.plan run.stores run.gathered.history.items) (sym is)
+prints_report (Turns seed asked) parts run is =
+    ap (λ p. report_of p run.plan run.stores run.gathered.history.items) (sym is)
+prints_report (Replay asked) parts run is =
+    ap (λ p. report_of p run.plan run.stores run.gathered.history.items) (sym is)
+prints_report form parts run is = absurd is
+
+-- the report of a run was written, or a part of it
 pub EndsRun-reported : {K P : Type 0} (out : OutViews K P) (form : Form) (parts : Parts) (run : Replayed P) (end : Ending K P)
-    → ((text : List ℕ) → text ≡ report_of parts run.plan run.stores run.gathered.history.items
-    → Prints form run.plan run.stores run.gathered.history.items text)
+    → IsReportedBy parts form
     → WasRun out.seen run
     → (end.outcome.status ≡ DONE) ⊎ (end.outcome.status ≡ WRITE_FAULT)
     → end.outcome.refusal ≡ None → end.outcome.trace ≡ Some run.plan
@@ -27,10 +44,12 @@ pub EndsRun-reported : {K P : Type 0} (out : OutViews K P) (form : Form) (parts 
     (out.taken end.before) (out.taken end.after))
     → (end.outcome.status ≡ WRITE_FAULT → Rose (out.writes end.before) (out.writes end.after))
     → EndsRun out form run end
-EndsRun-reported out form parts run end prints ran made refusal trace history kept wrote part rose =
+EndsRun-reported out form parts run end reports ran made refusal trace history kept wrote part rose =
     let text : List ℕ = out_text (has_history parts) run.plan.processors run.gathered.history.items run.gathered.summary in
     let is : text ≡ report_of parts run.plan run.stores run.gathered.history.items =
     ap (λ (s : Summary). out_text (has_history parts) run.plan.processors run.gathered.history.items s) ran.counts in
+    let prints : Prints form run.plan run.stores run.gathered.history.items text =
+    subst (Prints form run.plan run.stores run.gathered.history.items) (sym is) (prints_report form parts run reports) in
     record {
       ended = elim made [ inl done ↦ inl done | inr failed ↦ inr (inl failed) ];
       refusal = refusal;
@@ -38,7 +57,7 @@ EndsRun-reported out form parts run end prints ran made refusal trace history ke
       history = history;
       kept = kept;
       unwritten = λ memory. absurd (omega (arith, memory, made));
-      wrote = λ done. (text, prints text is, wrote done);
-      part = λ failed. (text, prints text is, part failed);
+      wrote = λ done. (text, prints, wrote done);
+      part = λ failed. (text, prints, part failed);
       write_fault = rose;
     }

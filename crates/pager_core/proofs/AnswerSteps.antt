@@ -25,7 +25,7 @@ use Rattle.pager_core.specs.Flights.{IsReady}
 use Rattle.pager_core.specs.Rows.{call_in, claimed_in, row_of, access_of}
 use Rattle.pager_core.specs.Steps.{Makes, SameSpace, after_frames}
 use Rattle.pager_core.proofs.EntrySteps.{Leaves-on, same_space, same_space-on}
-use Rattle.pager_core.proofs.Purposes.{in_phase, with_phase, same_work, by_ready}
+use Rattle.pager_core.proofs.Purposes.{in_phase, with_phase, is_of_calls, same_work, by_ready}
 
 -- a flight's answer, which names the frames or not
 abbrev pub ending : Flight → Answered → Bool → Entry
@@ -36,26 +36,29 @@ ending f a named = record {
   what = Answer f.number (call_in f.purpose) a;
 }
 
--- An answer that ends its flight: one that the space allows and then stands for, and that may come where the flight is.
-pub record MayEnd (f : Flight) (from : Phase) (a : Answered) (named : Bool) (was now : Kept) (st : SpaceState) : Type 0 where
-  pub on : space_of_call (call_in f.purpose) ≡ was.number
-  pub same_space : SameSpace was now
-  pub resting : IsResting now
+-- An answer ends its flight where it may come in the flight's phase,
+pub record MayEnd (f : Flight) (from : Phase) (a : Answered) : Type 0 where
   pub goes_on : MayGoOn (row_of (in_phase f from)).next f.processor (Answer f.number (call_in f.purpose) a)
-  pub allowed : WhatAllowed st named f.processor (Answer f.number (call_in f.purpose) a)
-  pub stands : StandsFor now (space_after st (ending f a named))
   pub made : (row_of (in_phase f from)).progress.made ≡ f.number
   pub may : may_answer (row_of (in_phase f from)).progress.doing (call_in f.purpose) a.reply ≡ true
   pub some : 0 < (row_of (in_phase f from)).entries
 
+-- and where its space allows it, and then stands for it at rest.
+pub record IsAnswered (f : Flight) (a : Answered) (named : Bool) (was now : Kept) (st : SpaceState) : Type 0 where
+  pub on : space_of_call (call_in f.purpose) ≡ was.number
+  pub same_space : SameSpace was now
+  pub resting : IsResting now
+  pub allowed : WhatAllowed st named f.processor (Answer f.number (call_in f.purpose) a)
+  pub stands : StandsFor now (space_after st (ending f a named))
+
 module _ (f : Flight) (from : Phase) (a : Answered) (was now : Kept) (st : SpaceState) where
   pub Makes-ending :
-      (named : Bool) → IsReady (in_phase f from) was st → MayEnd f from a named was now st
+      (named : Bool) → IsReady (in_phase f from) was st → MayEnd f from a → IsAnswered f a named was now st
       → (before after : FrameState) → (named ≡ true → FramesAllow before 0 f.processor (Some (space_of_call (call_in f.purpose)))
       (Answer f.number (call_in f.purpose) a))
       → after ≡ after_frames before (ending f a named)
       → Makes (in_phase f from) (in_phase f (Ended a.reply)) was now st before after (ending f a named)
-  Makes-ending named ready ends before after frames_allow frames_after = record {
+  Makes-ending named ready ends answered before after frames_allow frames_after = record {
     entry = record {
       same_work = same_work f from (Ended a.reply);
       processor = refl;
@@ -71,43 +74,47 @@ module _ (f : Flight) (from : Phase) (a : Answered) (was now : Kept) (st : Space
       between = refl;
       fewer = ends.some;
     };
-    space = Leaves-on (ending f a named) (ap Some ends.on) ends.same_space ready.next ends.goes_on ends.allowed (record {
+    space = Leaves-on (ending f a named) (ap Some answered.on) answered.same_space ready.next ends.goes_on answered.allowed (record {
       fits = record { kind = refl; can = ready.fits.can; phase = tt };
-      stands = ends.stands;
+      stands = answered.stands;
       next = refl;
-      found = ends.resting;
-      keeps = inr (refl, refl, ends.resting);
+      found = answered.resting;
+      keeps = inr (refl, refl, answered.resting);
     });
   }
 
-  -- one that leaves the frames alone
-  pub Makes-answer : IsReady (in_phase f from) was st → MayEnd f from a false was now st → (frames : FrameState)
-      → Makes (in_phase f from) (in_phase f (Ended a.reply)) was now st frames frames
-      (answer_entry f.processor f.number (call_in f.purpose) a)
-  Makes-answer ready ends frames = Makes-ending false ready ends frames frames (λ named. absurd (false≢true named)) refl
+-- so it does in a phase of a call, where it leaves the frames alone
+pub answered_in : (f : Flight) (from : Phase) (a : Answered) (was now : Kept) → is_of_calls from ≡ true → f.phase ≡ from
+    → ((st : SpaceState) → IsReady (in_phase f from) was st → MayEnd f from a × IsAnswered f a false was now st)
+    → (st : SpaceState) (frames : FrameState) → IsReady f was st
+    → Makes f (with_phase f (Ended a.reply)) was now st frames frames (answer_entry f.processor f.number (call_in f.purpose) a)
+answered_in f from a was now only phase ends st frames =
+    by_ready f from was st only phase (λ g to. Makes g (to (Ended a.reply)) was now st frames frames
+    (answer_entry f.processor f.number (call_in f.purpose) a))
+    (λ ready. (let end = ends st ready in
+    Makes-ending f from a was now st false ready end.0 end.1 frames frames (λ named. absurd (false≢true named)) refl))
 
--- Start: the call is answered at once
-MayEnd-begin : (f : Flight) (a : Answered) (was now : Kept) (st : SpaceState) → IsReady (in_phase f Start) was st
-    → BeginsAnswered was now f.processor (call_in f.purpose) a → MayEnd f Start a false was now st
-MayEnd-begin f a was now st ready begins = record {
-  on = same_Some _ _ ready.under;
+-- an answer with which the call begins
+IsAnswered-begun : (f : Flight) (a : Answered) (was now : Kept) (st : SpaceState) → space_of_call (call_in f.purpose) ≡ was.number
+    → StandsFor was st → BeginsAnswered was now f.processor (call_in f.purpose) a → IsAnswered f a false was now st
+IsAnswered-begun f a was now st on stands begins = record {
+  on = on;
   same_space = record { number = begins.same_number; frames = begins.same_frames; processors = begins.same_processors };
   resting = begins.resting;
-  goes_on = tt;
-  allowed = begins.answers.allowed st ready.stands f.number;
-  stands = begins.answers.stands st ready.stands f.number;
-  made = refl;
-  may = begins.alone;
-  some = omega arith;
+  allowed = begins.answers.allowed st stands f.number;
+  stands = begins.answers.stands st stands f.number;
 }
 
+-- Start: the call is answered at once
 pub start_answered : (f : Flight) (a : Answered) (was now : Kept) → f.phase ≡ Start
     → BeginsAnswered was now f.processor (call_in f.purpose) a → (st : SpaceState) (frames : FrameState) → IsReady f was st
     → Makes f (with_phase f (Ended a.reply)) was now st frames frames (answer_entry f.processor f.number (call_in f.purpose) a)
-start_answered f a was now phase begins st frames =
-    by_ready f Start was st refl phase (λ g to. Makes g (to (Ended a.reply)) was now st frames frames
-    (answer_entry f.processor f.number (call_in f.purpose) a))
-    (λ ready. Makes-answer f Start a was now st ready (MayEnd-begin f a was now st ready begins) frames)
+start_answered f a was now phase begins =
+    answered_in f Start a was now refl phase
+    (λ st ready. (
+      record { goes_on = tt; made = refl; may = begins.alone; some = omega arith },
+      IsAnswered-begun f a was now st (same_Some _ _ ready.under) ready.stands begins,
+    ))
 
 -- the first element that does does
 find_does : {X : Type 0} (p : X → Bool) (xs : List X) (x : X) → find p xs ≡ Some x → p x ≡ true
@@ -130,9 +137,9 @@ pub record Unmaps (was now : Kept) (call : Call) (a : Answered) : Type 0 where
   pub unmapped : Unmapped was now page a
 
 -- Gone: the region is taken away
-MayEnd-unmap : (f : Flight) (first len : ℕ) (a : Answered) (was now : Kept) (st : SpaceState) → IsReady (in_phase f (Gone first len)) was st
-    → Unmaps was now (call_in f.purpose) a → MayEnd f (Gone first len) a false was now st
-MayEnd-unmap f first len a was now st ready unmaps =
+ends_unmap : (f : Flight) (first len : ℕ) (a : Answered) (was now : Kept) (st : SpaceState) → IsReady (in_phase f (Gone first len)) was st
+    → Unmaps was now (call_in f.purpose) a → MayEnd f (Gone first len) a × IsAnswered f a false was now st
+ends_unmap f first len a was now st ready unmaps =
     let is = ready.found.unmapping in
     let r = is.region in
     let page = unmaps.page in
@@ -144,33 +151,34 @@ MayEnd-unmap f first len a was now st ready unmaps =
     let within : in_range first len page ≡ true = sym (ap (λ n. in_range n r.length page) is.first_is
     ∙ ap (λ n. in_range first n page) is.length_is) ∙ region_at-has was.regions page r at in
     let next : st.next ≡ AfterClear f.processor r.first r.length = ready.next
-    ∙ sym (ap (λ n. AfterClear f.processor n r.length) is.first_is ∙ ap (AfterClear f.processor first) is.length_is) in
-    record {
-      on = same_Some _ _ ready.under;
-      same_space = record { number = unmapped.same_number; frames = unmapped.same_frames; processors = unmapped.same_processors };
-      resting = unmapped.resting;
-      goes_on = (
-        refl,
-        subst (λ k. IsUnmapOf first len k a.reply) (sym own)
-            (subst (IsUnmapOf first len (Unmap was.number page)) (sym unmapped.done) within),
-      );
-      allowed = subst (λ k. WhatAllowed st false f.processor (Answer f.number k a)) (sym own)
-          (unmapped.allowed st ready.stands f.processor f.number r at next);
-      stands = subst (λ k. StandsFor now (space_after st (answer_entry f.processor f.number k a))) (sym own)
-          (unmapped.stands st ready.stands f.processor f.number);
-      made = refl;
-      may = subst (λ k. may_answer (Cleared (space_of_call k) first len) k a.reply ≡ true) (sym own)
-          (and_from _ _ (and_from _ _ (eq-eqb was.number was.number refl) within) (ap is_done unmapped.done));
-      some = omega arith;
-    }
+    ∙ sym (ap (λ n. AfterClear f.processor n r.length) is.first_is ∙ ap (AfterClear f.processor first) is.length_is) in (
+      record {
+        goes_on = (
+          refl,
+          subst (λ k. IsUnmapOf first len k a.reply) (sym own)
+              (subst (IsUnmapOf first len (Unmap was.number page)) (sym unmapped.done) within),
+        );
+        made = refl;
+        may = subst (λ k. may_answer (Cleared (space_of_call k) first len) k a.reply ≡ true) (sym own)
+            (and_from _ _ (and_from _ _ (eq-eqb was.number was.number refl) within) (ap is_done unmapped.done));
+        some = omega arith;
+      },
+      record {
+        on = same_Some _ _ ready.under;
+        same_space = record { number = unmapped.same_number; frames = unmapped.same_frames; processors = unmapped.same_processors };
+        resting = unmapped.resting;
+        allowed = subst (λ k. WhatAllowed st false f.processor (Answer f.number k a)) (sym own)
+            (unmapped.allowed st ready.stands f.processor f.number r at next);
+        stands = subst (λ k. StandsFor now (space_after st (answer_entry f.processor f.number k a))) (sym own)
+            (unmapped.stands st ready.stands f.processor f.number);
+      },
+    )
 
 pub unmap_answered : (f : Flight) (first len : ℕ) (a : Answered) (was now : Kept) → f.phase ≡ Gone first len
     → Unmaps was now (call_in f.purpose) a → (st : SpaceState) (frames : FrameState) → IsReady f was st
     → Makes f (with_phase f (Ended a.reply)) was now st frames frames (answer_entry f.processor f.number (call_in f.purpose) a)
-unmap_answered f first len a was now phase unmaps st frames =
-    by_ready f (Gone first len) was st refl phase (λ g to. Makes g (to (Ended a.reply)) was now st frames frames
-    (answer_entry f.processor f.number (call_in f.purpose) a))
-    (λ ready. Makes-answer f (Gone first len) a was now st ready (MayEnd-unmap f first len a was now st ready unmaps) frames)
+unmap_answered f first len a was now phase unmaps =
+    answered_in f (Gone first len) a was now refl phase (λ st ready. ends_unmap f first len a was now st ready unmaps)
 
 -- a load or a store is the access that it makes
 pub is_access_of : (call : Call) (claimed : Bool) → is_access call ≡ true → is_access_at (access_of call claimed) call ≡ true
@@ -207,28 +215,21 @@ alone_plain (Store space address word) reply is alone = alone
 alone_plain call reply is alone = absurd (false≢true is)
 
 -- Late: the access is answered, as it would be if it began now
-MayEnd-late : (f : Flight) (a : Answered) (was now : Kept) (st : SpaceState) → IsReady (in_phase f Late) was st
-    → BeginsAnswered was now f.processor (call_in f.purpose) a → MayEnd f Late a false was now st
-MayEnd-late f a was now st ready begins = record {
-  on = same_Some _ _ ready.under;
-  same_space = record { number = begins.same_number; frames = begins.same_frames; processors = begins.same_processors };
-  resting = begins.resting;
-  goes_on = tt;
-  allowed = begins.answers.allowed st ready.stands f.number;
-  stands = begins.answers.stands st ready.stands f.number;
-  made = refl;
-  may = and_from _ _ (is_access_of (call_in f.purpose) (claimed_in f.purpose) ready.fits.phase)
-      (alone_plain (call_in f.purpose) a.reply ready.fits.phase begins.alone);
-  some = omega arith;
-}
-
 pub late_answered : (f : Flight) (a : Answered) (was now : Kept) → f.phase ≡ Late → BeginsAnswered was now f.processor (call_in f.purpose) a
     → (st : SpaceState) (frames : FrameState) → IsReady f was st
     → Makes f (with_phase f (Ended a.reply)) was now st frames frames (answer_entry f.processor f.number (call_in f.purpose) a)
-late_answered f a was now phase begins st frames =
-    by_ready f Late was st refl phase (λ g to. Makes g (to (Ended a.reply)) was now st frames frames
-    (answer_entry f.processor f.number (call_in f.purpose) a))
-    (λ ready. Makes-answer f Late a was now st ready (MayEnd-late f a was now st ready begins) frames)
+late_answered f a was now phase begins =
+    answered_in f Late a was now refl phase
+    (λ st ready. (
+      record {
+        goes_on = tt;
+        made = refl;
+        may = and_from _ _ (is_access_of (call_in f.purpose) (claimed_in f.purpose) ready.fits.phase)
+            (alone_plain (call_in f.purpose) a.reply ready.fits.phase begins.alone);
+        some = omega arith;
+      },
+      IsAnswered-begun f a was now st (same_Some _ _ ready.under) ready.stands begins,
+    ))
 
 -- the page is read in, and then the access is served
 pub record Fills (was now : Kept) (f : Flight) (a : Answered) : Type 0 where
@@ -237,25 +238,26 @@ pub record Fills (was now : Kept) (f : Flight) (a : Answered) : Type 0 where
   pub finishes : Finishes filled now f.processor (call_in f.purpose) a
 
 -- Fill: the access is served
-MayEnd-fill : (f : Flight) (page frame : ℕ) (a : Answered) (was now : Kept) (st : SpaceState)
-    → IsReady (in_phase f (Fill page frame)) was st → Fills was now f a → MayEnd f (Fill page frame) a false was now st
-MayEnd-fill f page frame a was now st ready fills = (let reads = fills.reads in let finishes = fills.finishes in record {
-  on = same_Some _ _ ready.under;
-  same_space = same_space-on (same_space reads.same.same) (same_space finishes.same.same);
-  resting = finishes.resting;
-  goes_on = refl;
-  allowed = finishes.answers.allowed st (reads.stands st ready.stands) f.number;
-  stands = finishes.answers.stands st (reads.stands st ready.stands) f.number;
-  made = refl;
-  may = and_from _ _ (is_access_of (call_in f.purpose) (claimed_in f.purpose)
-      (is_access_by_page (call_in f.purpose) page ready.found.lawful.page_is)) finishes.served;
-  some = omega arith;
-})
-
 pub fill_answered : (f : Flight) (page frame : ℕ) (a : Answered) (was now : Kept) → f.phase ≡ Fill page frame → Fills was now f a
     → (st : SpaceState) (frames : FrameState) → IsReady f was st
     → Makes f (with_phase f (Ended a.reply)) was now st frames frames (answer_entry f.processor f.number (call_in f.purpose) a)
-fill_answered f page frame a was now phase fills st frames =
-    by_ready f (Fill page frame) was st refl phase (λ g to. Makes g (to (Ended a.reply)) was now st frames frames
-    (answer_entry f.processor f.number (call_in f.purpose) a))
-    (λ ready. Makes-answer f (Fill page frame) a was now st ready (MayEnd-fill f page frame a was now st ready fills) frames)
+fill_answered f page frame a was now phase fills =
+    let reads = fills.reads in
+    let finishes = fills.finishes in
+    answered_in f (Fill page frame) a was now refl phase
+    (λ st ready. (
+      record {
+        goes_on = refl;
+        made = refl;
+        may = and_from _ _ (is_access_of (call_in f.purpose) (claimed_in f.purpose)
+            (is_access_by_page (call_in f.purpose) page ready.found.lawful.page_is)) finishes.served;
+        some = omega arith;
+      },
+      record {
+        on = same_Some _ _ ready.under;
+        same_space = same_space-on (same_space reads.same.same) (same_space finishes.same.same);
+        resting = finishes.resting;
+        allowed = finishes.answers.allowed st (reads.stands st ready.stands) f.number;
+        stands = finishes.answers.stands st (reads.stands st ready.stands) f.number;
+      },
+    ))

@@ -16,14 +16,14 @@ use Rattle.pager_core.specs.declared.flight.Phase.TheVariants.{Start, Evict, End
 use Rattle.pager_core.specs.Flights.{IsReady}
 use Rattle.pager_core.specs.Rows.{call_in}
 use Rattle.pager_core.specs.Steps.{AreAgreed, Makes, Passes}
-use Rattle.pager_core.proofs.AnswerSteps.{MayEnd, ending, Makes-ending}
+use Rattle.pager_core.proofs.AnswerSteps.{MayEnd, IsAnswered, ending, Makes-ending}
 use Rattle.pager_core.proofs.EntrySteps.{SpaceAndFrames, same_space}
 use Rattle.pager_core.proofs.Purposes.{in_phase, with_phase, same_work, by_ready}
 
 -- Start: the page is equal to its copy, and gives its frame up next
-Passes-evicting : (f : Flight) (page : ℕ) (written : Bool) (was now : Kept) (st : SpaceState) → IsReady (in_phase f Start) was st
-    → BeginsEvicting was now (call_in f.purpose) page written → Passes (in_phase f Start) (in_phase f (Evict page)) was now st
-Passes-evicting f page written was now st ready begins = record {
+Passes-evicting : (f : Flight) (page : ℕ) (was now : Kept) (st : SpaceState) → IsReady (in_phase f Start) was st
+    → BeginsEvicting was now (call_in f.purpose) page → Passes (in_phase f Start) (in_phase f (Evict page)) was now st
+Passes-evicting f page was now st ready begins = record {
   same_work = same_work f Start (Evict page);
   same_space = same_space begins.same.same;
   same_frames = begins.same.frame;
@@ -47,12 +47,12 @@ Passes-evicting f page written was now st ready begins = record {
     on_now : Some (space_of_call (call_in f.purpose)) ≡ Some now.number
     on_now = ready.under ∙ ap Some (sym begins.same.same.number)
 
-pub begin_evicting : (f : Flight) (page : ℕ) (written : Bool) (was now : Kept) → f.phase ≡ Start
-    → BeginsEvicting was now (call_in f.purpose) page written → (st : SpaceState) → IsReady f was st
+pub begin_evicting : (f : Flight) (page : ℕ) (was now : Kept) → f.phase ≡ Start
+    → BeginsEvicting was now (call_in f.purpose) page → (st : SpaceState) → IsReady f was st
     → Passes f (with_phase f (Evict page)) was now st
-begin_evicting f page written was now phase begins st =
+begin_evicting f page was now phase begins st =
     by_ready f Start was st refl phase (λ g to. Passes g (to (Evict page)) was now st)
-    (λ ready. Passes-evicting f page written was now st ready begins)
+    (λ ready. Passes-evicting f page was now st ready begins)
 
 -- a page that was written, or was clean, is the answer alone
 copied_alone : (space page : ℕ) (written : Bool) → may_answer Idle (EvictCall space page) (copied_reply written) ≡ true
@@ -68,11 +68,18 @@ module _ (f : Flight) (page : ℕ) (a : Answered) (was : SpaceAndFrames) (now : 
   Makes-evict ready agree frame evicts =
       let own : call_in f.purpose ≡ EvictCall was.space.number page = ready.found.is_evict in
       let on : space_of_call (call_in f.purpose) ≡ was.space.number = same_Some _ _ ready.under in
-      let ends : MayEnd f (Evict page) a true was.space now st = record {
+      let ends : MayEnd f (Evict page) a = record {
+        goes_on = tt;
+        made = refl;
+        may = subst (λ k. may_answer Idle k a.reply ≡ true) (sym own)
+            (subst (λ r. may_answer Idle (EvictCall was.space.number page) r ≡ true) (sym evicts.replied)
+            (copied_alone was.space.number page (dirty_at was.space page)));
+        some = omega arith;
+      } in
+      let answered : IsAnswered f a true was.space now st = record {
         on = on;
         same_space = same_space evicts.gave.same;
         resting = evicts.resting;
-        goes_on = tt;
         allowed = subst (λ k. WhatAllowed st true f.processor (Answer f.number k a)) (sym own)
             (evicts.allowed st ready.stands f.processor f.number);
         stands = subst (λ k. StandsFor now (space_after st (let e : Entry = record {
@@ -82,13 +89,8 @@ module _ (f : Flight) (page : ℕ) (a : Answered) (was : SpaceAndFrames) (now : 
           what = Answer f.number k a;
         } in e))) (sym own)
             (evicts.stands st ready.stands f.processor f.number);
-        made = refl;
-        may = subst (λ k. may_answer Idle k a.reply ≡ true) (sym own)
-            (subst (λ r. may_answer Idle (EvictCall was.space.number page) r ≡ true) (sym evicts.replied)
-            (copied_alone was.space.number page (dirty_at was.space page)));
-        some = omega arith;
       } in
-      Makes-ending f (Evict page) a was.space now st true ready ends was.frames
+      Makes-ending f (Evict page) a was.space now st true ready ends answered was.frames
       (counted (give_page was.frames (space_of_call (call_in f.purpose)) page))
       (λ named. subst (AllowsAnswer was.frames (space_of_call (call_in f.purpose))) (sym own)
       (frame, ap (λ s. frame_of was.frames s page) on ∙ sym (agree.pages page) ∙ evicts.gave.had))

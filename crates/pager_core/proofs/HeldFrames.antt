@@ -26,7 +26,7 @@ use Rattle.pager_core.specs.Steps.{AreAgreed, Makes}
 use Rattle.pager_core.proofs.EntrySteps.{Leaves-on, SpaceAndFrames, same_space}
 use Rattle.pager_core.proofs.MadeEntries.{made_on_frames}
 use Rattle.pager_core.proofs.Purposes.{in_phase, with_phase, same_work, by_ready}
-use Rattle.pager_core.proofs.TakenFrames.{IsLeft-placed, IsTaken}
+use Rattle.pager_core.proofs.TakenFrames.{FrameFor, IsLeft-placed, IsTaken, by_taking}
 
 -- what stands where a held frame is used: the page of the call's own space lacks a frame
 pub wants_still : (f : Flight) (page : ℕ) (want : Want) (v : Victim) (kept : Kept) (st : SpaceState) → f.phase ≡ Use page want v
@@ -102,24 +102,20 @@ module _ (f : Flight) (page : ℕ) (want : Want) (v : Victim) (was : SpaceAndFra
             (places.stands st f.processor want ready.stands) refl);
       }
 
-pub held_used : (f : Flight) (page own frame : ℕ) (want : Want) (was now : SpaceAndFrames) → ((v : Victim) × (f.phase ≡ Use page want v))
-    → own ≡ space_of_call (call_in f.purpose) → AreAgreed was.space was.frames → OwnsBy was.frames f.processor (row_of f).progress.doing
-    → IsTaken (dropped was.frames f.processor) was now own page frame want → (st : SpaceState) → IsReady f was.space st
-    → Makes f (with_phase f (Fill page frame)) was.space now.space st was.frames now.frames (use_entry f.processor own page frame want)
-held_used f page own frame want was now phase same agree owns taken st =
-    let t = taken.taking in
-    subst (λ n. IsReady f was.space st
-    → Makes f (with_phase f (Fill page n)) was.space now.space st was.frames now.frames (use_entry f.processor own page n want))
-    (sym taken.frame_is)
-    (subst (λ u. IsReady f was.space st
-    → Makes f (with_phase f (Fill page t.frame)) was.space now.space st was.frames u (use_entry f.processor own page t.frame want))
-    (sym taken.after_is)
-    (subst (λ s. IsReady f was.space st
-    → Makes f (with_phase f (Fill page t.frame)) was.space now.space st was.frames (counted t.state)
-    (use_entry f.processor s page t.frame want)) (sym same)
-    (λ ready. by_ready f (Use page want phase.0) was.space st refl phase.1
+pub held_used : (f : Flight) (frame : FrameFor) (was now : SpaceAndFrames) → ((v : Victim) × (f.phase ≡ Use frame.page frame.want v))
+    → frame.space ≡ space_of_call (call_in f.purpose) → AreAgreed was.space was.frames
+    → OwnsBy was.frames f.processor (row_of f).progress.doing
+    → IsTaken (dropped was.frames f.processor) was now frame → (st : SpaceState) → IsReady f was.space st
+    → Makes f (with_phase f (Fill frame.page frame.number)) was.space now.space st was.frames now.frames
+    (use_entry f.processor frame.space frame.page frame.number frame.want)
+held_used f frame was now phase same agree owns taken st =
+    let page = frame.page in
+    let want = frame.want in
+    by_taking taken same
+    (λ s n after. IsReady f was.space st
+    → Makes f (with_phase f (Fill page n)) was.space now.space st was.frames after (use_entry f.processor s page n want))
+    (λ t takes places ready. by_ready f (Use page want phase.0) was.space st refl phase.1
     (λ g to. OwnsBy was.frames f.processor (row_of g).progress.doing
     → Makes g (to (Fill page t.frame)) was.space now.space st was.frames (counted t.state)
     (use_entry f.processor (space_of_call (call_in f.purpose)) page t.frame want))
-    (λ is holds. Makes-use f page want phase.0 was now.space t st is agree holds
-    (ap (λ s. take_frame (dropped was.frames f.processor) s page want) (sym same) ∙ taken.takes) taken.places) ready owns)))
+    (λ is holds. Makes-use f page want phase.0 was now.space t st is agree holds takes places) ready owns)

@@ -8,13 +8,14 @@ use Rattle.pager_model.specs.declared.entry.Entry.{Entry}
 use Rattle.pager_model.specs.declared.entry.Need.{Need}
 use Rattle.pager_model.specs.declared.entry.What.{What}
 use Rattle.pager_model.specs.declared.entry.What.TheVariants.{Answer, Out, Failed, Take, Give, Clear, Claim, UseHeld, DropHeld, Got, Unclaim, Refused, Rest}
-use Rattle.pager_model.specs.Entries.{names_space, entries_of, ClaimIsOn, IsOn}
+use Rattle.pager_model.specs.Entries.{names_space, entries_of, IsOn}
 use Rattle.pager_model.specs.FrameStates.{FrameState, frames_after, frame_of, FramesAllow}
 use Rattle.pager_model.specs.Legal.{space_at, frames_at, progress_at, progress_in, MayFollow}
 use Rattle.pager_model.specs.Order.{Progress, Doing, Purpose, ForAccess, ForTurn, Idle, Looking, Uncopied, Filling, Unfilling, Claiming, Emptied, Unwritten, Holding, Faulted, leads, victim_in, progress_after, progress_by}
 use Rattle.pager_model.specs.Order.{after_take, after_use, after_clear, after_out, after_failure, after_give, after_claim, after_got, lacking_for, faulted_for, after_unclaim, dropped_for, after_drop, after_refusal, after_rest}
 use Rattle.pager_model.specs.Settings.{Given, mark_of}
 use Rattle.pager_model.specs.SpaceStates.{space_after, SpaceAllows}
+use Rattle.pager_model.proofs.FrameEntries.{claim_names}
 use Rattle.pager_model.proofs.Histories.{space_at-named, space_at-other, frames_at-named, frames_at-other}
 use Rattle.space_core.specs.Standing.{Kept}
 use Rattle.pager_core.specs.declared.flight.Flight.{Flight}
@@ -182,11 +183,6 @@ module _ (m : ℕ) (purpose : Purpose) (v : Victim) where
   from_any p space (DropHeld frame) goes = not_by (after_drop p.made p.doing frame) (drop-none p.made p.doing frame) goes
   from_any p space (Got frame) goes = not_by (after_got p.made p.doing frame) (got-none p.made p.doing frame) goes
   from_any p space (Rest short) goes = not_by (after_rest p.made p.doing short) (rest-none p.made p.doing short) goes
-
--- a claim names the frames, with a need or without
-claim_names : (need : Option Need) (space : Option ℕ) (frames : Bool) → ClaimIsOn need space frames → frames ≡ true
-claim_names None space frames on = on.1
-claim_names (Some need) space frames on = on.1
 
 -- so the victim of a flight whose frame was just claimed has it
 pub victim_placed : (f f' : Flight) (before after : FrameState) (e : Entry) (v : Victim) → MakesEntry f f' before after e

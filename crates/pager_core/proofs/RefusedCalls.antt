@@ -16,7 +16,7 @@ use Rattle.pager_model.specs.FrameStates.{FrameState}
 use Rattle.pager_model.specs.Images.{is_in_image}
 use Rattle.pager_model.specs.Order.{is_access, may_answer}
 use Rattle.pager_model.specs.Regions.{is_wired, region_at}
-use Rattle.pager_model.specs.SpaceStates.{SpaceState, LacksItsPage, MayFail, MayGoOn, ReplyAllowed, answered_flat, tile_at, pages_of, pages_after}
+use Rattle.pager_model.specs.SpaceStates.{SpaceState, LacksItsPage, MayFail, ReplyAllowed, answered_flat, tile_at, pages_of, pages_after}
 use Rattle.pager_model.proofs.SpaceEntries.{base-unnamed, frees-unlawful, said-unlawful, served-unlawful}
 use Rattle.space_core.specs.Standing.{Kept, IsResting, MustWrite, StandsFor, copied_page, is_allowed, is_in, is_unwired, rights_at}
 use Rattle.pager_model.specs.CallEntries.{answer_entry}
@@ -26,10 +26,10 @@ use Rattle.pager_core.specs.declared.flight.Phase.TheVariants.{Short, Fault, Lac
 use Rattle.pager_core.specs.Flights.{IsReady}
 use Rattle.pager_core.specs.Rows.{access_in, access_of, call_in, claimed_in, faulted, row_of}
 use Rattle.pager_core.specs.Steps.{Makes, Refuses}
-use Rattle.pager_core.proofs.AnswerSteps.{Makes-answer, is_access_by_page, is_access_of}
+use Rattle.pager_core.proofs.AnswerSteps.{MayEnd, IsAnswered, answered_in, is_access_by_page, is_access_of}
 use Rattle.pager_core.proofs.EntrySteps.{unchanged}
 use Rattle.pager_core.proofs.NextFlights.{under_fault}
-use Rattle.pager_core.proofs.Purposes.{in_phase, with_phase, by_ready}
+use Rattle.pager_core.proofs.Purposes.{in_phase, with_phase}
 use Rattle.pager_core.proofs.UnchangedSpaces.{unchanged_stands}
 
 -- What such an answer does: nothing.
@@ -38,41 +38,29 @@ use Rattle.pager_core.proofs.UnchangedSpaces.{unchanged_stands}
 abbrev pub refusal : Reply → Answered
 refusal reply = record { reply = reply; hit = false; size = None }
 
-module _ (f : Flight) (phase : Phase) (reply : Reply) (kept : Kept) (st : SpaceState) where
-  Makes-refusal :
-      IsReady (in_phase f phase) kept st → space_of_call (call_in f.purpose) ≡ kept.number → IsResting kept
-      → MayGoOn (row_of (in_phase f phase)).next f.processor (Answer f.number (call_in f.purpose) (refusal reply))
-      → is_lawful reply ≡ false → answered_flat st.flat (call_in f.purpose) reply ≡ st.flat
-      → ReplyAllowed st f.processor (call_in f.purpose) reply
-      → (row_of (in_phase f phase)).progress.made ≡ f.number
-      → may_answer (row_of (in_phase f phase)).progress.doing (call_in f.purpose) reply ≡ true
-      → 0 < (row_of (in_phase f phase)).entries
-      → (frames : FrameState) → Makes (in_phase f phase) (in_phase f (Ended reply)) kept kept st frames frames
-      (answer_entry f.processor f.number (call_in f.purpose) (refusal reply))
-  Makes-refusal ready on resting goes_on unlawful same allowed made may some =
-      Makes-answer f phase (refusal reply) kept kept st ready (record {
-        on = on;
-        same_space = unchanged kept;
-        resting = resting;
-        goes_on = goes_on;
-        allowed = record {
-          reply = allowed;
-          parts = frees-unlawful st (call_in f.purpose) reply unlawful;
-          hit = ap (λ (o : Option ℕ). is_in_image (st.images f.processor) (tile_at st.sizes (pages_of st) o))
-              (sym (served-unlawful (call_in f.purpose) reply unlawful));
-          size = ap (λ (o : Option ℕ). option_map (λ (t : Tile). t.extent.size)
-              (tile_at st.sizes (pages_after st false (Answer f.number (call_in f.purpose) (refusal reply))) o))
-              (sym (served-unlawful (call_in f.purpose) reply unlawful));
-        };
-        stands =
-            unchanged_stands kept st (answer_entry f.processor f.number (call_in f.purpose) (refusal reply)) ready.stands same
-            (base-unnamed st.base (call_in f.purpose)) (λ p i. said-unlawful p i (call_in f.purpose) reply (st.tied p i) unlawful) refl
-            (ap (tile_at st.sizes (pages_after st false (Answer f.number (call_in f.purpose) (refusal reply))))
-            (served-unlawful (call_in f.purpose) reply unlawful));
-        made = made;
-        may = may;
-        some = some;
-      })
+IsAnswered-refusal : (f : Flight) (reply : Reply) (kept : Kept) (st : SpaceState) → StandsFor kept st
+    → space_of_call (call_in f.purpose) ≡ kept.number → IsResting kept → is_lawful reply ≡ false
+    → answered_flat st.flat (call_in f.purpose) reply ≡ st.flat → ReplyAllowed st f.processor (call_in f.purpose) reply
+    → IsAnswered f (refusal reply) false kept kept st
+IsAnswered-refusal f reply kept st stands on resting unlawful same allowed = record {
+  on = on;
+  same_space = unchanged kept;
+  resting = resting;
+  allowed = record {
+    reply = allowed;
+    parts = frees-unlawful st (call_in f.purpose) reply unlawful;
+    hit = ap (λ (o : Option ℕ). is_in_image (st.images f.processor) (tile_at st.sizes (pages_of st) o))
+        (sym (served-unlawful (call_in f.purpose) reply unlawful));
+    size = ap (λ (o : Option ℕ). option_map (λ (t : Tile). t.extent.size)
+        (tile_at st.sizes (pages_after st false (Answer f.number (call_in f.purpose) (refusal reply))) o))
+        (sym (served-unlawful (call_in f.purpose) reply unlawful));
+  };
+  stands =
+      unchanged_stands kept st (answer_entry f.processor f.number (call_in f.purpose) (refusal reply)) stands same
+      (base-unnamed st.base (call_in f.purpose)) (λ p i. said-unlawful p i (call_in f.purpose) reply (st.tied p i) unlawful) refl
+      (ap (tile_at st.sizes (pages_after st false (Answer f.number (call_in f.purpose) (refusal reply))))
+      (served-unlawful (call_in f.purpose) reply unlawful));
+}
 
 -- No frame could be had.
 
@@ -99,22 +87,28 @@ lawful-allowed kept st (Store space address word) stands is =
     (ap can_write (stands.beside.rights (page_of address) parts.0) ∙ parts.1) refl
 lawful-allowed kept st call stands is = absurd (false≢true is)
 
-Makes-no_frames : (f : Flight) (wired claimed held : ℕ) (kept : Kept) (st : SpaceState)
-    → IsReady (in_phase f (Short wired claimed held)) kept st → (frames : FrameState)
-    → Makes (in_phase f (Short wired claimed held)) (in_phase f (Ended (NoFrames wired claimed held))) kept kept st frames frames
-    (answer_entry f.processor f.number (call_in f.purpose) (refusal (NoFrames wired claimed held)))
-Makes-no_frames f wired claimed held kept st ready =
+-- the flight ends with such an answer
+abbrev IsRefused : Flight → Phase → Reply → Kept → SpaceState → Type 0
+IsRefused f from reply kept st = MayEnd f from (refusal reply) × IsAnswered f (refusal reply) false kept kept st
+
+ends_no_frames : (f : Flight) (wired claimed held : ℕ) (kept : Kept) (st : SpaceState)
+    → IsReady (in_phase f (Short wired claimed held)) kept st
+    → IsRefused f (Short wired claimed held) (NoFrames wired claimed held) kept st
+ends_no_frames f wired claimed held kept st ready =
     let page = ready.found.0 in
-    let lacks = ready.found.1 in
-    Makes-refusal f (Short wired claimed held) (NoFrames wired claimed held) kept st ready
-    (same_Some _ _ ready.under) lacks.resting tt refl refl (
-      lawful-allowed kept st (call_in f.purpose) ready.stands lacks.lawful.allowed,
-      subst (LacksItsPage st.base) (sym lacks.lawful.page_is) (ready.stands.base page ∙ lacks.absent),
+    let lacks = ready.found.1 in (
+      record {
+        goes_on = tt;
+        made = refl;
+        may = and_from _ _ (is_access_by_page (call_in f.purpose) page lacks.lawful.page_is)
+            (and_from _ _ (eq-eqb wired wired refl) (and_from _ _ (eq-eqb claimed claimed refl) (eq-eqb held held refl)));
+        some = omega arith;
+      },
+      IsAnswered-refusal f (NoFrames wired claimed held) kept st ready.stands (same_Some _ _ ready.under) lacks.resting refl refl (
+        lawful-allowed kept st (call_in f.purpose) ready.stands lacks.lawful.allowed,
+        subst (LacksItsPage st.base) (sym lacks.lawful.page_is) (ready.stands.base page ∙ lacks.absent),
+      ),
     )
-    refl
-    (and_from _ _ (is_access_by_page (call_in f.purpose) page lacks.lawful.page_is)
-    (and_from _ _ (eq-eqb wired wired refl) (and_from _ _ (eq-eqb claimed claimed refl) (eq-eqb held held refl))))
-    (omega arith)
 
 -- A store failed.
 
@@ -169,11 +163,9 @@ may_fault-copying (Evict s page) claimed space count same is =
     (and_from _ _ (eq-eqb space space refl) (eq-eqb count count refl))
 may_fault-copying call claimed space count same is = absurd (false≢true is)
 
-Makes-fault : (f : Flight) (space count : ℕ) (kept : Kept) (st : SpaceState) → IsReady (in_phase f (Fault space count)) kept st
-    → (frames : FrameState)
-    → Makes (in_phase f (Fault space count)) (in_phase f (Ended (StoreFault space count))) kept kept st frames frames
-    (answer_entry f.processor f.number (call_in f.purpose) (refusal (StoreFault space count)))
-Makes-fault f space count kept st ready =
+ends_fault : (f : Flight) (space count : ℕ) (kept : Kept) (st : SpaceState) → IsReady (in_phase f (Fault space count)) kept st
+    → IsRefused f (Fault space count) (StoreFault space count) kept st
+ends_fault f space count kept st ready =
     let found = ready.found in
     let meets : MayFail st (call_in f.purpose) ×
     (may_answer (faulted (access_in f.purpose) space count (copied_page (call_in f.purpose))) (call_in f.purpose)
@@ -188,36 +180,36 @@ Makes-fault f space count kept st ready =
             (claimed_in f.purpose) space count access,
       )
     ] in
-    Makes-refusal f (Fault space count) (StoreFault space count) kept st ready
-    (same_Some _ _ (sym (under_fault (Some (space_of_call (call_in f.purpose))) (access_in f.purpose) space count
-    (copied_page (call_in f.purpose))) ∙ ready.under)) found.resting tt refl refl meets.0 refl meets.1 (omega arith)
+    let on : space_of_call (call_in f.purpose) ≡ kept.number =
+    same_Some _ _ (sym (under_fault (Some (space_of_call (call_in f.purpose))) (access_in f.purpose) space count
+    (copied_page (call_in f.purpose))) ∙ ready.under) in (
+      record { goes_on = tt; made = refl; may = meets.1; some = omega arith },
+      IsAnswered-refusal f (StoreFault space count) kept st ready.stands on found.resting refl refl meets.0,
+    )
 
 -- There was no memory.
-Makes-no_memory : (f : Flight) (space : ℕ) (kept : Kept) (st : SpaceState) → IsReady (in_phase f (Lack space)) kept st
-    → (frames : FrameState)
-    → Makes (in_phase f (Lack space)) (in_phase f (Ended NoMemory)) kept kept st frames frames
-    (answer_entry f.processor f.number (call_in f.purpose) (refusal NoMemory))
-Makes-no_memory f space kept st ready =
-    Makes-refusal f (Lack space) NoMemory kept st ready (same_Some _ _ ready.under) ready.found tt refl refl
-    (MayFail-access st (call_in f.purpose) ready.fits.phase) refl (and_from _ _
-    (is_access_of (call_in f.purpose) (claimed_in f.purpose) ready.fits.phase) refl) (omega arith)
+ends_no_memory : (f : Flight) (space : ℕ) (kept : Kept) (st : SpaceState) → IsReady (in_phase f (Lack space)) kept st
+    → IsRefused f (Lack space) NoMemory kept st
+ends_no_memory f space kept st ready = (
+  record {
+    goes_on = tt;
+    made = refl;
+    may = and_from _ _ (is_access_of (call_in f.purpose) (claimed_in f.purpose) ready.fits.phase) refl;
+    some = omega arith;
+  },
+  IsAnswered-refusal f NoMemory kept st ready.stands (same_Some _ _ ready.under) ready.found refl refl
+      (MayFail-access st (call_in f.purpose) ready.fits.phase),
+)
 
 -- A flight that can't be served answers so.
 pub refused : (f : Flight) (reply : Reply) → Refuses f reply → (kept : Kept) (st : SpaceState) (frames : FrameState) → IsReady f kept st
     → Makes f (with_phase f (Ended reply)) kept kept st frames frames
     (answer_entry f.processor f.number (call_in f.purpose) (refusal reply))
-refused f (NoFrames wired claimed held) phase = λ kept st frames.
-    by_ready f (Short wired claimed held) kept st refl phase
-    (λ g to. Makes g (to (Ended (NoFrames wired claimed held))) kept kept st frames frames
-    (answer_entry f.processor f.number (call_in f.purpose) (refusal (NoFrames wired claimed held))))
-    (λ ready. Makes-no_frames f wired claimed held kept st ready frames)
-refused f (StoreFault space count) phase = λ kept st frames.
-    by_ready f (Fault space count) kept st refl phase
-    (λ g to. Makes g (to (Ended (StoreFault space count))) kept kept st frames frames
-    (answer_entry f.processor f.number (call_in f.purpose) (refusal (StoreFault space count))))
-    (λ ready. Makes-fault f space count kept st ready frames)
-refused f NoMemory phase = λ kept st frames.
-    by_ready f (Lack phase.0) kept st refl phase.1 (λ g to. Makes g (to (Ended NoMemory)) kept kept st frames frames
-    (answer_entry f.processor f.number (call_in f.purpose) (refusal NoMemory)))
-    (λ ready. Makes-no_memory f phase.0 kept st ready frames)
+refused f (NoFrames wired claimed held) phase = λ kept.
+    answered_in f (Short wired claimed held) (refusal (NoFrames wired claimed held)) kept kept refl phase
+    (ends_no_frames f wired claimed held kept)
+refused f (StoreFault space count) phase = λ kept.
+    answered_in f (Fault space count) (refusal (StoreFault space count)) kept kept refl phase (ends_fault f space count kept)
+refused f NoMemory phase = λ kept.
+    answered_in f (Lack phase.0) (refusal NoMemory) kept kept refl phase.1 (ends_no_memory f phase.0 kept)
 refused f reply phase = absurd phase

@@ -1,5 +1,5 @@
 -- A machine at the start of a trace.
-use Rattle.std.proofs.Common.{◌≡◌, ℕ, zero, suc, ◌+◌, ◌*◌, ◌<◌, ◌≤◌, Bool, true, false, cond, ◌==◌, not, List, [], ◌∷◌, ◌++◌, length, map, filter, replicate, length-append, get_or, slice_get, Option, Some, None, option_map, refl, ap, sym, subst, ◌∙◌, inl, inr, arith, take, ◌⊎◌}
+use Rattle.std.proofs.Common.{◌≡◌, ℕ, zero, suc, ◌+◌, ◌*◌, ◌<◌, ◌≤◌, Bool, true, false, cond, ◌==◌, not, List, [], ◌∷◌, ◌++◌, length, map, filter, replicate, get_or, slice_get, Option, Some, None, option_map, refl, ap, sym, subst, ◌∙◌, inl, inr, arith, take, ◌⊎◌}
 use Rattle.std.specs.List.{range_with_len, sum_by, enumerate_from}
 use Rattle.std.proofs.lemmas.Bool.{cases_eq, cases_lt, eq-eqb, ne_eqb}
 use Rattle.std.proofs.lemmas.List.{get_or_past, length-take-le}
@@ -9,7 +9,7 @@ use Rattle.std.proofs.lemmas.List.Folds.{sum_by-replicate}
 use Rattle.std.proofs.lemmas.List.Sums.{sum_by-cons}
 use Rattle.std.proofs.lemmas.Nat.{mul-le}
 use Rattle.std.proofs.lemmas.Option.{none-some, same_Some}
-use Rattle.std.proofs.Math.ListN.{length-map, length-replicate}
+use Rattle.std.proofs.Math.ListN.{length-map}
 use Rattle.pager_model.specs.declared.call.Call.{Call}
 use Rattle.pager_model.specs.declared.call.Call.TheVariants.{Map, Grow, Unmap, Protect, Load, Store, Sync, Evict}
 use Rattle.pager_model.specs.declared.call.Line.{Line}
@@ -21,8 +21,9 @@ use Rattle.pager_model.specs.FrameStates.{FrameState, start_frames}
 use Rattle.pager_model.specs.Order.{Progress, at_rest}
 use Rattle.pager_model.specs.Plans.{Plan}
 use Rattle.pager_model.specs.Settings.{Given, mark_of}
-use Rattle.pager_model.specs.Showing.{actors, calls_of, daemon_marks, jobs_of, marks_of, turns_of}
+use Rattle.pager_model.specs.Showing.{actors, calls_of, jobs_of, marks_of, turns_of}
 use Rattle.pager_model.specs.TraceText.{HasText, IsCall, IsDaemon}
+use Rattle.pager_model.proofs.Actors.{mark_of_caller, mark_of_daemon}
 use Rattle.pager_model.proofs.Lists.{get_or_within}
 use Rattle.pager_laws.proofs.LegalHistories.{Agrees-legal}
 use Rattle.space_core.specs.Standing.{Kept}
@@ -165,25 +166,14 @@ job_cases plan c n job at = elim (at_jobs (calls_of c plan.calls) (cond (c == pl
 
 -- The mark of a processor.
 
-mark_below : (n : ℕ) (more : List ℕ) (c : ℕ) → c < n → get_or (replicate n 0 ++ more) c 0 ≡ 0
-mark_below zero more c below = absurd (omega (arith, below))
-mark_below (suc n) more zero below = refl
-mark_below (suc n) more (suc c) below = mark_below n more c (omega (arith, below))
-
-mark_behind : (n : ℕ) (more : List ℕ) → get_or (replicate n 0 ++ more) n 0 ≡ get_or more 0 0
-mark_behind zero more = refl
-mark_behind (suc n) more = mark_behind n more
-
 pub kinds_of : (plan : Plan) → HasText plan → (c : ℕ) → AreOfMark (get_or (marks_of plan) c 0) (jobs_of c plan)
 kinds_of plan has c n job at = elim (job_cases plan c n job at) [
   | inl call ↦
       let below = calls_within plan.processors c plan.calls (λ i d within. (has.lines i d within).0) n call.0 call.2 in
-      subst (FitsMark (get_or (marks_of plan) c 0)) (sym call.1) (mark_below plan.processors (daemon_marks plan.daemon) c below)
+      subst (FitsMark (get_or (marks_of plan) c 0)) (sym call.1) (mark_of_caller plan c below)
   | inr turn ↦
       let d = turn.0 in
-      let mark : get_or (marks_of plan) c 0 ≡ d.low =
-      ap (λ k. get_or (marks_of plan) k 0) turn.2 ∙ mark_behind plan.processors (daemon_marks plan.daemon)
-      ∙ ap (λ o. get_or (daemon_marks o) 0 0) turn.1 in
+      let mark : get_or (marks_of plan) c 0 ≡ d.low = ap (λ k. get_or (marks_of plan) k 0) turn.2 ∙ mark_of_daemon plan d turn.1 in
       subst (FitsMark (get_or (marks_of plan) c 0)) (sym turn.3) (mark, (subst IsDaemon turn.1 has.daemon_in).0.0)
 ]
 
@@ -294,18 +284,6 @@ few_entries_of plan has c =
     let turns = at_most_turns plan (c == plan.processors) in
     let daemon = turns_few plan.daemon has.daemon_in in
     omega (arith, own, calls, turns, daemon, has.few)
-
--- there are at most seventeen processors
-pub actors_few : (plan : Plan) → HasText plan → actors plan ≤ 17
-actors_few plan has =
-    let all = length-append (replicate plan.processors 0) (daemon_marks plan.daemon) in
-    let some : length (replicate {A = ℕ} plan.processors 0) ≡ plan.processors = length-replicate {A = ℕ} plan.processors 0 in
-    let daemon = one_at_most plan.daemon in
-    omega (arith, all, some, daemon, has.processors_in.1)
-  where
-    one_at_most : (o : Option Daemon) → length (daemon_marks o) ≤ 1
-    one_at_most None = omega arith
-    one_at_most (Some d) = omega arith
 
 -- A processor's first flight.
 

@@ -31,7 +31,7 @@ map-reverse f (x ∷ xs) = ap (map f) (reverse_onto xs x []) ∙ map_push f (rev
     ∙ sym (reverse_onto (map f xs) (f x) [])
 
 -- stores that stand behind others, last first, come before them in their order
-pub in_order : {P : Type 0} (seen : P → Stored) (others all : List P) (own : List Stored) → map seen all ≡ map seen others ++ reverse own
+in_order : {P : Type 0} (seen : P → Stored) (others all : List P) (own : List Stored) → map seen all ≡ map seen others ++ reverse own
     → map seen (reverse all) ≡ own ++ map seen (reverse others)
 in_order seen others all own behind =
     map-reverse seen all
@@ -56,32 +56,31 @@ length-given_back seen others turned spaces are =
     let long = length-reverse others in
     omega (arith, all, both, own, left, same, long)
 
--- the last of the stores goes to a space that comes behind the others
-pub in_order-more : {P : Type 0} (seen : P → Stored) (all fewer : List P) (store : P) (spaces : List Kept) (space : Kept)
-    → map seen all ≡ map seen (fewer ++ store ∷ []) ++ reverse (map (λ (k : Kept). k.store) spaces) → space.store ≡ seen store
-    → map seen all ≡ map seen fewer ++ reverse (map (λ (k : Kept). k.store) (spaces ++ space ∷ []))
-in_order-more seen all fewer store spaces space behind is =
-    let own = reverse (map (λ (k : Kept). k.store) spaces) in
-    let turned : reverse (map (λ (k : Kept). k.store) (spaces ++ space ∷ [])) ≡ seen store ∷ own =
-    ap reverse (map_push (λ (k : Kept). k.store) spaces space) ∙ reverse-append (map (λ (k : Kept). k.store) spaces) (space.store ∷ [])
-    ∙ ap (λ x. x ∷ own) is in
-    behind ∙ ap (λ l. l ++ own) (map_push seen fewer store) ∙ append_assoc (map seen fewer) (seen store ∷ []) own
-    ∙ ap (λ l. map seen fewer ++ l) (sym turned)
-
 pub turned_back : {P : Type 0} (seen : P → Stored) (xs ys : List P) → ys ≡ reverse xs → map seen (reverse ys) ≡ map seen xs
 turned_back seen xs ys turned = ap (λ l. map seen (reverse l)) turned ∙ ap (map seen) (reverse-reverse xs)
 
--- where all but some are left, there was room for those
-pub as_long : {P : Type 0} (seen : P → Stored) (old new : List P) (n : ℕ) → map seen (reverse new) ≡ drop n (map seen (reverse old))
-    → n ≤ length old → length new + n ≡ length old
-as_long seen old new n left enough =
-    let same = ap length left in
-    let before = length-map (reverse old) seen in
-    let after = length-map (reverse new) seen in
-    let dropped = length-drop n (map seen (reverse old)) in
-    let old_long = length-reverse old in
-    let new_long = length-reverse new in
-    omega (arith, same, before, after, dropped, old_long, new_long, enough)
+-- of the stores that are left, last first, the next goes to a space that comes behind the others
+pub in_order-more : {P : Type 0} (seen : P → Stored) (left fewer : List P) (store : P) (spaces : List Kept) (space : Kept)
+    → left ≡ fewer ++ store ∷ [] → space.store ≡ seen store
+    → map (λ (k : Kept). k.store) spaces ++ map seen (reverse left)
+    ≡ map (λ (k : Kept). k.store) (spaces ++ space ∷ []) ++ map seen (reverse fewer)
+in_order-more seen left fewer store spaces space are is =
+    let own : List Stored = map (λ (k : Kept). k.store) spaces in
+    let rest : List Stored = map seen (reverse fewer) in
+    ap (λ l. own ++ map seen (reverse l)) are ∙ ap (λ l. own ++ map seen l) (reverse-append fewer (store ∷ []))
+    ∙ ap (λ x. own ++ x ∷ rest) (sym is) ∙ sym (append_assoc own (space.store ∷ []) rest)
+    ∙ ap (λ l. l ++ rest) (sym (map_push (λ (k : Kept). k.store) spaces space))
+
+-- all but those that the spaces have are left
+pub as_long : {P : Type 0} (seen : P → Stored) (all left : List P) (n : ℕ) → map seen (reverse left) ≡ drop n (map seen all)
+    → n ≤ length all → length left + n ≡ length all
+as_long seen all left n are enough =
+    let same = ap length are in
+    let before = length-map all seen in
+    let after = length-map (reverse left) seen in
+    let dropped = length-drop n (map seen all) in
+    let turned = length-reverse left in
+    omega (arith, same, before, after, dropped, turned, enough)
 
 pub slice_get-take : {X : Type 0} (n : ℕ) (xs : List X) (i : ℕ) → i < n → slice_get (take n xs) i ≡ slice_get xs i
 slice_get-take zero xs i below = absurd (omega (arith, below))
@@ -96,7 +95,15 @@ of_first f [] ys i P below all = absurd (omega (arith, below))
 of_first f (x ∷ xs) ys zero P below all = all x refl
 of_first f (x ∷ xs) ys (suc i) P below all = of_first f xs ys i P (omega (arith, below)) all
 
--- the stores that no space uses are the last
+-- the spaces use the first of the stores
+pub first_used : (spaces : List Kept) (others all : List Stored) (n : ℕ) → all ≡ map (λ (k : Kept). k.store) spaces ++ others
+    → length spaces ≡ n → map (λ (k : Kept). k.store) spaces ≡ take n all
+first_used spaces others all n are count =
+    let own : List Stored = map (λ (k : Kept). k.store) spaces in
+    sym (ap (take n) are ∙ ap (λ m. take m (own ++ others)) (sym (length-map spaces (λ (k : Kept). k.store) ∙ count))
+    ∙ take-append_seam own others)
+
+-- and those that no space uses are the last
 pub left_over : (spaces : List Kept) (others all : List Stored) (n : ℕ) → all ≡ map (λ (k : Kept). k.store) spaces ++ others
     → length spaces ≡ n → drop n all ≡ others
 left_over spaces others all n are count =
@@ -148,46 +155,28 @@ AreRoomsOver-made frames z marks stores given rooms is are zeros =
       faults = λ s store at. read_at (λ (x : Stored). x.faults) 0 stores s store at;
     })
 
+-- there are as many as the setting has spaces
+pub length-rooms : (given : Given) (stores : List Stored) (rooms : List Capacity) → AreRoomsOver given stores rooms
+    → length rooms ≡ length given.told
+length-rooms given stores rooms over =
+    let room : Capacity = record { frames = given.frames; processors = length given.marks; sizes = given.sizes } in
+    ap length over.rooms_are ∙ length-replicate (length given.told) room
+
 -- The start: each space is in one of the rooms and over the store of its number, and what the setting says of the store is so.
-pub are_new : (given : Given) (rooms : List Capacity) (spaces : List Kept) (others all : List Stored)
-    → all ≡ map (λ (k : Kept). k.store) spaces ++ others → length spaces ≡ length rooms
+pub are_new : (given : Given) (rooms : List Capacity) (spaces : List Kept) → length spaces ≡ length rooms
     → ((room : Capacity) → All (λ r. r ≡ room) rooms → AreNew room spaces)
-    → AreRoomsOver given (take (length rooms) all) rooms → AreNewSpaces given spaces
-are_new given rooms spaces others all are count each over =
-    let own : List Stored = map (λ (k : Kept). k.store) spaces in
-    let first : take (length rooms) all ≡ own =
-    ap (take (length rooms)) are ∙ ap (λ m. take m (own ++ others)) (sym (length-map spaces (λ (k : Kept). k.store) ∙ count))
-    ∙ take-append_seam own others in
+    → AreRoomsOver given (map (λ (k : Kept). k.store) spaces) rooms → AreNewSpaces given spaces
+are_new given rooms spaces count each over =
     let room : Capacity = record { frames = given.frames; processors = length given.marks; sizes = given.sizes } in
     let alike : All (λ r. r ≡ room) rooms = subst (All (λ r. r ≡ room)) (sym over.rooms_are)
     (All-replicate (λ r. r ≡ room) (length given.told) room refl) in
     record {
-      count = count ∙ ap length over.rooms_are ∙ length-replicate (length given.told) room;
+      count = count ∙ length-rooms given (map (λ (k : Kept). k.store) spaces) rooms over;
       new = λ s kept at.
-          let store : slice_get (take (length rooms) all) s ≡ Some kept.store =
-          ap (λ l. slice_get l s) first ∙ slice_get-map (λ (k : Kept). k.store) spaces s ∙ ap (option_map (λ (k : Kept). k.store)) at in
+          let store : slice_get (map (λ (k : Kept). k.store) spaces) s ≡ Some kept.store =
+          slice_get-map (λ (k : Kept). k.store) spaces s ∙ ap (option_map (λ (k : Kept). k.store)) at in
           subst (λ f. IsNew given.sizes given.frames (length given.marks) s (is_told given s) f kept) (sym (over.faults s kept.store store))
           (each room alike s kept (is_told given s) at (over.told s kept.store store));
-    }
-
--- Rooms for so many of the stores, the first, as they are once all of them are turned round.
-pub record AreRoomsTurned {P : Type 0} (seen : P → Stored) (turned : List P) (given : Given) (rooms : List Capacity) (n : ℕ) : Type 0 where
-  pub count : length rooms ≡ n
-  pub enough : length rooms ≤ length turned
-  pub over : AreRoomsOver given (take (length rooms) (map seen (reverse turned))) rooms
-
-pub turned_rooms : {P : Type 0} (seen : P → Stored) (stores turned : List P) (given : Given) (rooms : List Capacity) (n : ℕ)
-    → turned ≡ reverse stores → n ≤ length stores → length given.told ≡ n → AreRoomsOver given (take n (map seen stores)) rooms
-    → AreRoomsTurned seen turned given rooms n
-turned_rooms seen stores turned given rooms n round within told over =
-    let many : length rooms ≡ n = ap length over.rooms_are ∙ length-replicate (length given.told)
-    (record { frames = given.frames; processors = length given.marks; sizes = given.sizes }) ∙ told in
-    let long : length turned ≡ length stores = ap length round ∙ length-reverse stores in
-    record {
-      count = many;
-      enough = omega (arith, many, long, within);
-      over = subst (λ l. AreRoomsOver given l rooms) (ap (take n) (sym (turned_back seen stores turned round))
-          ∙ ap (λ m. take m (map seen (reverse turned))) (sym many)) over;
     }
 
 pub AreNew-push : (room : Capacity) (spaces more : List Kept) (space : Kept) → AreNew room spaces → more ≡ spaces ++ space ∷ []

@@ -105,31 +105,48 @@ own_wanting f page want kept st phase =
     by_ready f (Frame page want) kept st refl phase (λ g to. space_of_call (call_in g.purpose) ≡ kept.number)
     (λ ready. same_Some _ _ ready.under)
 
--- A frame of this number is taken for a page of a space, from frames and to those after it, and the page gets it.
-pub record IsTaken (from : FrameState) (was now : SpaceAndFrames) (own page frame : ℕ) (want : Want) : Type 0 where
-  pub taking : Taking
-  pub takes : take_frame from own page want ≡ Some taking
-  pub frame_is : frame ≡ taking.frame
-  pub after_is : now.frames ≡ counted taking.state
-  pub places : Places was.space now.space page taking.frame
+-- a frame, by its number, and what it is for: a page of a space, whose region wants this of it
+pub record FrameFor : Type 0 where
+  pub number : ℕ
+  pub space : ℕ
+  pub page : ℕ
+  pub want : Want
 
-pub frame_taken : (f : Flight) (page own frame : ℕ) (want : Want) (was now : SpaceAndFrames) → f.phase ≡ Frame page want
-    → own ≡ space_of_call (call_in f.purpose) → AreAgreed was.space was.frames → OwnsBy was.frames f.processor (row_of f).progress.doing
-    → IsTaken was.frames was now own page frame want → (st : SpaceState) → IsReady f was.space st
-    → Makes f (with_phase f (Fill page frame)) was.space now.space st was.frames now.frames (take_entry f.processor own page frame want)
-frame_taken f page own frame want was now phase same agree owns taken st =
+-- The frame is taken, from frames and to those after it, and its page gets it.
+pub record IsTaken (from : FrameState) (was now : SpaceAndFrames) (frame : FrameFor) : Type 0 where
+  pub taking : Taking
+  pub takes : take_frame from frame.space frame.page frame.want ≡ Some taking
+  pub number_is : frame.number ≡ taking.frame
+  pub after_is : now.frames ≡ counted taking.state
+  pub places : Places was.space now.space frame.page taking.frame
+
+-- what holds of what is taken for a space holds of the frame and of the frames after it
+pub by_taking : {from : FrameState} {was now : SpaceAndFrames} {frame : FrameFor} {space : ℕ}
+    → IsTaken from was now frame → frame.space ≡ space
+    → (P : ℕ → ℕ → FrameState → Type 0) → ((t : Taking) → take_frame from space frame.page frame.want ≡ Some t
+    → Places was.space now.space frame.page t.frame → P space t.frame (counted t.state))
+    → P frame.space frame.number now.frames
+by_taking {from} {was} {now} {frame} {space} taken same P holds =
     let t = taken.taking in
-    subst (λ n. IsReady f was.space st
-    → Makes f (with_phase f (Fill page n)) was.space now.space st was.frames now.frames (take_entry f.processor own page n want))
-    (sym taken.frame_is)
-    (subst (λ u. IsReady f was.space st
-    → Makes f (with_phase f (Fill page t.frame)) was.space now.space st was.frames u (take_entry f.processor own page t.frame want))
-    (sym taken.after_is)
-    (subst (λ s. IsReady f was.space st
-    → Makes f (with_phase f (Fill page t.frame)) was.space now.space st was.frames (counted t.state)
-    (take_entry f.processor s page t.frame want)) (sym same)
-    (by_ready f (Frame page want) was.space st refl phase
+    subst (λ n. P frame.space n now.frames) (sym taken.number_is)
+    (subst (P frame.space t.frame) (sym taken.after_is)
+    (subst (λ s. P s t.frame (counted t.state)) (sym same)
+    (holds t (ap (λ s. take_frame from s frame.page frame.want) (sym same) ∙ taken.takes) taken.places)))
+
+pub frame_taken : (f : Flight) (frame : FrameFor) (was now : SpaceAndFrames) → f.phase ≡ Frame frame.page frame.want
+    → frame.space ≡ space_of_call (call_in f.purpose) → AreAgreed was.space was.frames
+    → OwnsBy was.frames f.processor (row_of f).progress.doing
+    → IsTaken was.frames was now frame → (st : SpaceState) → IsReady f was.space st
+    → Makes f (with_phase f (Fill frame.page frame.number)) was.space now.space st was.frames now.frames
+    (take_entry f.processor frame.space frame.page frame.number frame.want)
+frame_taken f frame was now phase same agree owns taken st =
+    let page = frame.page in
+    let want = frame.want in
+    let nothing = HasNothing-wanting f page want was.frames phase owns in
+    by_taking taken same
+    (λ s n after. IsReady f was.space st
+    → Makes f (with_phase f (Fill page n)) was.space now.space st was.frames after (take_entry f.processor s page n want))
+    (λ t takes places. by_ready f (Frame page want) was.space st refl phase
     (λ g to. Makes g (to (Fill page t.frame)) was.space now.space st was.frames (counted t.state)
     (take_entry f.processor (space_of_call (call_in f.purpose)) page t.frame want))
-    (λ ready. Makes-take f page want was now.space t st ready agree (HasNothing-wanting f page want was.frames phase owns)
-    (ap (λ s. take_frame was.frames s page want) (sym same) ∙ taken.takes) taken.places))))
+    (λ ready. Makes-take f page want was now.space t st ready agree nothing takes places))

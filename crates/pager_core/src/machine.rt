@@ -100,10 +100,8 @@ impl<S: Store + Send + Drop> Machine<S> {
         let Ok(parts) = parts_of(alloc, trace, stores.as_slice()) else {
             return Err(stores);
         };
-        let mut stores = stores;
-        stores.reverse();
         let room = parts.room;
-        let spaces = room.spaces.over(&mut stores);
+        let (spaces, stores) = room.spaces.over(stores);
         Ok(Machine {
             setting: room.setting,
             jobs: parts.jobs,

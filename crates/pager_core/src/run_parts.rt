@@ -109,28 +109,29 @@ impl<S: Store + Send + Drop> SpaceRooms<S> {
         Ok(SpaceRooms { rooms, spaces })
     }
 
-    /// The spaces, each without regions, over the last of the stores, which stand last first; the others are left. It takes no memory.
-    pub fn over(self, stores: &mut Vec<S>) -> Vec<Space<S>>
-        requires enough { length self ≤ length stores.old.items }
-        ensures new { (given : Given) → AreRoomsOver given (take (length self) (map S.seen (reverse stores.old.items))) self → AreNewSpaces given result.items }
-
-        // In their order, the stores are those of the spaces and those that are left.
-        ensures stores { map S.seen (reverse stores.old.items) ≡ map (λ (k : Kept). k.store) result.items ++ map S.seen (reverse stores.new.items) }
-        ensures left { map S.seen (reverse stores.new.items) ≡ drop (length self) (map S.seen (reverse stores.old.items)) }
-        ensures capacity { vec_capacity stores.new ≡ vec_capacity stores.old }
+    /// The spaces, each without regions, over the first of the stores, and the stores that are left, last first, with the room of all.
+    /// It takes no memory.
+    pub fn over(self, stores: Vec<S>) -> (Vec<Space<S>>, Vec<S>)
+        requires enough { length self ≤ length stores.items }
+        ensures new { (given : Given) → AreRoomsOver given (take (length self) (map S.seen stores.items)) self → AreNewSpaces given result.0.items }
+        ensures used { map (λ (k : Kept). k.store) result.0.items ≡ take (length self) (map S.seen stores.items) }
+        ensures left { map S.seen (reverse result.1.items) ≡ drop (length self) (map S.seen stores.items) }
+        ensures capacity { vec_capacity result.1 ≡ vec_capacity stores }
     {
         let SpaceRooms {
             mut rooms,
             mut spaces,
         } = self;
+        let mut left = stores;
+        left.reverse();
         while let Some(room) = rooms.pop() {
             let number = spaces.len() as u32;
-            let Some(store) = stores.pop() else {
+            let Some(store) = left.pop() else {
                 unreachable!()
             };
             spaces.push_reserved(Space::over(number, room, store));
         }
-        spaces
+        (spaces, left)
     }
 }
 

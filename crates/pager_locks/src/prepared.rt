@@ -70,9 +70,7 @@ impl<S: Store + Send + Drop> Prepared<S> {
         let Ok(opened) = create(alloc, room.setting, rooms) else {
             return Err(stores);
         };
-        let mut stores = stores;
-        stores.reverse();
-        let spaces = room.spaces.over(&mut stores);
+        let (spaces, stores) = room.spaces.over(stores);
         Ok(Prepared {
             journal: opened.journal,
             authors: opened.authors,

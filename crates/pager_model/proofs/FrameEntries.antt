@@ -1,13 +1,15 @@
--- Each entry on the frames is counted once.
-use Rattle.std.proofs.Common.{◌≡◌, ℕ, ◌+◌, true, false, cond, List, [], ◌∷◌, fold, Option, Some, None, is_some, option_map, refl, ap, ◌∙◌}
+-- Entries on the frames: each is counted once, and a claim is one.
+use Rattle.std.proofs.Common.{◌≡◌, ℕ, ◌+◌, Bool, true, false, cond, List, [], ◌∷◌, fold, Option, Some, None, is_some, option_map, refl, ap, ◌∙◌}
 use Rattle.std.specs.List.{range_with_len}
 use Rattle.pager_model.specs.declared.call.Call.{Call}
 use Rattle.pager_model.specs.declared.call.Call.TheVariants.{Map, Grow, Unmap, Protect, Load, Store, Sync, Evict}
 use Rattle.pager_model.specs.declared.entry.Entry.{Entry}
+use Rattle.pager_model.specs.declared.entry.Need.{Need}
 use Rattle.pager_model.specs.declared.entry.Want.{Want}
 use Rattle.pager_model.specs.declared.entry.What.{What}
 use Rattle.pager_model.specs.declared.entry.What.TheVariants.{Answer, Out, Failed, Take, Give, Clear, Claim, UseHeld, DropHeld, Got, Unclaim, Refused, Rest}
 use Rattle.pager_model.specs.declared.reservation.Reservation.{Reservation}
+use Rattle.pager_model.specs.Entries.{ClaimIsOn}
 use Rattle.pager_model.specs.Layouts.{Placing, covering, placing}
 use Rattle.pager_model.specs.FrameStates.{FrameState, layout_of, frame_of, held_by, take_frame, taking, state_taken, given_in, give_page, give_if_used, dropped, dropped_in, named_space, moved, moved_by_answer, frames_after}
 
@@ -71,3 +73,8 @@ moved-entries st c space (Rest short) = refl
 -- an entry on the frames adds one to their count of entries
 pub frames_after-entries : (st : FrameState) (e : Entry) → (frames_after st e).entries ≡ st.entries + 1
 frames_after-entries st e = ap (λ n. n + 1) (moved-entries st e.processor e.space e.what)
+
+-- a claim names the frames, with a need or without
+pub claim_names : (need : Option Need) (space : Option ℕ) (frames : Bool) → ClaimIsOn need space frames → frames ≡ true
+claim_names None space frames on = on.1
+claim_names (Some need) space frames on = on.1

@@ -3,6 +3,7 @@ pub mod FrameEntries
 pub mod SpaceEntries
 pub mod StartFrames
 pub mod Texts
+pub mod Actors
 pub mod Lists
 pub mod Options
 pub mod TileParts

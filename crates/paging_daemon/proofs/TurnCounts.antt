@@ -9,6 +9,7 @@ use Rattle.journal_core.specs.Journals.{PassState}
 use Rattle.pager_model.specs.declared.entry.Entry.{Entry}
 use Rattle.pager_model.specs.declared.entry.Need.{Need}
 use Rattle.pager_model.specs.declared.entry.Numbered.{Numbered}
+use Rattle.pager_model.specs.declared.entry.Victim.{Victim}
 use Rattle.pager_model.specs.declared.entry.What.{What}
 use Rattle.pager_model.specs.declared.entry.What.TheVariants.{Answer, Out, Failed, Take, Give, Clear, Claim, UseHeld, DropHeld, Got, Unclaim, Refused, Rest}
 use Rattle.pager_model.specs.declared.call.Call.{Call}
@@ -81,192 +82,180 @@ led_if : (b : Bool) (o : Option Progress) (q : Progress) → cond b o None ≡ S
 led_if true o q is = is
 led_if false o q is = absurd (none-some q is)
 
--- where the entry's effect on the place is told
-goes_to : (mark made : ℕ) (doing : Doing) (what : What) (b : Bool) (n : ℕ) (d : Doing) (q : Progress) → leads b n d ≡ Some q
-    → (b ≡ true → Goes mark made doing (record { made = n; doing = d }) what) → Goes mark made doing q what
-goes_to mark made doing what b n d q is goes = (let l = led b n d q is in subst (λ x. Goes mark made doing x what) l.1 (goes l.0))
-
 never : (b : Bool) → (b && false) ≡ true → ⊥
 never true is = false≢true is
 never false is = false≢true is
-
-answers : (mark m : ℕ) (d : Doing) (q : Progress) (number : ℕ) (call : Call) (reply : Reply) (b : Bool) → InTurn mark d
-    → leads (b && may_answer d call reply) (m + 1) Idle ≡ Some q → ⊥
-answers mark m (Looking low evictions) q number call reply b place is = never b (led (b && false) (m + 1) Idle q is).0
-answers mark m (Claiming (ForTurn low evictions) v) q number call reply b place is = never b (led (b && false) (m + 1) Idle q is).0
-answers mark m (Unwritten (ForTurn low evictions) v count) q number call reply b place is = never b (led (b && false) (m + 1) Idle q is).0
-answers mark m (Emptied (ForTurn low evictions) v) q number call reply b place is = never b (led (b && false) (m + 1) Idle q is).0
-answers mark m (Holding (ForTurn low evictions) v) q number call reply b place is = never b (led (b && false) (m + 1) Idle q is).0
-answers mark m d q number call reply b place is = absurd place
 
 one_out : (written : Bool) (page : ℕ) → outs_of (Out page written) ≡ 1
 one_out true page = refl
 one_out false page = refl
 
-outs : (mark m : ℕ) (d : Doing) (q : Progress) (s page : ℕ) (written : Bool) → InTurn mark d → after_out m d s page ≡ Some q
-    → Goes mark m d q (Out page written)
-outs mark m (Claiming (ForTurn low evictions) v) q s page written place is =
-    goes_to mark m _ (Out page written) _ m (Emptied (ForTurn low evictions) v) q is
-    (λ _. (
-      place,
-      inl (record {
-        made = refl;
-        outs = (let one = one_out written page in omega (arith, one));
-        unclaims = refl;
-        faults = omega arith;
-      }),
-    ))
-outs mark m (Claiming (ForAccess a) v) q s page written place is = absurd place
-outs mark m d q s page written place is = absurd (none-some q is)
+-- A turn of this low mark, which comes behind so many: what its entry may be where it is, if it leads on.
+module _ (mark made : ℕ) (q : Progress) where
+  -- where the entry's effect on the place is told
+  goes_to : (doing : Doing) (what : What) (b : Bool) (n : ℕ) (d : Doing) → leads b n d ≡ Some q
+      → (b ≡ true → Goes mark made doing (record { made = n; doing = d }) what) → Goes mark made doing q what
+  goes_to doing what b n d is goes = (let l = led b n d q is in subst (λ x. Goes mark made doing x what) l.1 (goes l.0))
 
-fails : (mark m : ℕ) (d : Doing) (q : Progress) (s page : ℕ) (writing : Bool) (count : ℕ) → InTurn mark d
-    → after_failure m d s page writing count ≡ Some q → Goes mark m d q (Failed page writing count)
-fails mark m (Claiming (ForTurn low evictions) v) q s page writing count place is =
-    goes_to mark m _ (Failed page writing count) _ m (Unwritten (ForTurn low evictions) v count) q is
-    (λ _. (place, inl (record { made = refl; outs = omega arith; unclaims = refl; faults = omega arith })))
-fails mark m (Claiming (ForAccess a) v) q s page writing count place is = absurd place
-fails mark m Idle q s page writing count place is = absurd place
-fails mark m (Filling a frame) q s page writing count place is = absurd place
-fails mark m d q s page writing count place is = absurd (none-some q is)
+  answers : (d : Doing) (call : Call) (reply : Reply) (b : Bool) → InTurn mark d
+      → leads (b && may_answer d call reply) (made + 1) Idle ≡ Some q → ⊥
+  answers (Looking low evictions) call reply b place is = never b (led (b && false) (made + 1) Idle q is).0
+  answers (Claiming (ForTurn low evictions) v) call reply b place is = never b (led (b && false) (made + 1) Idle q is).0
+  answers (Unwritten (ForTurn low evictions) v count) call reply b place is = never b (led (b && false) (made + 1) Idle q is).0
+  answers (Emptied (ForTurn low evictions) v) call reply b place is = never b (led (b && false) (made + 1) Idle q is).0
+  answers (Holding (ForTurn low evictions) v) call reply b place is = never b (led (b && false) (made + 1) Idle q is).0
+  answers d call reply b place is = absurd place
 
-takes : (mark m : ℕ) (d : Doing) (q : Progress) (s page frame : ℕ) → InTurn mark d → after_take m d s page frame ≡ Some q → ⊥
-takes mark m Idle q s page frame place is = place
-takes mark m d q s page frame place is = none-some q is
+  outs : (d : Doing) (s page : ℕ) (written : Bool) → InTurn mark d → after_out made d s page ≡ Some q
+      → Goes mark made d q (Out page written)
+  outs (Claiming (ForTurn low evictions) v) s page written place is =
+      goes_to _ (Out page written) _ made (Emptied (ForTurn low evictions) v) is
+      (λ _. (
+        place,
+        inl (record {
+          made = refl;
+          outs = (let one = one_out written page in omega (arith, one));
+          unclaims = refl;
+          faults = omega arith;
+        }),
+      ))
+  outs (Claiming (ForAccess a) v) s page written place is = absurd place
+  outs d s page written place is = absurd (none-some q is)
 
-gives : (mark m : ℕ) (d : Doing) (q : Progress) (s page frame : ℕ) → InTurn mark d → after_give m d s page frame ≡ Some q
-    → Goes mark m d q (Give page frame)
-gives mark m (Emptied (ForTurn low evictions) v) q s page frame place is =
-    goes_to mark m _ (Give page frame) _ m (Holding (ForTurn low evictions) v) q is
-    (λ _. (place, inl (record { made = refl; outs = omega arith; unclaims = refl; faults = omega arith })))
-gives mark m (Emptied (ForAccess a) v) q s page frame place is = absurd place
-gives mark m (Unfilling a own count) q s page frame place is = absurd place
-gives mark m d q s page frame place is = absurd (none-some q is)
+  fails : (d : Doing) (s page : ℕ) (writing : Bool) (count : ℕ) → InTurn mark d → after_failure made d s page writing count ≡ Some q
+      → Goes mark made d q (Failed page writing count)
+  fails (Claiming (ForTurn low evictions) v) s page writing count place is =
+      goes_to _ (Failed page writing count) _ made (Unwritten (ForTurn low evictions) v count) is
+      (λ _. (place, inl (record { made = refl; outs = omega arith; unclaims = refl; faults = omega arith })))
+  fails (Claiming (ForAccess a) v) s page writing count place is = absurd place
+  fails Idle s page writing count place is = absurd place
+  fails (Filling a frame) s page writing count place is = absurd place
+  fails d s page writing count place is = absurd (none-some q is)
 
-clears : (mark m : ℕ) (d : Doing) (q : Progress) (s first len : ℕ) → InTurn mark d → after_clear m d s first len ≡ Some q → ⊥
-clears mark m Idle q s first len place is = place
-clears mark m d q s first len place is = none-some q is
+  takes : (d : Doing) (s page frame : ℕ) → InTurn mark d → after_take made d s page frame ≡ Some q → ⊥
+  takes Idle s page frame place is = place
+  takes d s page frame place is = none-some q is
 
-claims : (mark m : ℕ) (d : Doing) (q : Progress) (space : Option ℕ) (v page frame : ℕ) (need : Option Need) → InTurn mark d
-    → after_claim m d space (record { space = v; page = page; frame = frame }) need ≡ Some q → Goes mark m d q (Claim v page frame need)
-claims mark m (Looking low evictions) q None v page frame None place is =
-    goes_to mark m _ (Claim v page frame None) _ m (Claiming (ForTurn low evictions)
-    (record { space = v; page = page; frame = frame })) q is
-    (λ fewer. (
-      (place.0, (let less = ltb-true evictions low fewer in omega (arith, less, place.0))),
-      inl (record { made = refl; outs = omega arith; unclaims = refl; faults = omega arith }),
-    ))
-claims mark m (Looking low evictions) q None v page frame (Some need) place is = absurd (none-some q is)
-claims mark m (Looking low evictions) q (Some s) v page frame need place is = absurd (none-some q is)
-claims mark m Idle q space v page frame need place is = absurd place
-claims mark m d q space v page frame need place is = absurd (none-some q is)
+  gives : (d : Doing) (s page frame : ℕ) → InTurn mark d → after_give made d s page frame ≡ Some q → Goes mark made d q (Give page frame)
+  gives (Emptied (ForTurn low evictions) v) s page frame place is =
+      goes_to _ (Give page frame) _ made (Holding (ForTurn low evictions) v) is
+      (λ _. (place, inl (record { made = refl; outs = omega arith; unclaims = refl; faults = omega arith })))
+  gives (Emptied (ForAccess a) v) s page frame place is = absurd place
+  gives (Unfilling a own count) s page frame place is = absurd place
+  gives d s page frame place is = absurd (none-some q is)
 
-uses : (mark m : ℕ) (d : Doing) (q : Progress) (s page frame : ℕ) → InTurn mark d → after_use m d s page frame ≡ Some q → ⊥
-uses mark m (Holding (ForAccess a) v) q s page frame place is = place
-uses mark m (Holding (ForTurn low evictions) v) q s page frame place is = none-some q is
-uses mark m d q s page frame place is = none-some q is
+  clears : (d : Doing) (s first len : ℕ) → InTurn mark d → after_clear made d s first len ≡ Some q → ⊥
+  clears Idle s first len place is = place
+  clears d s first len place is = none-some q is
 
-drops : (mark m : ℕ) (d : Doing) (q : Progress) (frame : ℕ) → InTurn mark d → after_drop m d frame ≡ Some q
-    → Goes mark m d q (DropHeld frame)
-drops mark m (Holding (ForTurn low evictions) v) q frame place is =
-    goes_to mark m _ (DropHeld frame) true m (Looking low (evictions + 1)) q
-    (led_if (eqb frame v.frame) (leads true m (Looking low (evictions + 1))) q is)
-    (λ _. (
-      (place.0, (let less = place.1 in omega (arith, less))),
-      inl
-          (record { made = refl; outs = omega arith; unclaims = refl; faults = omega arith }),
-    ))
-drops mark m (Holding (ForAccess a) v) q frame place is = absurd place
-drops mark m d q frame place is = absurd (none-some q is)
+  claims : (d : Doing) (space : Option ℕ) (v : Victim) (need : Option Need) → InTurn mark d → after_claim made d space v need ≡ Some q
+      → Goes mark made d q (Claim v.space v.page v.frame need)
+  claims (Looking low evictions) None v None place is =
+      goes_to _ (Claim v.space v.page v.frame None) _ made (Claiming (ForTurn low evictions) v) is
+      (λ fewer. (
+        (place.0, (let less = ltb-true evictions low fewer in omega (arith, less, place.0))),
+        inl (record { made = refl; outs = omega arith; unclaims = refl; faults = omega arith }),
+      ))
+  claims (Looking low evictions) None v (Some need) place is = absurd (none-some q is)
+  claims (Looking low evictions) (Some s) v need place is = absurd (none-some q is)
+  claims Idle space v need place is = absurd place
+  claims d space v need place is = absurd (none-some q is)
 
-gots : (mark m : ℕ) (d : Doing) (q : Progress) (frame : ℕ) → InTurn mark d → after_got m d frame ≡ Some q → Goes mark m d q (Got frame)
-gots mark m (Claiming (ForTurn low evictions) v) q frame place is =
-    goes_to mark m _ (Got frame) _ m (Holding (ForTurn low evictions) v) q is
-    (λ _. (place, inl (record { made = refl; outs = omega arith; unclaims = refl; faults = omega arith })))
-gots mark m (Claiming (ForAccess a) v) q frame place is = absurd place
-gots mark m d q frame place is = absurd (none-some q is)
+  uses : (d : Doing) (s page frame : ℕ) → InTurn mark d → after_use made d s page frame ≡ Some q → ⊥
+  uses (Holding (ForAccess a) v) s page frame place is = place
+  uses (Holding (ForTurn low evictions) v) s page frame place is = none-some q is
+  uses d s page frame place is = none-some q is
 
-unclaims : (mark m : ℕ) (d : Doing) (q : Progress) (s frame : ℕ) → InTurn mark d → after_unclaim m d s frame ≡ Some q
-    → Goes mark m d q (Unclaim frame)
-unclaims mark m (Claiming (ForTurn low evictions) v) q s frame place is =
-    goes_to mark m _ (Unclaim frame) true (m + 1) (Looking low 0) q (led_if (eqb s v.space && eqb frame v.frame)
-    (leads true (m + 1) (Looking low 0)) q is)
-    (λ _. (
-      (place.0, omega arith),
-      inr
-          (record {
-            made = refl;
-            outs = refl;
-            most = (let less = place.1 in omega (arith, less));
-            none_used = refl;
-            unclaims = omega arith;
-            faults = refl;
-            given_up = omega arith;
-            none_failed = refl;
-          }),
-    ))
-unclaims mark m (Unwritten (ForTurn low evictions) v count) q s frame place is =
-    goes_to mark m _ (Unclaim frame) true (m + 1) (Looking low 0) q (led_if (eqb s v.space && eqb frame v.frame)
-    (leads true (m + 1) (Looking low 0)) q is)
-    (λ _. (
-      (place.0, omega arith),
-      inr
-          (record {
-            made = refl;
-            outs = refl;
-            most = (let less = place.1 in omega (arith, less));
-            none_used = refl;
-            unclaims = omega arith;
-            faults = refl;
-            given_up = omega arith;
-            none_failed = refl;
-          }),
-    ))
-unclaims mark m (Claiming (ForAccess a) v) q s frame place is = absurd place
-unclaims mark m (Unwritten (ForAccess a) v count) q s frame place is = absurd place
-unclaims mark m d q s frame place is = absurd (none-some q is)
+  drops : (d : Doing) (frame : ℕ) → InTurn mark d → after_drop made d frame ≡ Some q → Goes mark made d q (DropHeld frame)
+  drops (Holding (ForTurn low evictions) v) frame place is =
+      goes_to _ (DropHeld frame) true made (Looking low (evictions + 1))
+      (led_if (eqb frame v.frame) (leads true made (Looking low (evictions + 1))) q is)
+      (λ _. (
+        (place.0, (let less = place.1 in omega (arith, less))),
+        inl
+            (record { made = refl; outs = omega arith; unclaims = refl; faults = omega arith }),
+      ))
+  drops (Holding (ForAccess a) v) frame place is = absurd place
+  drops d frame place is = absurd (none-some q is)
 
-refuses : (mark m : ℕ) (d : Doing) (q : Progress) (wired claimed held : ℕ) → InTurn mark d → after_refusal m d wired claimed held ≡ Some q
-    → ⊥
-refuses mark m Idle q wired claimed held place is = place
-refuses mark m d q wired claimed held place is = none-some q is
+  gots : (d : Doing) (frame : ℕ) → InTurn mark d → after_got made d frame ≡ Some q → Goes mark made d q (Got frame)
+  gots (Claiming (ForTurn low evictions) v) frame place is =
+      goes_to _ (Got frame) _ made (Holding (ForTurn low evictions) v) is
+      (λ _. (place, inl (record { made = refl; outs = omega arith; unclaims = refl; faults = omega arith })))
+  gots (Claiming (ForAccess a) v) frame place is = absurd place
+  gots d frame place is = absurd (none-some q is)
 
-rests : (mark m : ℕ) (d : Doing) (q : Progress) (short : Bool) → InTurn mark d → after_rest m d short ≡ Some q
-    → Goes mark m d q (Rest short)
-rests mark m (Looking low evictions) q short place is =
-    goes_to mark m _ (Rest short) _ (m + 1) (Looking low 0) q is
-    (λ _. (
-      (place.0, omega arith),
-      inr
-          (record {
-            made = refl;
-            outs = refl;
-            most = place.1;
-            none_used = refl;
-            unclaims = omega arith;
-            faults = refl;
-            given_up = omega arith;
-            none_failed = refl;
-          }),
-    ))
-rests mark m d q short place is = absurd (none-some q is)
+  -- a claim that is given up ends the turn, whether the write failed or found no memory
+  gives_up : (d : Doing) (low evictions frame : ℕ) (b : Bool) → (low ≡ mark) × (evictions < mark) → used d ≡ evictions → failed d ≤ 1
+      → cond b (leads true (made + 1) (Looking low 0)) None ≡ Some q → Goes mark made d q (Unclaim frame)
+  gives_up d low evictions frame b place so_far few is =
+      goes_to d (Unclaim frame) true (made + 1) (Looking low 0) (led_if b (leads true (made + 1) (Looking low 0)) q is)
+      (λ _. (
+        (place.0, omega arith),
+        inr
+            (record {
+              made = refl;
+              outs = refl;
+              most = (let less = place.1 in omega (arith, less, so_far));
+              none_used = refl;
+              unclaims = omega arith;
+              faults = refl;
+              given_up = few;
+              none_failed = refl;
+            }),
+      ))
+
+  unclaims : (d : Doing) (s frame : ℕ) → InTurn mark d → after_unclaim made d s frame ≡ Some q → Goes mark made d q (Unclaim frame)
+  unclaims (Claiming (ForTurn low evictions) v) s frame place is =
+      gives_up (Claiming (ForTurn low evictions) v) low evictions frame (eqb s v.space && eqb frame v.frame) place refl (omega arith) is
+  unclaims (Unwritten (ForTurn low evictions) v count) s frame place is =
+      gives_up (Unwritten (ForTurn low evictions) v count) low evictions frame (eqb s v.space && eqb frame v.frame) place refl
+      (omega arith) is
+  unclaims (Claiming (ForAccess a) v) s frame place is = absurd place
+  unclaims (Unwritten (ForAccess a) v count) s frame place is = absurd place
+  unclaims d s frame place is = absurd (none-some q is)
+
+  refuses : (d : Doing) (wired claimed held : ℕ) → InTurn mark d → after_refusal made d wired claimed held ≡ Some q → ⊥
+  refuses Idle wired claimed held place is = place
+  refuses d wired claimed held place is = none-some q is
+
+  rests : (d : Doing) (short : Bool) → InTurn mark d → after_rest made d short ≡ Some q → Goes mark made d q (Rest short)
+  rests (Looking low evictions) short place is =
+      goes_to _ (Rest short) _ (made + 1) (Looking low 0) is
+      (λ _. (
+        (place.0, omega arith),
+        inr
+            (record {
+              made = refl;
+              outs = refl;
+              most = place.1;
+              none_used = refl;
+              unclaims = omega arith;
+              faults = refl;
+              given_up = omega arith;
+              none_failed = refl;
+            }),
+      ))
+  rests d short place is = absurd (none-some q is)
 
 -- one entry
 goes : (mark : ℕ) (p q : Progress) (space : Option ℕ) (what : What) → InTurn mark p.doing → progress_after p space what ≡ Some q
     → Goes mark p.made p.doing q what
-goes mark p q space (Answer number call answered) place is = absurd (answers mark p.made p.doing q number call answered.reply
-    (eqb number p.made) place is)
-goes mark p q (Some s) (Out page written) place is = outs mark p.made p.doing q s page written place is
-goes mark p q (Some s) (Failed page writing count) place is = fails mark p.made p.doing q s page writing count place is
-goes mark p q (Some s) (Take page frame want) place is = absurd (takes mark p.made p.doing q s page frame place is)
-goes mark p q (Some s) (Give page frame) place is = gives mark p.made p.doing q s page frame place is
-goes mark p q (Some s) (Clear first len) place is = absurd (clears mark p.made p.doing q s first len place is)
-goes mark p q (Some s) (UseHeld page frame want) place is = absurd (uses mark p.made p.doing q s page frame place is)
-goes mark p q (Some s) (Unclaim frame) place is = unclaims mark p.made p.doing q s frame place is
-goes mark p q space (Claim victim page frame need) place is = claims mark p.made p.doing q space victim page frame need place is
-goes mark p q space (DropHeld frame) place is = drops mark p.made p.doing q frame place is
-goes mark p q space (Got frame) place is = gots mark p.made p.doing q frame place is
-goes mark p q space (Refused wired claimed held) place is = absurd (refuses mark p.made p.doing q wired claimed held place is)
-goes mark p q space (Rest short) place is = rests mark p.made p.doing q short place is
+goes mark p q space (Answer number call answered) place is =
+    absurd (answers mark p.made q p.doing call answered.reply (eqb number p.made) place is)
+goes mark p q (Some s) (Out page written) place is = outs mark p.made q p.doing s page written place is
+goes mark p q (Some s) (Failed page writing count) place is = fails mark p.made q p.doing s page writing count place is
+goes mark p q (Some s) (Take page frame want) place is = absurd (takes mark p.made q p.doing s page frame place is)
+goes mark p q (Some s) (Give page frame) place is = gives mark p.made q p.doing s page frame place is
+goes mark p q (Some s) (Clear first len) place is = absurd (clears mark p.made q p.doing s first len place is)
+goes mark p q (Some s) (UseHeld page frame want) place is = absurd (uses mark p.made q p.doing s page frame place is)
+goes mark p q (Some s) (Unclaim frame) place is = unclaims mark p.made q p.doing s frame place is
+goes mark p q space (Claim victim page frame need) place is =
+    claims mark p.made q p.doing space (record { space = victim; page = page; frame = frame }) need place is
+goes mark p q space (DropHeld frame) place is = drops mark p.made q p.doing frame place is
+goes mark p q space (Got frame) place is = gots mark p.made q p.doing frame place is
+goes mark p q space (Refused wired claimed held) place is = absurd (refuses mark p.made q p.doing wired claimed held place is)
+goes mark p q space (Rest short) place is = rests mark p.made q p.doing short place is
 goes mark p q None (Out page written) place is = absurd (none-some q is)
 goes mark p q None (Failed page writing count) place is = absurd (none-some q is)
 goes mark p q None (Take page frame want) place is = absurd (none-some q is)

@@ -23,7 +23,8 @@ use Rattle.pager_model.specs.Legal.{progress_in, progress_at, entries_in}
 use Rattle.pager_model.specs.Order.{Progress, at_rest, progress_from}
 use Rattle.pager_model.specs.Plans.{Plan}
 use Rattle.pager_model.specs.Settings.{mark_of}
-use Rattle.pager_model.specs.Showing.{actors, answer_in, daemon_marks, answers_in, calls_of, jobs_of, IsSequence, IsTurn, AreTurns, FilesLines, FilesBy, IsFiled}
+use Rattle.pager_model.specs.Showing.{actors, answer_in, answers_in, calls_of, jobs_of, marks_of, IsSequence, IsTurn, AreTurns, FilesLines, FilesBy, IsFiled}
+use Rattle.pager_model.proofs.Actors.{actors_alone, actors_most, daemon_known, mark_of_caller, mark_of_daemon, processor_known}
 use Rattle.pager_model.proofs.Histories.{progress_from-append}
 use Rattle.pager_model.specs.TraceText.{HasText, IsLine}
 use Rattle.pager_model.specs.Stores.{setting_over}
@@ -33,7 +34,7 @@ use Rattle.pager_core.proofs.Lists.{enumerate-push}
 use Rattle.pager_core.proofs.StartMachines.{kinds_of}
 use Rattle.replay_core.specs.Replays.{NoneKeeps, IsBetween, DidJob, DidNext, DidJobs, DidRest}
 use Rattle.replay_core.proofs.WholeJobs.{IsNew-flight_of, at_rest_by, none_left, past}
-use Rattle.replay_core.proofs.RunLemmas.{IsRunOf, calls_alone, jobs_known, jobs_of_calls, jobs_of_daemon, length-jobs, mark_of_caller, mark_of_daemon, daemon_known, processor_known}
+use Rattle.replay_core.proofs.RunLemmas.{IsRunOf, calls_alone, jobs_known, jobs_of_calls, jobs_of_daemon, length-jobs}
 
 -- Sequences and turns, and the pieces of a history.
 
@@ -255,17 +256,6 @@ pub between_by : (plan : Plan) → HasText plan → (stores : List Stored) (run 
 between_by plan has stores run of c n at few =
     at ∙ ap (λ m. flight_of c m (jobs_at run.jobs c)) (sym (made_by plan has stores run of c n at few))
 
-one_at_most : (o : Option Daemon) → length (daemon_marks o) ≤ 1
-one_at_most None = omega arith
-one_at_most (Some d) = omega arith
-
-actors_most : (plan : Plan) → actors plan ≤ plan.processors + 1
-actors_most plan =
-    let all = length-append (replicate {A = ℕ} plan.processors 0) (daemon_marks plan.daemon) in
-    let some = length-replicate {A = ℕ} plan.processors 0 in
-    let one = one_at_most plan.daemon in
-    omega (arith, all, some, one)
-
 -- no line moves the daemon, and no turn moves the lines' processors
 moved : (run new : Running) (c d n m : ℕ) → DidJob run new c n → d ≢ c → flight_at run.flights d ≡ flight_of d m (jobs_at run.jobs d)
     → flight_at new.flights d ≡ flight_of d m (jobs_at new.jobs d)
@@ -482,10 +472,10 @@ module _ (plan : Plan) (has : HasText plan) (stores : List Stored) (k : ℕ) (ru
       (processor_known plan here.line.processor here.known)
 
   marked_line : mark_of run.given here.line.processor ≡ 0
-  marked_line = ap (λ g. mark_of g here.line.processor) now.filed.of.given ∙ mark_of_caller plan stores here.line.processor here.known
+  marked_line = ap (λ g. mark_of g here.line.processor) now.filed.of.given ∙ mark_of_caller plan here.line.processor here.known
 
   are_calls : AreOfMark 0 (jobs_at run.jobs here.line.processor)
-  are_calls = subst (λ m. AreOfMark m (jobs_at run.jobs here.line.processor)) (mark_of_caller plan stores here.line.processor here.known)
+  are_calls = subst (λ m. AreOfMark m (jobs_at run.jobs here.line.processor)) (mark_of_caller plan here.line.processor here.known)
       (are_of plan has stores run now.filed.of here.line.processor)
 
   pub Filing-line : (new : Running) → DidJob run new here.line.processor (progress_of_actor run here.line.processor).made
@@ -590,20 +580,14 @@ module _ (plan : Plan) (has : HasText plan) (stores : List Stored) (t : ℕ) (ru
   -- and the whole run is the trace's
   by_daemon : (o : Option Daemon) → plan.daemon ≡ o → FilesBy plan o (entries_in run.history)
   by_daemon None is =
-      let count : length run.jobs ≡ plan.processors = length-jobs plan run.jobs now.of.jobs
-      ∙ length-append (replicate {A = ℕ} plan.processors 0) (daemon_marks plan.daemon)
-      ∙ ap (λ o. length (replicate {A = ℕ} plan.processors 0) + length (daemon_marks o)) is
-      ∙ (let some = length-replicate {A = ℕ} plan.processors 0 in
-      let e : length (replicate {A = ℕ} plan.processors 0) + 0 ≡ plan.processors = omega (arith, some) in e) in
-      let zero_turns : t ≡ 0 = turns_all ∙ ap length (get_or_past run.jobs plan.processors [] (omega (arith, count))) in
+      let alone = actors_alone plan is in
+      let count = length-jobs plan run.jobs now.of.jobs in
+      let zero_turns : t ≡ 0 = turns_all ∙ ap length (get_or_past run.jobs plan.processors [] (omega (arith, count, alone))) in
       let zero_mark : mark_of (setting_over plan stores) plan.processors ≡ 0 =
-      ap (λ o. get_or (replicate plan.processors 0 ++ daemon_marks o) plan.processors 0) is
-      ∙ get_or_past (replicate plan.processors 0 ++ []) plan.processors 0
-      (let long = length-append (replicate {A = ℕ} plan.processors 0) [] in let some = length-replicate {A = ℕ} plan.processors 0 in
-      omega (arith, long, some)) in
+      get_or_past (marks_of plan) plan.processors 0 (omega (arith, alone)) in
       files 0 0 zero_mark zero_turns
   by_daemon (Some d) is =
-      files d.low d.turns (mark_of_daemon plan stores d is)
+      files d.low d.turns (mark_of_daemon plan d is)
       (turns_all ∙ ap length (jobs_known plan run.jobs now.of.jobs plan.processors (daemon_known plan d is) ∙ jobs_of_daemon plan has d is)
       ∙ length-replicate {A = Job} d.turns (Turn d.low))
 

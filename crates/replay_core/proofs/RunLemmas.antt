@@ -1,9 +1,9 @@
 -- A machine in the middle of a trace's run, and what its whole run is.
-use Rattle.std.proofs.Common.{◌≡◌, ℕ, zero, suc, ◌<◌, ◌≤◌, ◌⊎◌, inl, inr, List, [], ◌∷◌, ◌++◌, ◌==◌, cond, length, length-append, take, drop, map, filter, replicate, get_or, slice_get, Option, Some, None, IsSomeAnd, refl, sym, ap, subst, ◌∙◌, arith}
+use Rattle.std.proofs.Common.{◌≡◌, ℕ, zero, suc, ◌<◌, ◌≤◌, ◌⊎◌, inl, inr, List, [], ◌∷◌, ◌++◌, ◌==◌, cond, length, take, drop, map, filter, replicate, get_or, slice_get, Option, Some, None, IsSomeAnd, refl, sym, ap, subst, ◌∙◌, arith}
 use Rattle.std.proofs.lemmas.Bool.{cases_lt, eq-eqb, ne_eqb}
 use Rattle.std.proofs.lemmas.Option.{same_Some, slice_get_cases}
 use Rattle.std.proofs.Math.ListN.{length-map}
-use Rattle.std.proofs.lemmas.List.{append-nil, get_or-replicate, get_or_append_left, length-replicate, length-take-le}
+use Rattle.std.proofs.lemmas.List.{append-nil, length-replicate, length-take-le}
 use Rattle.std.proofs.lemmas.List.FromFn.{get_or-map-range_with_len, length-map-range_with_len}
 use Rattle.std.specs.List.{enumerate_from, range_with_len}
 use Rattle.pager_model.specs.declared.call.Call.{Call}
@@ -13,7 +13,7 @@ use Rattle.pager_model.specs.Counts.{counts}
 use Rattle.pager_model.specs.Legal.{entries_in}
 use Rattle.pager_model.specs.Plans.{Plan}
 use Rattle.pager_model.specs.Settings.{Given, faults_at_entry, mark_of}
-use Rattle.pager_model.specs.Showing.{actors, calls_of, daemon_marks, jobs_of, turns_of, MakesTurns, Shows}
+use Rattle.pager_model.specs.Showing.{actors, calls_of, jobs_of, turns_of, MakesTurns, Shows}
 use Rattle.pager_model.specs.TraceText.{HasText}
 use Rattle.pager_model.specs.Entries.{entries_of}
 use Rattle.pager_model.specs.Order.{at_rest, progress_of}
@@ -24,6 +24,7 @@ use Rattle.pager_model.specs.declared.trace.Job.TheVariants.{Call as MakesCall, 
 use Rattle.pager_model.specs.SpaceStates.{Rises, last_count}
 use Rattle.pager_model.specs.Stores.{setting_over, EndsWith, StoresEnd, AreCapped}
 use Rattle.pager_model.specs.Stored.{Stored}
+use Rattle.pager_model.proofs.Actors.{daemon_known, mark_of_caller, mark_of_daemon, processor_known}
 use Rattle.pager_laws.proofs.OldestBroken.{PreemptsOldest-legal}
 use Rattle.pager_laws.proofs.OrderedRefusals.{IsNeverShort-legal, RefusesRightly-legal}
 use Rattle.pager_core.specs.Running.{Running, calls_among, jobs_at, IsLawful, IsWholeRun}
@@ -49,13 +50,7 @@ pub length-jobs : (plan : Plan) (jobs : List (List Job)) → jobs ≡ map (λ c.
     → length jobs ≡ actors plan
 length-jobs plan jobs are = ap length are ∙ length-map-range_with_len (λ c. jobs_of c plan) 0 (actors plan)
 
--- A processor that makes calls is one of them, and its jobs are its calls; the daemon comes behind those.
-
-pub processor_known : (plan : Plan) (c : ℕ) → c < plan.processors → c < actors plan
-processor_known plan c known =
-    let all = length-append (replicate {A = ℕ} plan.processors 0) (daemon_marks plan.daemon) in
-    let some = length-replicate {A = ℕ} plan.processors 0 in
-    omega (arith, all, some, known)
+-- The jobs of a processor that makes calls are its calls, and the daemon's are its turns.
 
 pub calls_alone : (calls : List Call) → calls_among (map MakesCall calls) ≡ calls
 calls_alone [] = refl
@@ -69,29 +64,6 @@ jobs_of_calls plan c known =
 
 pub calls_of_jobs : (plan : Plan) (c : ℕ) → c < plan.processors → calls_among (jobs_of c plan) ≡ calls_of c plan.calls
 calls_of_jobs plan c known = ap calls_among (jobs_of_calls plan c known) ∙ calls_alone (calls_of c plan.calls)
-
-pub mark_of_caller : (plan : Plan) (stores : List Stored) (c : ℕ) → c < plan.processors → mark_of (setting_over plan stores) c ≡ 0
-mark_of_caller plan stores c known =
-    get_or_append_left (replicate plan.processors 0) (daemon_marks plan.daemon) 0 c
-    (subst (λ n. c < n) (sym (length-replicate {A = ℕ} plan.processors 0)) known)
-    ∙ get_or-replicate plan.processors c 0 0 known
-
--- the daemon of a trace, its mark and its turns
-pub mark_of_daemon : (plan : Plan) (stores : List Stored) (d : Daemon) → plan.daemon ≡ Some d
-    → mark_of (setting_over plan stores) plan.processors ≡ d.low
-mark_of_daemon plan stores d is =
-    ap (λ o. get_or (replicate plan.processors 0 ++ daemon_marks o) plan.processors 0) is ∙ behind plan.processors
-  where
-    behind : (n : ℕ) → get_or (replicate n 0 ++ d.low ∷ []) n 0 ≡ d.low
-    behind zero = refl
-    behind (suc n) = behind n
-
-pub daemon_known : (plan : Plan) (d : Daemon) → plan.daemon ≡ Some d → plan.processors < actors plan
-daemon_known plan d is =
-    let all = length-append (replicate {A = ℕ} plan.processors 0) (daemon_marks plan.daemon) in
-    let some = length-replicate {A = ℕ} plan.processors 0 in
-    let one : length (daemon_marks plan.daemon) ≡ 1 = ap (λ o. length (daemon_marks o)) is in
-    omega (arith, all, some, one)
 
 -- no line is of the daemon's number
 no_calls : (most : ℕ) (lines : List Line) → ((i : ℕ) (d : Line) → i < length lines → (get_or lines i d).processor < most)
@@ -176,7 +148,7 @@ module _ (plan : Plan) (has : HasText plan) (stores : List Stored) (jobs : List 
   turns_made : (o : Option Daemon) → plan.daemon ≡ o → MakesTurns plan o (entries_in history)
   turns_made None is = tt
   turns_made (Some d) is =
-      ended_at plan.processors d.low (daemon_known plan d is) (mark_of_daemon plan stores d is)
+      ended_at plan.processors d.low (daemon_known plan d is) (mark_of_daemon plan d is)
       ∙ ap (λ own. Some (at_rest d.low (length own))) (jobs_of_daemon plan has d is)
       ∙ ap (λ n. Some (at_rest d.low n)) (length-replicate {A = Job} d.turns (Turn d.low))
 
@@ -186,7 +158,7 @@ module _ (plan : Plan) (has : HasText plan) (stores : List Stored) (jobs : List 
         let knows = processor_known plan c known in (
           whole.answers c (there c knows) ∙ ap (λ own. enumerate_from 0 (calls_among own)) (jobs_known plan jobs are c knows)
               ∙ ap (enumerate_from 0) (calls_of_jobs plan c known),
-          (length (jobs_of c plan), ended_at c 0 knows (mark_of_caller plan stores c known)),
+          (length (jobs_of c plan), ended_at c 0 knows (mark_of_caller plan c known)),
         );
     turns = turns_made plan.daemon refl;
   }

@@ -23,12 +23,13 @@ use Rattle.pager_model.specs.SizeSets.{SizeSet}
 use Rattle.pager_model.specs.Stored.{Stored}
 use Rattle.pager_core.specs.Machines.{CanDo, most_entries}
 use Rattle.pager_core.specs.Running.{AreOfMark, jobs_at, IsWholeRun}
-use Rattle.pager_core.proofs.StartMachines.{actors_few, can_do, few_entries_of, kinds_of}
+use Rattle.pager_model.proofs.Actors.{actors_few, processor_known}
+use Rattle.pager_core.proofs.StartMachines.{can_do, few_entries_of, kinds_of}
 use Rattle.pager_core.proofs.Stores.{slice_get-take}
 use Rattle.pager_locks.specs.Prepared.{PreparedState}
 use Rattle.replay_core.specs.Jobs.{room_for, IsPreparedFor}
 use Rattle.replay_core.specs.Replays.{IsReplay, AreItsCounts}
-use Rattle.replay_core.proofs.RunLemmas.{jobs_known, length-jobs, processor_known, IsReplay-of}
+use Rattle.replay_core.proofs.RunLemmas.{jobs_known, length-jobs, IsReplay-of}
 
 -- The jobs of each processor.
 module _ (plan : Plan) (trace : HasText plan) (jobs : List (List Job)) (are : jobs ≡ map (λ c. jobs_of c plan) (range_with_len 0 (actors plan))) where

@@ -49,19 +49,19 @@ from_both P ys all more a b none first second of =
     let both : All P (a ∷ b ∷ []) = subst (All P) (listed ys all more a b none first second) of in
     (both 0 a (omega arith), both 1 a (omega arith))
 
-module _ (j : JournalName) (c : ℕ) (p q : PassState) (call : Call) (reply : Reply) (new : p ≡ new_pass j c 8) (makes : MakesCall j.setting p q call reply) where
-  number : q.processor ≡ c
-  number = makes.processor ∙ ap (λ (x : PassState). x.processor) new
+pub MakesCall-new : (j : JournalName) (c : ℕ) (p q : PassState) (call : Call) (reply : Reply) → p ≡ new_pass j c 8
+    → MakesCall j.setting p q call reply → MakesCall j.setting (new_pass j c 8) q call reply
+MakesCall-new j c p q call reply new makes = subst (λ x. MakesCall j.setting x q call reply) new makes
 
+-- what a pass shows that made a call, as its first
+module _ (j : JournalName) (c : ℕ) (q : PassState) (call : Call) (reply : Reply) (makes : MakesCall j.setting (new_pass j c 8) q call reply) where
   pub IsWhole-made : mark_of j.setting c ≡ 0 → IsWhole (mark_of j.setting q.processor) (entries_in q.entries)
-  IsWhole-made mark = subst (λ m. IsWhole m (entries_in q.entries)) (sym (ap (mark_of j.setting) number ∙ mark)) makes.whole
+  IsWhole-made mark = subst (λ m. IsWhole m (entries_in q.entries)) (sym (ap (mark_of j.setting) makes.processor ∙ mark)) makes.whole
 
   -- its answers are the one of this call
   pub answers-made : (h : List Entry) → IsOwnOf q h → answers_in (entries_of c h) ≡ (0, call) ∷ []
   answers-made h own =
       let first : makes.sequence.made ≡ 0 =
-      ap (λ (x : Progress). x.made) (same_Some (at_rest 0 makes.sequence.made) (at_rest 0 0)
-      (sym makes.before ∙ ap (λ (x : PassState). progress_of 0 (entries_in x.entries)) new)) in
-      let entries : q.entries ≡ makes.piece = makes.entries ∙ ap (λ (x : PassState). x.entries ++ makes.piece) new in
-      ap (λ n. answers_in (entries_of n h)) (sym number) ∙ ap answers_in (sym own.1)
-      ∙ ap (λ (l : List Numbered). answers_in (entries_in l)) entries ∙ makes.sequence.answer ∙ ap (λ n. (n, call) ∷ []) first
+      ap (λ (x : Progress). x.made) (same_Some (at_rest 0 makes.sequence.made) (at_rest 0 0) (sym makes.before)) in
+      ap (λ n. answers_in (entries_of n h)) (sym makes.processor) ∙ ap answers_in (sym own.1)
+      ∙ ap (λ (l : List Numbered). answers_in (entries_in l)) makes.entries ∙ makes.sequence.answer ∙ ap (λ n. (n, call) ∷ []) first

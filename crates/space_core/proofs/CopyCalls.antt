@@ -269,7 +269,7 @@ pub record PagesOut (old new : Kept) (page : ℕ) : Type 0 where
 -- the page's copy is saved, and the page gives its frame up next
 pub begins_evicting : (old mid new : Kept) (page : ℕ) (written : Bool) → IsResting old → page < 1048576
     → is_unwired (region_at old.regions page) ≡ true → frame_at old page ≢ None → Saves old mid page written → PagesOut mid new page
-    → BeginsEvicting old new (Evict old.number page) page written
+    → BeginsEvicting old new (Evict old.number page) page
 begins_evicting old mid new page written resting in_space unwired resident saves outs =
     let stored = store_frames old mid saves.same in
     let rested = store_resting old mid saves.same resting in
@@ -286,7 +286,6 @@ begins_evicting old mid new page written resting in_space unwired resident saves
     let frame : (p : ℕ) → frame_at new p ≡ frame_at old p = λ p. ap (λ t. frame_in t p) table in
     record {
       is_evict = (old.number, refl);
-      was = saves.was;
       evicting = record {
         in_space = in_space;
         paged = outs.paged;

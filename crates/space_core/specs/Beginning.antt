@@ -119,9 +119,8 @@ pub record IsEvicting (kept : Kept) (page : ℕ) : Type 0 where
   pub none_clearing : kept.clearing ≡ None
 
 -- The call is a lawful evict of a resident page, whose copy was written where the page was dirty.
-pub record BeginsEvicting (old new : Kept) (call : Call) (page : ℕ) (written : Bool) : Type 0 where
+pub record BeginsEvicting (old new : Kept) (call : Call) (page : ℕ) : Type 0 where
   pub is_evict : (space : ℕ) × (call ≡ Evict space page)
-  pub was : dirty_at old page ≡ written
   pub evicting : IsEvicting new page
   pub same : SameFrames old new
   pub unread : new.reads ≡ old.reads
@@ -148,7 +147,7 @@ abbrev pub Begins : Kept → Kept → ℕ → Call → Begun → Type 0
 Begins old new c call (HasAnswered a) = BeginsAnswered old new c call a
 Begins old new c call (NeedsFrame page want) = BeginsNeedingFrame old new call page want
 Begins old new c call (NeedsClear first len) = BeginsClearing old new call first len
-Begins old new c call (NeedsEvict page written) = BeginsEvicting old new call page written
+Begins old new c call (NeedsEvict page) = BeginsEvicting old new call page
 Begins old new c call (HasFailed page count) = BeginsFailing old new call page count
 
 -- The page has this frame, is pending, and the space stands for one taking more, or for the use of a held frame.

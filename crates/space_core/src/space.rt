@@ -39,7 +39,7 @@ pub enum Begun {
     /// An unmap, whose region's pages have to give their frames up.
     NeedsClear { first: u32, length: u32 },
     /// An evict of a page that has to give its frame up, and whose copy was written where it was dirty.
-    NeedsEvict { page: u32, written: bool },
+    NeedsEvict { page: u32 },
     /// A sync or an evict, where writing the page's copy failed; the store's count of faults is this now.
     Failed { page: u32, count: u64 },
 }
@@ -487,9 +487,9 @@ impl<S: Store + Send + Drop> Space<S> {
             return Begun::Answered(answered(Reply::Clean));
         };
         match self.save(page, mapping) {
-            Ok(written) => {
+            Ok(_) => {
                 self.paged = Some(page);
-                Begun::NeedsEvict { page, written }
+                Begun::NeedsEvict { page }
             }
             Err(fault) => unwritten(page, fault),
         }

@@ -148,7 +148,7 @@ fn serve(
             }
         }
         Begun::NeedsClear { first, length } => Ok((clear(space, first, length)?, None)),
-        Begun::NeedsEvict { page, .. } => {
+        Begun::NeedsEvict { page } => {
             let (frame, answered) = space.evict(page);
             Ok((answered, Some(frame.number())))
         }

@@ -34,7 +34,7 @@ impl Flight {
                 self.phase = Phase::Clear { first, length };
                 None
             }
-            Begun::NeedsEvict { page, .. } => {
+            Begun::NeedsEvict { page } => {
                 self.phase = Phase::Evict { page };
                 None
             }

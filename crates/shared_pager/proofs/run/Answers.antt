@@ -4,7 +4,7 @@ use Rattle.journal_core.specs.Journals.{PassState}
 use Rattle.pager_model.specs.Legal.{entries_in}
 use Rattle.pager_model.specs.Order.{IsWhole}
 use Rattle.pager_model.specs.Settings.{mark_of}
-use Rattle.shared_pager.proofs.SharedCalls.{the_two, MayCall-new, All-both, from_both, IsWhole-made, answers-made}
+use Rattle.shared_pager.proofs.SharedCalls.{the_two, MayCall-new, All-both, from_both, MakesCall-new, IsWhole-made, answers-made}
 use Rattle.shared_pager.proofs.run.Given.{Over}
 use Rattle.shared_pager.proofs.run.Goals as goal
 
@@ -35,9 +35,11 @@ close-requires-clause-whole g c κs within =
     (sym (c.open-pager.ensures.passes ∙ c.requires.passes) ∙ c.in-Some.ensures.items) c.in-Some-pop.ensures.items in
     All-both (λ (p : PassState). IsWhole (mark_of g.N.Named.journal.setting p.processor)
     (entries_in p.entries)) c.pop-2.new.self.items c.push_reserved.new.self.items c.push_reserved-2.new.self.items c.call_both-a.result.0 c.call_both-a.result.1 two.none_left c.push_reserved.ensures.items c.push_reserved-2.ensures.items
-    (IsWhole-made g.N.Named.journal 0 c.in-Some-pop.a c.call_both-a.result.0 c.args.first.now _ two.first c.call_both-a.ensures.first.1
+    (IsWhole-made g.N.Named.journal 0 c.call_both-a.result.0 c.args.first.now _
+    (MakesCall-new g.N.Named.journal 0 _ _ _ _ two.first c.call_both-a.ensures.first.1)
     (ap (λ marks. slice_index_or marks 0 0) c.requires.marks))
-    (IsWhole-made g.N.Named.journal 1 c.in-Some.b c.call_both-a.result.1 c.args.second.now _ two.second c.call_both-a.ensures.second.1
+    (IsWhole-made g.N.Named.journal 1 c.call_both-a.result.1 c.args.second.now _
+    (MakesCall-new g.N.Named.journal 1 _ _ _ _ two.second c.call_both-a.ensures.second.1)
     (ap (λ marks. slice_index_or marks 1 0) c.requires.marks))
 
 -- both passes' lists are their processors' in the end
@@ -53,12 +55,14 @@ pub returns-clause-first : goal.returns-clause-first
 returns-clause-first g c =
     let two = the_two g.N.Named.journal c.pop.new.self.items c.pop-2.new.self.items c.in-Some-pop.a c.in-Some.b
     (sym (c.open-pager.ensures.passes ∙ c.requires.passes) ∙ c.in-Some.ensures.items) c.in-Some-pop.ensures.items in
-    answers-made g.N.Named.journal 0 c.in-Some-pop.a c.call_both-a.result.0 c.args.first.now _ two.first c.call_both-a.ensures.first.1 _
+    answers-made g.N.Named.journal 0 c.call_both-a.result.0 c.args.first.now _
+    (MakesCall-new g.N.Named.journal 0 _ _ _ _ two.first c.call_both-a.ensures.first.1) _
     (owns g c).0
 
 pub returns-clause-second : goal.returns-clause-second
 returns-clause-second g c =
     let two = the_two g.N.Named.journal c.pop.new.self.items c.pop-2.new.self.items c.in-Some-pop.a c.in-Some.b
     (sym (c.open-pager.ensures.passes ∙ c.requires.passes) ∙ c.in-Some.ensures.items) c.in-Some-pop.ensures.items in
-    answers-made g.N.Named.journal 1 c.in-Some.b c.call_both-a.result.1 c.args.second.now _ two.second c.call_both-a.ensures.second.1 _
+    answers-made g.N.Named.journal 1 c.call_both-a.result.1 c.args.second.now _
+    (MakesCall-new g.N.Named.journal 1 _ _ _ _ two.second c.call_both-a.ensures.second.1) _
     (owns g c).1

@@ -1,10 +1,7 @@
-use Rattle.std.proofs.Common.{◌≤◌, None, length, map, refl, arith, rules}
-use Rattle.std.proofs.lemmas.List.{length-map}
-use Rattle.pager_command.specs.declared.status.TheConstants.{MEMORY}
+use Rattle.std.proofs.Common.{◌≤◌, length, map, refl, rules}
 use Rattle.pager_command.specs.declared.form.Form.TheVariants.{Replay}
-use Rattle.pager_command.specs.Runs.{WasRun}
-use Rattle.pager_command.specs.Views.{ends, replayed, views}
-use Rattle.pager_command.proofs.FormRuns.{RunsBy-ended, RunsBy-stopped, stopped_for_memory}
+use Rattle.pager_command.specs.Views.{ends, views}
+use Rattle.pager_command.proofs.FormRuns.{RunsBy-ended, RunsBy-stopped, RunsBy-unmade, WasRun-over}
 use Rattle.pager_command.proofs.running.run_in_threads.Goals as goal
 
 pub returns-in-Err : goal.returns-in-Err
@@ -23,31 +20,23 @@ returns-in-Err g c =
 pub returns-in-Err-replay : goal.returns-in-Err-replay
 returns-in-Err-replay g c =
     let stop = c.stopped-in-Err-replay.ensures in
-    let back = c.in-Err-replay.ensures in
     let read = c.in-Ok.ensures in
-    RunsBy-stopped (views g.T.Source.left g.T.Source.faults g.K.Sink.taken g.K.Sink.faults g.S.Store.seen) (Replay c.args.parts)
+    RunsBy-unmade (views g.T.Source.left g.T.Source.faults g.K.Sink.taken g.K.Sink.faults g.S.Store.seen) (Replay c.args.parts)
     (record {
       before = ends c.args.source.now c.args.sink.now;
       after = ends _ _;
       stores = c.args.stores.items;
       outcome = c.stopped-in-Err-replay.result;
     })
-    (length c.args.stores.items) MEMORY None
-    (stopped_for_memory (Replay c.args.parts) _ _ _ _ _ c.in-Ok.trace read.read read.no_fault read.admitted (search rules)) refl
+    c.in-Ok.trace read.read read.no_fault (search rules) read.admitted
     stop.status stop.refusal stop.trace stop.history (search rules) refl
 
 pub returns-in-Ok-replay : goal.returns-in-Ok-replay
 returns-in-Ok-replay g c =
     let ran = c.in-Ok-replay.ensures in
     let read = c.in-Ok.ensures in
-    let stores = map g.S.Store.seen c.args.stores.items in
     let enough : c.in-Ok.trace.spaces ≤ length c.args.stores.items = search rules in
-    let was : WasRun g.S.Store.seen (replayed c.in-Ok.trace stores c.in-Ok-replay.gathered) =
-    record {
-      enough = omega (arith, enough, length-map c.args.stores.items g.S.Store.seen);
-      run = ran.run;
-      counts = ran.counts;
-    } in
+    let was = WasRun-over g.S.Store.seen c.in-Ok.trace c.args.stores.items c.in-Ok-replay.gathered enough ran.run ran.counts in
     RunsBy-ended (views g.T.Source.left g.T.Source.faults g.K.Sink.taken g.K.Sink.faults g.S.Store.seen) (Replay c.args.parts)
     (record {
       before = ends c.args.source.now c.args.sink.now;
@@ -55,4 +44,4 @@ returns-in-Ok-replay g c =
       stores = c.args.stores.items;
       outcome = c.write_run.result;
     })
-    c.in-Ok.trace c.in-Ok-replay.gathered read.read read.no_fault enough read.admitted tt was (c.write_run.ensures stores was)
+    c.in-Ok.trace c.in-Ok-replay.gathered read.read read.no_fault enough read.admitted tt was (c.write_run.ensures (map g.S.Store.seen c.args.stores.items) was)

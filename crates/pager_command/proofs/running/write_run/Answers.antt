@@ -1,3 +1,4 @@
+use Rattle.std.proofs.Common.{refl}
 use Rattle.pager_command.specs.Views.{ending, out_views, replayed}
 use Rattle.pager_command.proofs.PrintedRuns.{EndsRun-reported}
 use Rattle.pager_command.proofs.running.write_run.Goals as goal
@@ -7,7 +8,7 @@ returns-in-Order g c = λ stores ran.
     let wrote = c.report_run.ensures in
     EndsRun-reported (out_views g.K.Sink.taken g.K.Sink.faults g.S.Store.seen) c.args.form c.in-Order.parts
     (replayed c.args.trace stores c.args.gathered) (ending c.args.sink.now _ c.report_run.result)
-    (λ text is. rw c.in-Order.is is) ran
+    (rw c.in-Order.is refl) ran
     wrote.statuses wrote.refusal wrote.trace wrote.history wrote.stores wrote.wrote wrote.part wrote.rose
 
 pub returns-in-Turns : goal.returns-in-Turns
@@ -15,7 +16,7 @@ returns-in-Turns g c = λ stores ran.
     let wrote = c.report_run-in-Turns.ensures in
     EndsRun-reported (out_views g.K.Sink.taken g.K.Sink.faults g.S.Store.seen) c.args.form c.in-Turns.parts
     (replayed c.args.trace stores c.args.gathered) (ending c.args.sink.now _ c.report_run-in-Turns.result)
-    (λ text is. rw c.in-Turns.is is) ran
+    (rw c.in-Turns.is refl) ran
     wrote.statuses wrote.refusal wrote.trace wrote.history wrote.stores wrote.wrote wrote.part wrote.rose
 
 pub returns-in-Replay : goal.returns-in-Replay
@@ -23,7 +24,7 @@ returns-in-Replay g c = λ stores ran.
     let wrote = c.report_run-in-Replay.ensures in
     EndsRun-reported (out_views g.K.Sink.taken g.K.Sink.faults g.S.Store.seen) c.args.form c.in-Replay.parts
     (replayed c.args.trace stores c.args.gathered) (ending c.args.sink.now _ c.report_run-in-Replay.result)
-    (λ text is. rw c.in-Replay.is is) ran
+    (rw c.in-Replay.is refl) ran
     wrote.statuses wrote.refusal wrote.trace wrote.history wrote.stores wrote.wrote wrote.part wrote.rose
 
 pub returns-in-Plan : goal.returns-in-Plan

@@ -6,7 +6,7 @@ use Rattle.pager_model.specs.Showing.{actors, jobs_of, marks_of}
 use Rattle.pager_model.specs.Stored.{Stored}
 use Rattle.pager_model.specs.Stores.{given_over}
 use Rattle.pager_core.specs.RunParts.{AreRoomsOver}
-use Rattle.pager_core.proofs.StartMachines.{actors_few}
+use Rattle.pager_model.proofs.Actors.{actors_few}
 use Rattle.pager_core.proofs.Stores.{slice_get-take}
 use Rattle.pager_core.proofs.machine.parts_of.Goals as goal
 

@@ -5,7 +5,7 @@ use Rattle.std.specs.List.{AllByRecursion, range_with_len}
 use Rattle.pager_model.specs.Legal.{entries_in}
 use Rattle.pager_model.specs.Showing.{actors}
 use Rattle.pager_model.specs.TurnOrders.{IsScheduled}
-use Rattle.pager_core.proofs.StartMachines.{actors_few}
+use Rattle.pager_model.proofs.Actors.{actors_few}
 use Rattle.replay_core.specs.Replays.{IsReplay}
 use Rattle.replay_core.specs.Turns.{IsStuck, FirstStepped}
 use Rattle.replay_core.proofs.RunLemmas.{length-jobs, IsReplay-whole, AreItsCounts-whole}

@@ -3,7 +3,7 @@ use Rattle.std.proofs.Math.ListN.{length-map}
 use Rattle.std.proofs.lemmas.Bool.{true≢false}
 use Rattle.pager_model.specs.Legal.{entries_in}
 use Rattle.pager_model.specs.TurnOrders.{IsSeeded}
-use Rattle.pager_core.proofs.StartMachines.{actors_few}
+use Rattle.pager_model.proofs.Actors.{actors_few}
 use Rattle.replay_core.specs.Replays.{IsReplay}
 use Rattle.replay_core.proofs.RunLemmas.{length-jobs, IsReplay-whole, AreItsCounts-whole}
 use Rattle.replay_core.proofs.OrderLemmas.{Drawing, Drawing-start, Drawing-step, fewer_drawn}

@@ -11,7 +11,7 @@ returns-in-Answered-clause-entry g c = λ st frames.
 
 pub returns-in-NeedsEvict-clause-none : goal.returns-in-NeedsEvict-clause-none
 returns-in-NeedsEvict-clause-none g c =
-    begin_evicting c.args.self.now c.in-NeedsEvict.page c.in-NeedsEvict.written c.args.space.now c.begin.new.self c.requires.phase
+    begin_evicting c.args.self.now c.in-NeedsEvict.page c.args.space.now c.begin.new.self c.requires.phase
     (rw c.call-call.ensures at c.in-NeedsEvict.ensures)
 
 pub returns-in-Failed-clause-entry : goal.returns-in-Failed-clause-entry

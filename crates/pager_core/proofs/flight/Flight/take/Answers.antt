@@ -14,7 +14,13 @@ returns-in-Ok-clause-entry g c =
     let ready = c.requires.ready in
     let own = own_wanting c.args.self.now c.args.page c.args.want c.args.space.now ready.0 c.requires.phase ready.1 in
     λ st. rw c.entry.ensures
-    (frame_taken c.args.self.now c.args.page c.number-own.result c.number-frame.result c.args.want (record {
+    (frame_taken c.args.self.now (record {
+      number = c.number-frame.result;
+      space = c.number-own.result;
+      page = c.args.page;
+      want = c.args.want;
+    })
+    (record {
       space = c.args.space.now;
       frames = c.args.pool.now;
     })
@@ -24,7 +30,7 @@ returns-in-Ok-clause-entry g c =
     }) c.requires.phase (c.number-own.ensures.number ∙ sym own) c.requires.agree c.requires.owns (record {
       taking = taken.0;
       takes = taken.1;
-      frame_is = c.number-frame.ensures ∙ taken.3;
+      number_is = c.number-frame.ensures ∙ taken.3;
       after_is = taken.2;
       places = subst (Places c.args.space.now c.place.new.self c.args.page) taken.3 c.place.ensures;
     }) st)

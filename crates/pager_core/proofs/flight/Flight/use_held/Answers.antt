@@ -43,7 +43,13 @@ returns-clause-entry g c =
     let ready = c.requires.ready in
     let wants = wants_still c.args.self.now c.args.page c.args.want phase.0 c.args.space.now ready.0 phase.1 ready.1 in
     λ st. rw c.entry.ensures
-    (held_used c.args.self.now c.args.page c.number-own.result c.number-frame.result c.args.want (record {
+    (held_used c.args.self.now (record {
+      number = c.number-frame.result;
+      space = c.number-own.result;
+      page = c.args.page;
+      want = c.args.want;
+    })
+    (record {
       space = c.args.space.now;
       frames = c.args.pool.now;
     })
@@ -53,7 +59,7 @@ returns-clause-entry g c =
     }) phase (c.number-own.ensures.number ∙ sym wants.0) c.requires.agree c.requires.owns (record {
       taking = taken.0;
       takes = taken.1;
-      frame_is = c.number-frame.ensures ∙ taken.3;
+      number_is = c.number-frame.ensures ∙ taken.3;
       after_is = taken.2;
       places = subst (Places c.args.space.now c.place.new.self c.args.page) taken.3 c.place.ensures;
     }) st)

@@ -5,7 +5,8 @@ use Rattle.pager_model.specs.SizeSets.{SizeSet}
 use Rattle.pager_model.specs.SpaceStates.{empty_state}
 use Rattle.space_core.specs.Rooms.{Capacity}
 use Rattle.space_core.specs.Standing.{Kept, StandsFor}
-use Rattle.pager_core.proofs.Stores.{in_order, in_order-more, left_over, are_new, AreNew-push}
+use Rattle.pager_core.specs.RunParts.{AreRoomsOver}
+use Rattle.pager_core.proofs.Stores.{in_order-more, first_used, left_over, are_new, AreNew-push}
 use Rattle.pager_core.proofs.run_parts.SpaceRooms.over.Given.{Over}
 use Rattle.pager_core.proofs.run_parts.SpaceRooms.over.Goals as goal
 
@@ -15,7 +16,7 @@ loop-room-preserved g c =
     let before = c.loop-room.invariant in
     let fewer_rooms : length c.loop-room.rooms.items ≡ length c.pop.new.self.items + 1 = ap length c.in-Some.ensures.items
     ∙ length_push c.pop.new.self.items c.in-Some.room in
-    let fewer_stores : length c.loop-room.stores.items ≡ length c.pop-in-Some.new.self.items + 1 =
+    let fewer_stores : length c.loop-room.left.items ≡ length c.pop-in-Some.new.self.items + 1 =
     ap length c.in-Some-pop.ensures.items ∙ length_push c.pop-in-Some.new.self.items c.in-Some-pop.store in
     let more : length c.push_reserved.new.self.items ≡ length c.loop-room.spaces.items + 1 = ap length c.push_reserved.ensures.items
     ∙ length_push c.loop-room.spaces.items c.over.result in
@@ -37,11 +38,10 @@ loop-room-preserved g c =
                 }),
           );
       stores =
-          in_order-more g.S.Store.seen c.args.stores.now.items c.pop-in-Some.new.self.items c.in-Some-pop.store
-          c.loop-room.spaces.items c.over.result
-          (before.stores ∙ ap (λ l. map g.S.Store.seen l ++ reverse (map (λ (k : Kept). k.store) c.loop-room.spaces.items))
-          c.in-Some-pop.ensures.items) made.3
-          ∙ ap (λ l. map g.S.Store.seen c.pop-in-Some.new.self.items ++ reverse (map (λ (k : Kept). k.store) l))
+          before.stores
+          ∙ in_order-more g.S.Store.seen c.loop-room.left.items c.pop-in-Some.new.self.items c.in-Some-pop.store
+          c.loop-room.spaces.items c.over.result c.in-Some-pop.ensures.items made.3
+          ∙ ap (λ l. map (λ (k : Kept). k.store) l ++ map g.S.Store.seen (reverse c.pop-in-Some.new.self.items))
           (sym c.push_reserved.ensures.items);
       enough = omega (arith, before.enough, fewer_rooms, fewer_stores);
       room = omega (arith, before.room, fewer_rooms, more, c.push_reserved.ensures.capacity);
@@ -52,18 +52,13 @@ loop-room-preserved g c =
 count : (g : Over) (c : goal.After-drop-rooms g) → length c.loop-room.spaces.items ≡ length c.args.self
 count g c = omega (arith, c.loop-room.invariant.count, c.in_default.ensures.cases.0, c.loop-room.rooms.ok.0)
 
-order : (g : Over) (c : goal.After-drop-rooms g)
-    → map g.S.Store.seen (reverse c.args.stores.now.items) ≡ map (λ (k : Kept). k.store) c.loop-room.spaces.items
-    ++ map g.S.Store.seen (reverse c.loop-room.stores.items)
-order g c = in_order g.S.Store.seen c.loop-room.stores.items c.args.stores.now.items
-    (map (λ (k : Kept). k.store) c.loop-room.spaces.items) c.loop-room.invariant.stores
-
-pub returns-clause-stores : goal.returns-clause-stores
-returns-clause-stores g c = order g c
+pub returns-clause-used : goal.returns-clause-used
+returns-clause-used g c = first_used c.loop-room.spaces.items _ _ (length c.args.self) c.loop-room.invariant.stores (count g c)
 
 pub returns-clause-left : goal.returns-clause-left
-returns-clause-left g c = sym (left_over c.loop-room.spaces.items _ _ (length c.args.self) (order g c) (count g c))
+returns-clause-left g c = sym (left_over c.loop-room.spaces.items _ _ (length c.args.self) c.loop-room.invariant.stores (count g c))
 
 pub returns-clause-new : goal.returns-clause-new
-returns-clause-new g c = λ given over. are_new given c.args.self c.loop-room.spaces.items _ _ (order g c) (count g c)
-    (λ room all. (c.loop-room.invariant.alike room all).1) over
+returns-clause-new g c = λ given over. are_new given c.args.self c.loop-room.spaces.items (count g c)
+    (λ room all. (c.loop-room.invariant.alike room all).1)
+    (subst (λ l. AreRoomsOver given l c.args.self) (sym (returns-clause-used g c)) over)

@@ -10,11 +10,11 @@ invariant-loop-room g l =
     record {
       count : length l.rooms.items + length l.spaces.items ≡ length l.fn.self;
       alike : (room : Capacity) → All (λ r. r ≡ room) l.fn.self → All (λ r. r ≡ room) l.rooms.items × AreNew room l.spaces.items;
-      stores : map g.S.Store.seen l.fn.stores.items ≡ map g.S.Store.seen l.stores.items
-          ++ reverse (map (λ (k : Kept). k.store) l.spaces.items);
-      enough : length l.rooms.items ≤ length l.stores.items;
+      stores : map g.S.Store.seen l.fn.stores.items ≡ map (λ (k : Kept). k.store) l.spaces.items
+          ++ map g.S.Store.seen (reverse l.left.items);
+      enough : length l.rooms.items ≤ length l.left.items;
       room : length l.rooms.items + length l.spaces.items ≤ vec_capacity l.spaces;
-      capacity : vec_capacity l.stores ≡ vec_capacity l.fn.stores;
+      capacity : vec_capacity l.left ≡ vec_capacity l.fn.stores;
     }
 
 abbrev pub decreases-loop-room : goal.decreases-loop-room

@@ -39,7 +39,7 @@ returns-in-Ok g c =
     let unwired : is_unwired (region_at c.args.self.now.regions c.args.page) ≡ true = rw (← c.self.view_is) (search (rules, unwired_at)) in
     let resident : frame_at c.args.self.now c.args.page ≢ None = rw (← c.self.view_is) (search rules) in
     let in_space : c.args.page < 1048576 = search rules in
-    λ processor. begins_evicting c.args.self.now c.save.new.self _ c.args.page c.in-Ok.written c.requires.resting in_space unwired resident c.in-Ok.ensures.saved
+    λ processor. begins_evicting c.args.self.now c.save.new.self _ c.args.page _ c.requires.resting in_space unwired resident c.in-Ok.ensures.saved
     (rw (← c.self-2.view_is) (record {
       same = same_regions _ _ refl refl refl refl (λ p. refl);
       table = refl;
