@@ -1,5 +1,5 @@
 -- Lists whose elements are all alike or all pass a test, and lists of places that may be empty.
-use Rattle.std.proofs.Common.{◌≡◌, ◌<◌, ◌≤◌, ◌-◌, ◌&&◌, ◌⊎◌, ℕ, arith, nat_le, nat_lt, if◌then◌else◌, ◌++◌, take, drop, zero, suc, Option, None, Some, List, length, get_or, replicate, inl, inr, refl, sym, ◌∙◌, ◌≢◌, set, ap, Bool, true, [], ◌∷◌, filter}
+use Rattle.std.proofs.Common.{◌≡◌, ◌<◌, ◌≤◌, ◌-◌, ◌&&◌, ◌⊎◌, ℕ, arith, nat_le, nat_lt, if◌then◌else◌, ◌++◌, take, drop, zero, suc, Option, None, Some, List, length, get_or, replicate, inl, inr, refl, sym, ◌∙◌, ◌≢◌, set, ap, Bool, true, [], ◌∷◌, filter, map}
 use Rattle.std.proofs.lemmas.Bool.{cases_lt, cases_eq, and_parts, cond-true}
 use Rattle.std.proofs.lemmas.Bool.Decides.{nat_tests}
 use Rattle.std.proofs.lemmas.List.{get_or_append_left, get_or-append_right, get_or-take, get_or-drop, get_or-replicate, length-replicate, length-take, get_or_past, get_or-set_same, get_or-set_other, set_past}
@@ -11,6 +11,11 @@ pub get_or-alike : {A : Type 0} (n i : ℕ) (a : A) → get_or (replicate n a) i
 get_or-alike zero i a = refl
 get_or-alike (suc n) zero a = refl
 get_or-alike (suc n) (suc i) a = get_or-alike n i a
+
+-- a function of elements that are all alike
+pub map-alike : {A B : Type 0} (f : A → B) (n : ℕ) (a : A) → map f (replicate n a) ≡ replicate n (f a)
+map-alike f zero a = refl
+map-alike f (suc n) a = ap (λ xs. f a ∷ xs) (map-alike f n a)
 
 -- a place that holds something is in the list
 pub get_or_within : {A : Type 0} (places : List (Option A)) (i : ℕ) (a : A) → get_or places i None ≡ Some a → i < length places

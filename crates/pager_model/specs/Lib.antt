@@ -1,5 +1,6 @@
 pub mod Extents
 pub mod Options
+pub mod OptionalIndices
 pub mod SizeSets
 pub mod Settings
 pub mod Plans
