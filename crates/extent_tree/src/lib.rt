@@ -88,7 +88,7 @@ impl<V: Copy> ExtentTree<V> {
         ensures split { is_some result.node ≡ is_split self.now size page }
         ensures cost { steps.new ≤ steps.old + 1 }
     {
-        let Some(node) = over.node else {
+        let Some(node) = over.node() else {
             return Spot::blank();
         };
         let place = self.store.place(node, walk::part_at(height_of(size), page));
@@ -102,7 +102,7 @@ impl<V: Copy> ExtentTree<V> {
             → (slice_index_or result.now (other / 8 ^ size % 8) blank).value ≡ row self.now size other }
         ensures cost { steps.new ≤ steps.old + 1 }
     {
-        match over.node {
+        match over.node() {
             Some(node) => self.store.eight(node, steps),
             None => &[],
         }

@@ -128,6 +128,9 @@ module _ (m : Populations) (records : List (Option Reservation)) (r : Reservatio
       ((mapped.exact r.space at.0 k j may.known at.2 small).0 is) in
       may.apart j at.0 q.0 q.1 covered q.2.1)
 
+  pub entering_id : r.frame < frame_count m
+  entering_id = omega (arith, first_known, mapped.room)
+
   pub entering_room : placed_pages m + 8 ^ r.size ≤ frame_count m
   entering_room = omega (arith, mapped.few, mapped.room, may.few)
 

@@ -467,6 +467,7 @@ population_kept spaces m n was marks room ids = record {
   thirds = omega (arith, was.thirds, room.room);
   whole = omega (arith, was.whole, room.roots);
   known = omega (arith, was.known, room.roots);
+  small = omega (arith, was.small, room.room);
 }
 
 -- whether what a walk sees is split

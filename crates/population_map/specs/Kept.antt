@@ -28,6 +28,7 @@ pub record IsPopulation (spaces : ℕ) (m : Arena Mark) : Type 0 where
   pub thirds : m.room % 3 ≡ 0
   pub whole : m.roots ≡ 2048 * spaces
   pub known : m.roots ≤ 2097152
+  pub small : m.room ≤ 50331648
 
 -- a mark is kept where it says something
 abbrev pub kept : Mark → Option Mark

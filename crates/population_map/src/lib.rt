@@ -87,13 +87,15 @@ impl PopulationMap {
         self.spaces
     }
 
-    /// Places an extent of which no page is in a placed one.
+    /// Places an extent of which no page is in a placed one. Ids are below the number of pages that there is room for, as frames are: so
+    /// an id or none fits in four bytes.
     pub fn place(&mut self, space: u32, extent: Extent, id: u32)
         requires space { space < space_count self.old }
         requires aligned { IsExtent extent.size extent.first }
         requires within { extent.first < space_pages }
         requires apart { (page : ℕ) → page / 8 ^ extent.size ≡ page_at space extent.first / 8 ^ extent.size
             → IsInNone self.old page }
+        requires id { id < frame_count self.old }
         requires room { placed_pages self.old + 8 ^ extent.size ≤ frame_count self.old }
         ensures room { SameRoom self.old self.new }
         ensures placed { PlacesOnly self.old self.new extent.size (page_at space extent.first) (Some id) }

@@ -3,13 +3,14 @@
 ghost use Rattle.std.specs.Prelude.{◌≡◌, ℕ, ◌+◌, ◌-◌, ◌*◌, ◌/◌, ◌%◌, ◌^◌, ◌<◌, ◌≤◌, ◌↔◌, true, false, MatchOption, Some, None, is_some};
 ghost use Rattle.std.specs.Bool.{OnTrue, OnFalse};
 ghost use Rattle.pager_model.specs.Extents.{IsExtent};
+ghost use Rattle.pager_model.specs.OptionalIndices.{no_index};
 ghost use Rattle.population_map.specs.Kept.{AreMarks};
 ghost use Rattle.population_map.specs.Populations.{id_of, is_placed, is_populated, mark_of, placed_pages, IsInNone, SomePopulated, SameRoom, PlacesOnly, EmptiesOnly};
 
 use crate::mark::{Mark, has_bit};
 use crate::way;
 use extent_tree::ExtentTree;
-use pager_model::{Size, Steps};
+use pager_model::{OptionalIndex, Size, Steps};
 use std::sync::ledger::{Blank, Ledger};
 
 /// Places the extent of a size from a page on, none of whose pages is in a placed one.
@@ -27,6 +28,7 @@ pub(crate) fn place<L: Ledger>(
     requires page { first < 512 * tree.old.roots }
     requires aligned { IsExtent size first }
     requires apart { (page : ℕ) → page / 8 ^ size ≡ first / 8 ^ size → IsInNone tree.old page }
+    requires id { id < no_index }
     requires room { 3 * (placed_pages tree.old + 8 ^ size) ≤ tree.old.room }
     ensures marks { AreMarks tree.new }
     ensures room { SameRoom tree.old tree.new }
@@ -36,7 +38,7 @@ pub(crate) fn place<L: Ledger>(
 {
     let (book, share) = blank.open::<L>();
     let mark = Mark {
-        id: Some(id),
+        id: OptionalIndex::of(id),
         some: 0,
         full: 0,
     };
@@ -149,13 +151,13 @@ pub(crate) fn id_over<L: Ledger>(
 {
     let mut spot = tree.at(Size::at_level(3), page, steps);
     for below in 0..3 {
-        let id = way::mark_at(&spot).id;
+        let id = way::mark_at(&spot).id.get();
         if id.is_some() {
             return id;
         }
         spot = tree.part(spot, Size::at_level(2 - below), page, steps);
     }
-    way::mark_at(&spot).id
+    way::mark_at(&spot).id.get()
 }
 
 /// Whether a placed extent has a page of the one of a size round a page.
@@ -173,12 +175,12 @@ pub(crate) fn is_met<L: Ledger>(
     let mut spot = tree.at(Size::at_level(3), page, steps);
     let above_it = 3 - size.level();
     for above in 0..above_it {
-        if way::mark_at(&spot).id.is_some() {
+        if way::mark_at(&spot).is_placed() {
             return true;
         }
         spot = tree.part(spot, Size::at_level(2 - above), page, steps);
     }
-    if way::mark_at(&spot).id.is_some() {
+    if way::mark_at(&spot).is_placed() {
         return true;
     }
     spot.is_split()

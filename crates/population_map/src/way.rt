@@ -48,20 +48,20 @@ fn write<L: Ledger>(
     tree: &mut ExtentTree<Mark>,
     size: Size,
     page: u32,
-    mark: Mark,
+    mark: &Mark,
     steps: &mut Steps<L>,
 )
     requires page { page < 512 * tree.old.roots }
     requires room { splits_with tree.old size page ≤ tree.old.room }
-    requires row { kept mark ≡ None → is_some (row tree.old size page) ≡ true }
-    ensures row { ChangesOnly tree.old tree.new size page (kept mark) }
+    requires row { kept mark.now ≡ None → is_some (row tree.old size page) ≡ true }
+    ensures row { ChangesOnly tree.old tree.new size page (kept mark.now) }
     ensures splits { SplitsAreRowsBelow tree.new }
     ensures cost { steps.new + 3 * size ≤ steps.old + 10 }
 {
     if mark.is_none() {
         tree.remove(size, page, steps);
     } else {
-        tree.put(size, page, mark, steps);
+        tree.put(size, page, *mark, steps);
     }
 }
 
@@ -86,7 +86,7 @@ pub(crate) fn change<L: Ledger>(
     let small = way.small.with_page(page % 8, is_in);
     let middle = way.middle.with_part(page / 8 % 8, small);
     let large = way.large.with_part(page / 64 % 8, middle);
-    write(tree, Size::at_level(1), page, small, steps);
-    write(tree, Size::at_level(2), page, middle, steps);
-    write(tree, Size::at_level(3), page, large, steps);
+    write(tree, Size::at_level(1), page, &small, steps);
+    write(tree, Size::at_level(2), page, &middle, steps);
+    write(tree, Size::at_level(3), page, &large, steps);
 }

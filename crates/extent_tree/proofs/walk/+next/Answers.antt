@@ -30,13 +30,13 @@ part_at-requires g t c =
     omega (
       arith,
       above_pages s c.requires.tree c.args.height c.loop-page.page c.loop-page.place c.in-Some-node.node c.requires.height at
-          (sym (ap (λ s. s.node) c.spot-spot.ensures.spot) ∙ c.in-Some-node.is),
+          (sym (ap (λ s. s.node) c.spot-spot.ensures.spot) ∙ (sym c.node.ensures ∙ c.in-Some-node.is)),
     )
 
 pub place-first-requires : goal.place-first-requires
 place-first-requires g t c =
     let hangs = c.requires.tree.nodes.hangs c.loop-page.place c.in-Some-node.node
-    (sym (ap (λ s. s.node) c.spot-spot.ensures.spot) ∙ c.in-Some-node.is) in
+    (sym (ap (λ s. s.node) c.spot-spot.ensures.spot) ∙ (sym c.node.ensures ∙ c.in-Some-node.is)) in
     omega (arith, hangs.0, c.requires.tree.nodes.fits, c.requires.tree.nodes.small, c.part_at.ensures.small)
 
 pub next-requires : goal.next-requires
@@ -45,7 +45,7 @@ next-requires g t c κs within =
     let h = c.args.height in
     let page = c.loop-page.page in
     let at = first_place s h c.loop-page.place page c.args.end c.loop-page.invariant.places c.loop-page-test.true in
-    let leads = sym (ap (λ s. s.node) c.spot-spot.ensures.spot) ∙ c.in-Some-node.is in
+    let leads = sym (ap (λ s. s.node) c.spot-spot.ensures.spot) ∙ (sym c.node.ensures ∙ c.in-Some-node.is) in
     let low = above_pages s c.requires.tree h page c.loop-page.place c.in-Some-node.node c.requires.height at leads in
     let first = c.place-first.ensures ∙ ap (λ n. s.roots + 8 * c.in-Some-node.node + n) c.part_at.ensures.part in
     let stop : page + c.min.result ≤ page + rest_at h page = omega (arith, c.min.ensures, c.rest_at.ensures) in
@@ -87,7 +87,7 @@ returns-in-Some-next-clause-roots g t c root _ bare =
     let s = c.args.store.now in
     let at = first_place s c.args.height c.loop-page.place c.loop-page.page c.args.end c.loop-page.invariant.places c.loop-page-test.true in
     absurd (no_root_node s c.args.height c.loop-page.page c.loop-page.place c.in-Some-node.node root at
-    (sym (ap (λ s. s.node) c.spot-spot.ensures.spot) ∙ c.in-Some-node.is)
+    (sym (ap (λ s. s.node) c.spot-spot.ensures.spot) ∙ (sym c.node.ensures ∙ c.in-Some-node.is))
     (bare c.loop-page.page c.loop-page.invariant.from_on c.loop-page-test.true))
 
 pub overflow_add-place : goal.overflow_add-place
@@ -107,7 +107,7 @@ loop-page-smaller g t c =
     omega (arith, c.min.ensures, c.rest_at.ensures, rest_some c.args.height c.loop-page.page c.requires.height, c.loop-page-test.true)
 
 -- no page of the extent round the page has a row round it
-passed : (g : Over) (t : ℕ) (c : goal.Joined-spot-2 g t) → NoRows c.args.store.now (3 - c.args.height) c.loop-page.page
+passed : (g : Over) (t : ℕ) (c : goal.Joined-node g t) → NoRows c.args.store.now (3 - c.args.height) c.loop-page.page
     (c.loop-page.page + c.min.result)
 passed g t c =
     let s = c.args.store.now in
@@ -118,32 +118,32 @@ passed g t c =
     let value = sym (ap (λ s. s.value) c.spot-spot.ensures.spot) ∙ c.in_default.is in
     let inside : (other : ℕ) → page ≤ other → other < page + c.min.result → number_at h other ≡ number_at h page =
     λ other on before. number_within h page other c.requires.height on (omega (arith, before, c.min.ensures, c.rest_at.ensures)) in
-    elim c.match-spot-2.branch [
+    elim c.match-node.branch [
       | in-Some-node+in_default-next w ↦
           no_rows_up s h page (page + c.min.result) w.in_default-next.ensures.none
           (λ other on before. row_at s h place page other c.requires.height at (inside other on before) ∙ value)
       | in_default-node w ↦ λ size other most on before.
           no_row_within s c.requires.tree h place page size other c.requires.height at value
-          (sym (ap (λ s. s.node) c.spot-spot.ensures.spot) ∙ w.in_default-node.is) (inside other on before) most
+          (sym (ap (λ s. s.node) c.spot-spot.ensures.spot) ∙ (sym c.node.ensures ∙ w.in_default-node.is)) (inside other on before) most
     ]
 
 -- the looks at the extent round the page
-looks : (g : Over) (t : ℕ) (c : goal.Joined-spot-2 g t)
-    → c.match-spot-2.steps ≤ c.loop-page.steps + 1 + (4 - (c.args.height + 1)) * (c.loop-page.page + c.min.result - c.loop-page.page)
-looks g t c = elim c.match-spot-2.branch [
+looks : (g : Over) (t : ℕ) (c : goal.Joined-node g t)
+    → c.match-node.steps ≤ c.loop-page.steps + 1 + (4 - (c.args.height + 1)) * (c.loop-page.page + c.min.result - c.loop-page.page)
+looks g t c = elim c.match-node.branch [
   | in-Some-node+in_default-next w ↦ omega (arith, w.steps-is, w.in_default-next.ensures.cost, c.spot-spot.ensures.cost)
   | in_default-node w ↦ omega (arith, w.steps-is, c.spot-spot.ensures.cost)
 ]
 
-root_look : (g : Over) (t : ℕ) (c : goal.Joined-spot-2 g t) → c.args.height ≡ 0 → NoSplitRoots c.args.store.now c.args.from c.args.end
-    → c.match-spot-2.steps ≡ c.loop-page.steps + 1
+root_look : (g : Over) (t : ℕ) (c : goal.Joined-node g t) → c.args.height ≡ 0 → NoSplitRoots c.args.store.now c.args.from c.args.end
+    → c.match-node.steps ≡ c.loop-page.steps + 1
 root_look g t c root bare =
     let s = c.args.store.now in
     let at = first_place s c.args.height c.loop-page.place c.loop-page.page c.args.end c.loop-page.invariant.places c.loop-page-test.true in
-    elim c.match-spot-2.branch [
+    elim c.match-node.branch [
       | in-Some-node+in_default-next w ↦
           absurd (no_root_node s c.args.height c.loop-page.page c.loop-page.place w.in-Some-node.node root at
-          (sym (ap (λ s. s.node) c.spot-spot.ensures.spot) ∙ w.in-Some-node.is)
+          (sym (ap (λ s. s.node) c.spot-spot.ensures.spot) ∙ (sym c.node.ensures ∙ w.in-Some-node.is))
           (bare c.loop-page.page c.loop-page.invariant.from_on c.loop-page-test.true))
       | in_default-node w ↦ omega (arith, w.steps-is, c.spot-spot.ensures.cost)
     ]
@@ -172,7 +172,7 @@ loop-page-preserved g t c =
       places = rest_in_order s h c.loop-page.place page (page + c.min.result) c.args.end c.requires.height (omega arith)
           (λ before. omega (arith, full before)) was.places;
       cost = looks_more h c.args.from page
-          (page + c.min.result) c.args.steps.now c.loop-page.steps c.match-spot-2.steps c.requires.height was.from_on
+          (page + c.min.result) c.args.steps.now c.loop-page.steps c.match-node.steps c.requires.height was.from_on
           (omega (arith, some)) was.cost (looks g t c);
       roots = λ root bare before. omega (
         arith,

@@ -12,6 +12,7 @@ invariant_of-result c =
       thirds = omega (arith, made.room);
       whole = omega (arith, made.roots);
       known = omega (arith, made.roots, c.requires.spaces);
+      small = omega (arith, made.room, c.requires.frames);
     }
 
 pub returns-clause-no_extent : goal.returns-clause-no_extent

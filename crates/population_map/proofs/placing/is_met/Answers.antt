@@ -9,15 +9,15 @@ use Rattle.population_map.proofs.placing.is_met.Goals as goal
 use Rattle.population_map.proofs.placing.is_met.Goals.{After-is_split}
 use Rattle.population_map.proofs.placing.is_met.Given.{Over}
 
-pub returns-then-is_some-clause-meets : goal.returns-then-is_some-clause-meets
-returns-then-is_some-clause-meets g c =
+pub returns-then-is_placed-clause-meets : goal.returns-then-is_placed-clause-meets
+returns-then-is_placed-clause-meets g c =
     let m = c.args.tree.now in
     let id = spot_id m c.loop-above.above c.args.page c.loop-above.spot c.mark_at.result
     (omega arith) c.loop-above.invariant.seen c.mark_at.ensures in (
       c.args.page,
       refl,
       placed_by m (3 - c.loop-above.above) c.args.page (omega arith)
-          (sym (ap is_some id) ∙ (sym c.is_some.ensures ∙ c.if-is_some.true)),
+          (sym (ap is_some id) ∙ (sym c.is_placed.ensures ∙ c.if-is_placed.true)),
     )
 
 pub loop-above-preserved : goal.loop-above-preserved
@@ -31,19 +31,19 @@ loop-above-preserved g c =
       none = none_further m c.args.page c.loop-above.above c.mark_at.result.id (omega arith)
           (spot_id m c.loop-above.above c.args.page c.loop-above.spot c.mark_at.result
           (omega arith) c.loop-above.invariant.seen c.mark_at.ensures)
-          (sym c.is_some.ensures ∙ c.if-is_some.false) c.loop-above.invariant.none;
+          (sym c.is_placed.ensures ∙ c.if-is_placed.false) c.loop-above.invariant.none;
       cost = omega (arith, c.part-spot.ensures.cost, c.loop-above.invariant.cost);
     }
 
-pub returns-then-is_some-2-clause-meets : goal.returns-then-is_some-2-clause-meets
-returns-then-is_some-2-clause-meets g c =
+pub returns-then-is_placed-2-clause-meets : goal.returns-then-is_placed-2-clause-meets
+returns-then-is_placed-2-clause-meets g c =
     let m = c.args.tree.now in
     let id = spot_id m c.loop-above.above c.args.page c.loop-above.spot c.mark_at-2.result
     (omega arith) c.loop-above.invariant.seen c.mark_at-2.ensures in (
       c.args.page,
       refl,
       placed_by m (3 - c.loop-above.above) c.args.page (omega arith)
-          (sym (ap is_some id) ∙ (sym c.is_some-2.ensures ∙ c.if-is_some-2.true)),
+          (sym (ap is_some id) ∙ (sym c.is_placed-2.ensures ∙ c.if-is_placed-2.true)),
     )
 
 split : (g : Over) (c : After-is_split g) → c.is_split.result ≡ is_split c.args.tree.now c.args.size c.args.page
@@ -64,7 +64,7 @@ returns-clause-apart g c =
     (omega (arith, c.level-above_it.ensures.level, c.level-above_it.ensures.small))
     (λ whole from less. elim (cases_eq whole (3 - c.loop-above.above)) [
       | inl here ↦ ap (λ k. id_of m k c.args.page) here ∙ (sym id ∙ none_from_is_some c.mark_at-2.result.id
-          (sym c.is_some-2.ensures ∙ c.if-is_some-2.false))
+          (sym c.is_placed-2.ensures ∙ c.if-is_placed-2.false))
       | inr apart ↦ c.loop-above.invariant.none whole (omega (arith, c.level-above_it.ensures.level)) less
     ])
     (sym (split g c) ∙ is))

@@ -9,7 +9,7 @@ put-requires-clause-room g c =
     place_room c.args.tree.now c.args.size c.args.first c.requires.marks c.requires.aligned.0 c.requires.aligned.1 c.requires.page c.requires.apart c.requires.room
 
 done : (g : Over) (c : After-put g) → Placed c.args.tree.now c.put.new.self c.args.size c.args.first (Some c.args.id)
-done g c = placed_extent c.args.tree.now c.put.new.self c.args.size c.args.first c.args.id c.requires.marks c.requires.aligned.0 c.requires.apart c.put.ensures.row c.put.ensures.splits
+done g c = placed_extent c.args.tree.now c.put.new.self c.args.size c.args.first c.args.id c.requires.marks c.requires.aligned.0 c.requires.apart (rw c.of.ensures at c.put.ensures.row) c.put.ensures.splits
 
 pub returns-clause-marks : goal.returns-clause-marks
 returns-clause-marks g c = (done g (goal.at.returns-clause-marks g c).After-put).marks
