@@ -132,6 +132,15 @@ without_member_of-with frame new (m ∷ ms) same other =
           ∙ ap (λ rest. m ∷ rest) (without_member_of-with frame new ms same (All-tail (λ n. n.frame ≢ frame) m ms other))
     ]
 
+-- lists that have no member of a frame stay as they are without it
+pub without_unlisted : (frame : ℕ) (lists : Lists) → is_listed frame lists ≡ false → without_frame frame lists ≡ lists
+without_unlisted frame lists unlisted =
+    let none = IsUnlisted-from_false frame lists unlisted in
+    let base = without_member_of-none frame lists.base none.base in
+    let small = without_member_of-none frame lists.small none.small in
+    let middle = without_member_of-none frame lists.middle none.middle in
+    rw (base, small, middle) refl
+
 -- the lists without a frame have no member of it
 pub is_listed-without : (frame : ℕ) (lists : Lists) → is_listed frame (without_frame frame lists) ≡ false
 is_listed-without frame lists =

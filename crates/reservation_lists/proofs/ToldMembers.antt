@@ -11,7 +11,7 @@ use Rattle.std.proofs.lemmas.Map.Views.{any-filter_same}
 use Rattle.pager_model.specs.Ages.{Member, Lists, is_before, list_at, with_list, with_member}
 use Rattle.pager_model.proofs.Lists.{get_or-alike, get_or-set_default, set_cases}
 use Rattle.pager_model.proofs.Options.{in_some, IfSome-from}
-use Rattle.reservation_lists.specs.declared.Listed.{Listed}
+use Rattle.reservation_lists.specs.declared.listed.Listed.{Listed}
 use Rattle.reservation_lists.specs.Kept.{AreTold, IsTold, tells, without_member_of, without_frame, no_members, same_member, without_member}
 use Rattle.reservation_lists.proofs.StampOrder.{Decides-same_member}
 use Rattle.reservation_lists.proofs.Members.{IsUnlisted, without_member_of-none}

@@ -2,7 +2,7 @@
 use Rattle.std.specs.Prelude.{ℕ, true, false, ◌≡◌, ◌≢◌, ◌<◌, ◌≤◌, Bool, ◌&&◌, ◌||◌, ◌==◌, not, filter, length, List, [], All, AllPairs, Option, Some, None, IfSome, slice_index_or}
 use Rattle.std.specs.List.{list_any}
 use Rattle.pager_model.specs.Ages.{Member, Lists, is_before}
-use Rattle.reservation_lists.specs.declared.Listed.{Listed}
+use Rattle.reservation_lists.specs.declared.listed.Listed.{Listed}
 use Rattle.reservation_lists.specs.declared.Lists.TheInside.{Inside}
 
 -- the lists, and the number of frames: each list has room for a member of each frame

@@ -11,6 +11,9 @@ ghost use Rattle.std.specs.List.{prefix_len};
 ghost use Rattle.pager_model.specs.Ages.{is_before, list_at, oldest_in, with_list, with_member};
 ghost use Rattle.reservation_lists.specs.Kept.{IsInOrder, has_member_of, is_listed, no_members, without_frame, without_member};
 
+mod listed;
+
+use listed::{Listed, Listing};
 use pager_model::{NoMemory, Size};
 use std::alloc::Global;
 use std::marker::Model;
@@ -77,19 +80,12 @@ fn remove_from(list: &mut Vec<Member>, gone: &Member)
     }
 }
 
-/// The list that has a reservation, and the stamp by which it stands there.
-#[derive(Clone, Copy, Debug)]
-struct Listed {
-    size: Size,
-    stamp: u64,
-}
-
 /// The lists of the sizes below the largest.
 #[derive(Debug, Drop)]
 pub struct Lists {
     frames: u32,
     /// For each frame what list has the reservation that begins at it, where one has.
-    listed: Vec<Option<Listed>>,
+    listed: Vec<Listing>,
     base: Vec<Member>,
     small: Vec<Member>,
     middle: Vec<Member>,
@@ -116,7 +112,7 @@ impl Lists {
     {
         Ok(Lists {
             frames,
-            listed: vec![in alloc; None; frames as usize]?,
+            listed: vec![in alloc; Listing::NONE; frames as usize]?,
             base: Vec::with_capacity(alloc, frames as usize)?,
             small: Vec::with_capacity(alloc, frames as usize)?,
             middle: Vec::with_capacity(alloc, frames as usize)?,
@@ -133,7 +129,7 @@ impl Lists {
               (with_member (record { stamp = stamp; frame = frame }) (list_at self.old.lists size));
         } }
     {
-        self.listed[frame as usize] = Some(Listed { size, stamp });
+        self.listed[frame as usize] = Listing::of(Listed { size, stamp });
         let new = Member { stamp, frame };
         match size.level() {
             0 => insert_in(&mut self.base, new),

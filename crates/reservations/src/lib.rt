@@ -10,6 +10,7 @@ ghost use Rattle.std.specs.Prelude.{true, false, IfOk, IfSome, IsSome, IsSomeAnd
 ghost use Rattle.pager_model.specs.Agreement.{has_frame};
 ghost use Rattle.pager_model.specs.Extents.{IsExtent};
 ghost use Rattle.pager_model.specs.Layouts.{frame_for, stamped};
+ghost use Rattle.pager_model.specs.OptionalIndices.{no_index};
 ghost use Rattle.pager_model.specs.Records.{is_used, none_used, yield_of, kept_part, split_records};
 ghost use Rattle.reservations.specs.Kept.{reservation_at, with_record, with_used, first_frame, AreNoted, CoversPage, HasPlace, IsFilled};
 ghost use Rattle.pager_model.specs.RecordPlaces.{ArePlaced, IsPlaced};
@@ -17,10 +18,12 @@ ghost use Rattle.reservations.specs.Parts.{told_parts};
 
 mod part;
 mod places;
+mod record;
 
-use pager_model::{NoMemory, Reservation, Size};
+use pager_model::{NoMemory, OptionalIndex, Reservation, Size};
 pub use part::Part;
 use places::UsedPlaces;
+use record::Record;
 use std::alloc::Global;
 use std::marker::Model;
 
@@ -28,21 +31,24 @@ use std::marker::Model;
 #[derive(Debug, Drop)]
 pub struct Reservations {
     /// For each frame the reservation that begins at it.
-    records: Vec<Option<Reservation>>,
+    records: Vec<Record>,
     /// For each frame the first frame of the reservation that has it.
-    ids: Vec<Option<u32>>,
+    ids: Vec<OptionalIndex>,
     used: UsedPlaces,
 }
 
 impl Model for Reservations {
+    ghost use Rattle.std.specs.Prelude.{◌≤◌, length};
     ghost use Rattle.pager_model.specs.Records.{Records};
+    ghost use Rattle.pager_model.specs.OptionalIndices.{no_index};
     ghost use Rattle.reservations.specs.Kept.{AreKept};
 
     ghost Value = { Records };
 
     ghost view = { λ r. record { records = r.records.items; used = r.used } };
 
-    ghost invariant = { λ r. AreKept r.records.items r.ids.items r.used };
+    // Each frame's number is an index, and none is the one that stands for none.
+    ghost invariant = { λ r. AreKept r.records.items r.ids.items r.used × (length r.records.items ≤ no_index) };
 }
 
 impl Reservations {
@@ -52,8 +58,8 @@ impl Reservations {
             (λ kept. kept ≡ record { records = replicate frames None; used = replicate frames false }) }
     {
         Ok(Reservations {
-            records: vec![in alloc; None; frames as usize]?,
-            ids: vec![in alloc; None; frames as usize]?,
+            records: vec![in alloc; Record::NONE; frames as usize]?,
+            ids: vec![in alloc; OptionalIndex::NONE; frames as usize]?,
             used: UsedPlaces::create(alloc, frames)?,
         })
     }
@@ -63,14 +69,14 @@ impl Reservations {
         ensures record { result ≡ reservation_at self.now id }
         ensures placed { IfSome result (IsPlaced (length self.now.records) id) }
     {
-        self.records.get(id as usize).copied().flatten()
+        self.records.get(id as usize)?.get()
     }
 
     /// The first frame of the reservation that has the frame, as a used place or not, if one has it.
     pub fn id_of(&self, frame: u32) -> Option<u32>
         ensures { (id : ℕ) → (result ≡ Some id) ↔ (has_frame frame (reservation_at self.now id) ≡ true) }
     {
-        self.ids.get(frame as usize).copied().flatten()
+        self.ids.get(frame as usize)?.get()
     }
 
     /// Whether the frame is a used place.
@@ -122,7 +128,7 @@ impl Reservations {
         let mut reservation = self.get(id).unwrap();
         self.used.insert(frame_for(&reservation, page));
         reservation.stamp = stamp;
-        self.records[id as usize] = Some(reservation);
+        self.records[id as usize] = Record::of(Some(reservation));
     }
 
     /// The place of the page in the reservation that begins at the frame `id` is no used one any more. Answers whether the
@@ -151,7 +157,7 @@ impl Reservations {
     {
         let whole = self.get(id).unwrap();
         let parts = self.used.parts(&whole);
-        self.records[id as usize] = None;
+        self.records[id as usize] = Record::NONE;
         write_parts(
             self.records.as_mut_slice(),
             self.ids.as_mut_slice(),
@@ -187,21 +193,33 @@ pub fn frame_for(reservation: &Reservation, page: u32) -> u32
     reservation.frame + (page - reservation.first)
 }
 
+/// The first frame of the reservation, if there is one.
+fn first_frame(reservation: &Option<Reservation>) -> OptionalIndex
+    requires { IfSome reservation.now (λ r. r.frame < no_index) }
+    ensures { result ≡ first_frame reservation.now }
+{
+    match reservation {
+        Some(reservation) => OptionalIndex::of(reservation.frame),
+        None => OptionalIndex::NONE,
+    }
+}
+
 /// Notes that this reservation, or none, begins at the frame `first` and has the frames of an extent from there on.
 fn write(
-    records: &mut [Option<Reservation>],
-    ids: &mut [Option<u32>],
+    records: &mut [Record],
+    ids: &mut [OptionalIndex],
     first: u32,
     size: Size,
     reservation: Option<Reservation>,
 )
     requires known { first < length records.old }
     requires inside { first + 8 ^ size ≤ length ids.old }
+    requires numbered { IfSome reservation (λ r. r.frame < no_index) }
     ensures records { records.new ≡ slice_set records.old first reservation }
     ensures ids { IsFilled ids.old ids.new first (8 ^ size) (first_frame reservation) }
 {
-    let id = reservation.as_ref().map(|r| r.frame);
-    records[first as usize] = reservation;
+    let id = first_frame(&reservation);
+    records[first as usize] = Record::of(reservation);
     for frame in first as usize..first as usize + size.pages() as usize {
         ids[frame] = id;
     }
@@ -228,13 +246,14 @@ fn kept_part(used: &UsedPlaces, whole: &Reservation, i: u32) -> Option<Reservati
 
 /// Notes the parts of the reservation, which isn't noted any more, as reservations where they have a used place.
 fn write_parts(
-    records: &mut [Option<Reservation>],
-    ids: &mut [Option<u32>],
+    records: &mut [Record],
+    ids: &mut [OptionalIndex],
     used: &UsedPlaces,
     whole: &Reservation,
 )
     requires splits { 0 < whole.now.size }
     requires whole_placed { IsPlaced (length used.now) whole.now.frame whole.now }
+    requires numbered { length used.now ≤ no_index }
     requires records_long { length records.old ≡ length used.now }
     requires ids_long { length ids.old ≡ length used.now }
     requires placed { ArePlaced records.old }

@@ -1,8 +1,8 @@
-use Rattle.std.proofs.Common.{◌≡◌, ◌-◌, ◌^◌, arith, ap, sym, subst, ◌∙◌, set, length}
+use Rattle.std.proofs.Common.{◌≡◌, ◌-◌, ◌^◌, arith, ap, sym, subst, ◌∙◌, set, length, inl, inr}
 use Rattle.pager_model.specs.Records.{is_used, part_of, kept_part}
 use Rattle.pager_model.specs.RecordPlaces.{IsPlaced}
 use Rattle.pager_model.proofs.ExtentLemmas.{eight_pos, eight_small, part_of_eight, aligned_end}
-use Rattle.reservations.proofs.SplitLemmas.{split_up_to-more, ArePlaced-part, AreNoted-part}
+use Rattle.reservations.proofs.SplitLemmas.{kept_cases, split_up_to-more, ArePlaced-part, AreNoted-part}
 use Rattle.reservations.proofs.write_parts.Goals as goal
 
 pub overflow_mul-first : goal.overflow_mul-first
@@ -29,6 +29,15 @@ write-requires-clause-known c =
     let pages : c.pages.result ≡ 8 ^ (r.size - 1) = c.pages.ensures ∙ ap (λ k. 8 ^ k) c.smaller-size.ensures in
     let ends = part_of_eight c.loop-i.i r.size c.requires.splits c.loop-i-test.true in
     rw pages (omega (arith, ends, c.requires.whole_placed.within, c.requires.records_long, c.loop-i.auto.records, eight_pos (r.size - 1)))
+
+pub write-requires-clause-numbered : goal.write-requires-clause-numbered
+write-requires-clause-numbered c =
+    let r = c.args.whole.now in
+    let ends = part_of_eight c.loop-i.i r.size c.requires.splits c.loop-i-test.true in
+    rw c.kept_part.ensures (elim (kept_cases (is_used c.args.used.now) r c.loop-i.i) [
+      | inl empty ↦ rw empty.0 tt
+      | inr whole ↦ rw whole (omega (arith, ends, c.requires.whole_placed.within, c.requires.numbered, eight_pos (r.size - 1)))
+    ])
 
 pub loop-i-preserved : goal.loop-i-preserved
 loop-i-preserved c =

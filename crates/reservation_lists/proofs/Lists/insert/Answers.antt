@@ -39,7 +39,7 @@ invariant_of-self c =
       rw items (HasRoom-with_member _ _ _ _ _ has.0 c.insert_in.ensures.capacity (known w) (none w).base),
       has.1,
       has.2,
-      rw items (told w 0 (sym c.level.ensures.level ∙ c.in-0.is)),
+      rw (items, c.of.ensures) (told w 0 (sym c.level.ensures.level ∙ c.in-0.is)),
     )
 
 pub insert_in-requires-in-1-clause-room : goal.insert_in-requires-in-1-clause-room
@@ -56,7 +56,7 @@ invariant_of-self-in-1 c =
       has.0,
       rw items (HasRoom-with_member _ _ _ _ _ has.1 c.insert_in-in-1.ensures.capacity (known w) (none w).small),
       has.2,
-      rw items (told w 1 (sym c.level.ensures.level ∙ c.in-1.is)),
+      rw (items, c.of.ensures) (told w 1 (sym c.level.ensures.level ∙ c.in-1.is)),
     )
 
 pub insert_in-requires-in_default-clause-room : goal.insert_in-requires-in_default-clause-room
@@ -73,5 +73,5 @@ invariant_of-self-in_default c =
       has.0,
       has.1,
       rw items (HasRoom-with_member _ _ _ _ _ has.2 c.insert_in-in_default.ensures.capacity (known w) (none w).middle),
-      rw items (told w 2 (omega arith)),
+      rw (items, c.of.ensures) (told w 2 (omega arith)),
     )

@@ -2,7 +2,7 @@ use Rattle.std.proofs.Common.{◌≡◌, ◌<◌, ◌≤◌, ℕ, Some, None, ge
 use Rattle.std.proofs.lemmas.List.{get_or_default}
 use Rattle.pager_model.specs.Ages.{Lists, list_at, with_list}
 use Rattle.pager_model.proofs.Options.{in_some}
-use Rattle.reservation_lists.specs.declared.Listed.{Listed}
+use Rattle.reservation_lists.specs.declared.listed.Listed.{Listed}
 use Rattle.reservation_lists.specs.Kept.{AreTold, lists_in, without_frame, without_member}
 use Rattle.reservation_lists.proofs.Members.{HasRoom-without_member}
 use Rattle.reservation_lists.proofs.ToldMembers.{AreTold-without, without_frame-told, without_frame-untold}

@@ -1,4 +1,5 @@
 use Rattle.std.proofs.Common.{◌≡◌, Some, length, set, arith, refl, ap, ◌∙◌, true}
+use Rattle.std.proofs.lemmas.List.{length-set}
 use Rattle.pager_model.specs.Layouts.{frame_for}
 use Rattle.pager_model.specs.Agreement.{has_frame}
 use Rattle.pager_model.specs.RecordPlaces.{IsPlaced}
@@ -13,7 +14,7 @@ insert-requires-clause-unused c =
     let has : has_frame place (Some r) ≡ true = has_frame_from place r (omega arith)
     (omega (arith, c.requires.page.0, c.requires.page.1)) in
     let apart = rw (← c.self.view_is) at c.requires.apart in
-    rw c.frame_for-place.ensures (unused_if_free _ _ _ place c.self.invariant (λ j. apart place j has))
+    rw c.frame_for-place.ensures (unused_if_free _ _ _ place c.self.invariant.0 (λ j. apart place j has))
 
 pub invariant_of-self : goal.invariant_of-self
 invariant_of-self c =
@@ -38,4 +39,4 @@ invariant_of-self c =
       c.insert.ensures,
       c.frame_for-place.ensures,
     )
-    (AreKept-add _ _ _ _ r place c.self.invariant placed apart has filled ids_long)
+    (AreKept-add _ _ _ _ r place c.self.invariant.0 placed apart has filled ids_long, rw length-set c.self.invariant.1)

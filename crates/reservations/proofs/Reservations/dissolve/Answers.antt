@@ -1,4 +1,5 @@
 use Rattle.std.proofs.Common.{◌≡◌, Some, None, length, set, arith, sym, ap, ◌∙◌}
+use Rattle.std.proofs.lemmas.List.{length-set}
 use Rattle.reservations.specs.Kept.{reservation_at}
 use Rattle.reservations.proofs.FrameIds.{AreKept-dissolve, whole_slice}
 use Rattle.reservations.proofs.Reservations.dissolve.Goals as goal
@@ -21,4 +22,4 @@ invariant_of-self c =
           (omega (arith, c.write.auto.ids, c.as_mut_slice-2.ensures.len)),
       noted,
     )
-    (AreKept-dissolve _ _ _ _ c.args.id r c.self.invariant is none filled ids_long)
+    (AreKept-dissolve _ _ _ _ c.args.id r c.self.invariant.0 is none filled ids_long, rw length-set c.self.invariant.1)
