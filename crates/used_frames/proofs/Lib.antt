@@ -1,4 +1,5 @@
 pub mod LinkChanges
+pub mod LinkPairs
 pub mod NoteCounts
 pub mod NoteChanges
 pub mod VictimWalk

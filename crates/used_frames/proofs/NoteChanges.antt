@@ -1,5 +1,5 @@
 -- What stays true of the notes as one changes.
-use Rattle.std.proofs.Common.{◌≡◌, ◌<◌, ℕ, zero, suc, List, ◌∷◌, length, get_or, set, map, replicate, Option, Some, None, IfNone, is_some, true, false, refl, ap, sym, ◌∙◌, subst, inl, inr, arith}
+use Rattle.std.proofs.Common.{◌≡◌, ◌<◌, ℕ, List, length, get_or, set, map, replicate, Option, Some, None, IfNone, is_some, true, false, refl, sym, ◌∙◌, subst, inl, inr, arith}
 use Rattle.std.proofs.lemmas.List.{length-map, map-set}
 use Rattle.std.proofs.lemmas.Bool.{cases_Bool}
 use Rattle.std.proofs.lemmas.Grind.{common_steps}
@@ -7,7 +7,7 @@ use Rattle.std.proofs.Math.ListN.{get_or-map}
 use Rattle.std.proofs.Math.Seq.{map-set_same}
 use Rattle.pager_model.specs.declared.reservation.Used.{Used}
 use Rattle.pager_model.specs.FrameStates.{claim_in, with_claim}
-use Rattle.pager_model.proofs.Lists.{get_or-alike, get_or_within}
+use Rattle.pager_model.proofs.Lists.{map-alike, get_or-alike, get_or_within}
 use Rattle.pager_model.proofs.Options.{none_from_never, some_from_is_some}
 use Rattle.used_frames.specs.AgeOrders.{Links, IsInOrder}
 use Rattle.used_frames.specs.Kept.{AreKept, AreMutual, link_age}
@@ -72,15 +72,11 @@ pub AreMutual-unclaim : (by_frame by_processor : List (Option ℕ)) (frame proce
 AreMutual-unclaim xs ys i j are i_in j_in has = λ a b.
     (clear_both xs ys i j i_in j_in has (λ a b. (are a b).0) a b, clear_both ys xs j i j_in i_in ((are i j).0 has) (λ b a. (are a b).1) b a)
 
-map-none : {X : Type 0} (f : Option X → Option ℕ) → f None ≡ None → (n : ℕ) → map f (replicate n None) ≡ replicate n None
-map-none f none zero = refl
-map-none f none (suc n) = rw none (ap (λ xs. None ∷ xs) (map-none f none n))
-
 pub AreKept-none : (frames processors : ℕ) (order : Links) → IsInOrder order (replicate frames None)
     → AreKept (replicate frames None) order (replicate processors None)
 AreKept-none frames processors order is = record {
-  ordered = subst (IsInOrder order) (sym (map-none link_age refl frames)) is;
-  claimed = rw (map-none claim_in refl frames) (AreMutual-none frames processors);
+  ordered = subst (IsInOrder order) (sym (map-alike link_age frames None)) is;
+  claimed = rw (map-alike claim_in frames None) (AreMutual-none frames processors);
 }
 
 -- a frame that nobody claims leaves the claims as they are

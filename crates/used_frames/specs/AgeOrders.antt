@@ -1,5 +1,6 @@
 -- Frames in order of age, each linked to the next and to the one before.
-use Rattle.std.specs.Prelude.{ℕ, ◌≡◌, ◌+◌, ◌≤◌, List, length, slice_index, slice_index_or, slice_set, Option, Some, None, IfSome, IsSomeAnd}
+use Rattle.std.specs.Prelude.{ℕ, ◌≡◌, ◌+◌, ◌≤◌, List, length, map, slice_index, slice_index_or, slice_set, Option, Some, None, IfSome, IsSomeAnd}
+use Rattle.used_frames.specs.declared.age_order.Link.{Link}
 
 -- For each frame the next one and the one before. The end, which is the number after the last frame's, stands before the first frame
 -- in order and after the last.
@@ -7,6 +8,10 @@ pub record Links : Type 0 where
   pub next : List ℕ
   pub prev : List ℕ
   pub end : ℕ
+
+-- the links of pairs of a next one and the one before
+abbrev pub links_in : List Link → ℕ → Links
+links_in pairs end = record { next = map (λ (l : Link). l.next) pairs; prev = map (λ (l : Link). l.prev) pairs; end = end }
 
 abbrev pub next_of : Links → ℕ → ℕ
 next_of links at = slice_index links.next at

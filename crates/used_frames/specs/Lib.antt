@@ -1,4 +1,5 @@
 pub mod AgeOrders
 pub mod Kept
 pub mod Noted
+pub mod Notes
 pub mod Victims

@@ -2,31 +2,38 @@
 
 ghost use Rattle.std.specs.Prelude.{◌≡◌, ℕ, ◌+◌, ◌<◌, ◌≤◌, List, Option, Some, None, IfOk};
 ghost use Rattle.std.specs.Prelude.{replicate, slice_set};
-ghost use Rattle.used_frames.specs.AgeOrders.{age_of, least_after, linked, IsInOrder, IsLeastFrom, IsStop};
+ghost use Rattle.used_frames.specs.AgeOrders.{AreLinks, next_of, prev_of, age_of, least_after, linked, IsInOrder, IsLeastFrom, IsStop};
 
 use pager_model::NoMemory;
 use std::alloc::Global;
 use std::marker::Model;
+
+/// What comes after a frame or the end, and what before.
+#[derive(Clone, Copy, Debug)]
+pub(crate) struct Link {
+    next: u32,
+    prev: u32,
+}
 
 /// Frames in order of age, each linked to the next and to the one before.
 ///
 /// The links don't have the ages: contracts say for which ages they are in order.
 #[derive(Debug, Drop)]
 pub(crate) struct AgeOrder {
-    next: Vec<u32>,
-    prev: Vec<u32>,
+    /// For each frame, and the end, the one after it and the one before.
+    links: Vec<Link>,
     /// The number after the last frame's, which stands before the first frame in order and after the last.
     end: u32,
 }
 
 impl Model for AgeOrder {
-    ghost use Rattle.used_frames.specs.AgeOrders.{AreLinks, Links};
+    ghost use Rattle.used_frames.specs.AgeOrders.{AreLinks, Links, links_in};
 
     ghost Value = { Links };
 
-    ghost view = { λ o. record { next = o.next.items; prev = o.prev.items; end = o.end } };
+    ghost view = { λ o. links_in o.links.items o.end };
 
-    ghost invariant = { λ o. AreLinks (record { next = o.next.items; prev = o.prev.items; end = o.end }) };
+    ghost invariant = { λ o. AreLinks (links_in o.links.items o.end) };
 }
 
 impl AgeOrder {
@@ -36,9 +43,12 @@ impl AgeOrder {
         ensures empty { IfOk result (λ order. IsInOrder order (replicate frames None)) }
     {
         let places = frames as usize + 1;
+        let alone = Link {
+            next: frames,
+            prev: frames,
+        };
         Ok(AgeOrder {
-            next: vec![in alloc; frames; places]?,
-            prev: vec![in alloc; frames; places]?,
+            links: vec![in alloc; alone; places]?,
             end: frames,
         })
     }
@@ -51,7 +61,7 @@ impl AgeOrder {
             → ((other old : ℕ) → age_of ages other ≡ Some old → old < age)
             → IsInOrder self.new (slice_set ages frame (Some age)) }
     {
-        let last = self.prev[self.end as usize];
+        let last = self.prev_at(self.end);
         self.link(last, frame);
         self.link(frame, self.end);
     }
@@ -63,8 +73,8 @@ impl AgeOrder {
         ensures removed { (ages : List (Option ℕ)) (age : ℕ) → IsInOrder self.old ages → age_of ages frame ≡ Some age
             → IsInOrder self.new (slice_set ages frame None) }
     {
-        let before = self.prev[frame as usize];
-        let after = self.next[frame as usize];
+        let before = self.prev_at(frame);
+        let after = self.next_at(frame);
         self.link(before, after);
     }
 
@@ -90,8 +100,25 @@ impl AgeOrder {
         ensures { (ages : List (Option ℕ)) → IsInOrder self.now ages → IsStop ages self.now.end at
             → IsLeastFrom ages (least_after (age_of ages at)) result }
     {
-        let next = self.next[at as usize];
+        let next = self.next_at(at);
         (next != self.end).then_some(next)
+    }
+
+    /// What comes next after a frame or the end.
+    fn next_at(&self, at: u32) -> u32
+        requires { at ≤ self.now.end }
+        ensures { result ≡ next_of self.now at }
+    {
+        self.links[at as usize].next
+    }
+
+    /// What comes before a frame or the end.
+    fn prev_at(&self, at: u32) -> u32
+        requires { at ≤ self.now.end }
+        ensures prev { result ≡ prev_of self.now at }
+        ensures links { AreLinks self.now }
+    {
+        self.links[at as usize].prev
     }
 
     /// The frame or the end `after` comes next after `before` from now on.
@@ -100,7 +127,7 @@ impl AgeOrder {
         requires after { after ≤ self.old.end }
         ensures { self.new ≡ linked self.old before after }
     {
-        self.next[before as usize] = after;
-        self.prev[after as usize] = before;
+        self.links[before as usize].next = after;
+        self.links[after as usize].prev = before;
     }
 }

@@ -12,6 +12,7 @@ ghost use Rattle.used_frames.specs.Noted.{note_of, with_note, with_claim_of, Cla
 ghost use Rattle.used_frames.specs.Victims.{IsLeast};
 
 mod age_order;
+mod note;
 mod notes;
 
 use age_order::AgeOrder;

@@ -4,6 +4,7 @@ ghost use Rattle.std.specs.Prelude.{◌≡◌, ◌+◌, ◌^◌, ◌<◌, ◌≤
 ghost use Rattle.std.specs.Int.{from_bool};
 ghost use Rattle.pager_model.specs.FrameStates.{is_wired_place, is_claimed_place, with_claim};
 
+use crate::note::Note;
 use pager_model::{NoMemory, Used};
 use std::alloc::Global;
 use std::marker::Model;
@@ -13,7 +14,7 @@ use std::marker::Model;
 /// Contracts see the list by frame of what is noted.
 #[derive(Debug, Drop)]
 pub(crate) struct Notes {
-    places: Vec<Option<Used>>,
+    places: Vec<Note>,
     used: u32,
     wired: u32,
     claimed: u32,
@@ -66,7 +67,7 @@ impl Notes {
         ensures { IfOk result (λ notes. notes ≡ replicate frames None) }
     {
         Ok(Notes {
-            places: vec![in alloc; None; frames as usize]?,
+            places: vec![in alloc; Note::NONE; frames as usize]?,
             used: 0,
             wired: 0,
             claimed: 0,
@@ -77,7 +78,7 @@ impl Notes {
     pub(crate) fn get(&self, frame: u32) -> Option<Used>
         ensures { result ≡ slice_index_or self.now frame None }
     {
-        self.places.get(frame as usize).copied().flatten()
+        self.places.get(frame as usize)?.get()
     }
 
     /// Whether a processor claims the frame.
@@ -96,7 +97,7 @@ impl Notes {
         self.used = recount(self.used, before.is_some(), note.is_some());
         self.wired = recount(self.wired, is_wired(before), is_wired(note));
         self.claimed = recount(self.claimed, is_claimed(before), is_claimed(note));
-        self.places[frame as usize] = note;
+        self.places[frame as usize] = Note::of(note);
     }
 
     /// The used frame is claimed by this processor, or by none.
