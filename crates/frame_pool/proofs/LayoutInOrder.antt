@@ -10,7 +10,7 @@ use Rattle.pager_model.specs.Agreement.{has_frame}
 use Rattle.pager_model.specs.Layouts.{Layout, frame_for, stamped, populated, split_layout, part_with, narrows_to, narrow_layout, split_on, record_at, is_free}
 use Rattle.pager_model.specs.Records.{Records, is_used, part_size, part_count, part_at, split_records}
 use Rattle.pager_model.specs.SizeSets.{SizeSet}
-use Rattle.reservation_lists.specs.Kept.{KeptLists, without_frame}
+use Rattle.reservation_lists.specs.Kept.{KeptLists, is_listed, without_frame}
 use Rattle.reservations.specs.Kept.{CoversPage}
 use Rattle.pager_model.specs.RecordPlaces.{IsPlaced, ArePlaced}
 use Rattle.pager_laws.proofs.PartsAt.{part_ends, used_part}
@@ -28,7 +28,7 @@ use Rattle.pager_laws.proofs.LayoutBreak.{record_at-part, part_with-has, part_si
 use Rattle.pager_laws.proofs.LayoutRelease.{not_in_rest}
 use Rattle.pager_laws.proofs.AgeLists.{list_of-used}
 use Rattle.frame_pool.proofs.ListsByFrame.{found_record_and}
-use Rattle.frame_pool.proofs.UnlistedFrames.{AreListed-without_frame}
+use Rattle.frame_pool.proofs.UnlistedFrames.{AreListed-without_frame, is_listed-full, yield_in-alone}
 use Rattle.pager_laws.proofs.PagePlaces.{covers-CoversPageOf, frame_in-is, used_in-unused}
 use Rattle.pager_laws.proofs.LayoutPlacing.{MayPut-stamped}
 use Rattle.pager_laws.proofs.LayoutWithRecord.{IsLaid-put}
@@ -262,6 +262,12 @@ module _ (l : Layout) (frame : ℕ) (laid : IsLaid l) (alone : IsSomeAnd (record
   used_alone =
       let some = laid.some_used frame own.0 own.1 in
       ap (is_used l.used) (sym named ∙ sym (only_frame own.0 some.0 own.2 some.1)) ∙ some.2
+
+  -- so it stands in no list
+  pub unlisted_alone : (kept : KeptLists) (map : Populations) → IsInOrder l kept map → is_listed frame kept.lists ≡ false
+  unlisted_alone kept map order =
+      is_listed-full l.sizes kept.lists l.used l.records frame own.0 order.listed laid.placed own.1
+      (yield_in-alone l.sizes (is_used l.used) own.0 own.2 (ap (is_used l.used) named ∙ used_alone))
 
   -- and no other reservation has it
   pub same_alone : (q : Reservation) → record_at l q.frame ≡ Some q → has_frame frame (Some q) ≡ true → (q.frame ≡ frame) × (q.size ≡ 0)

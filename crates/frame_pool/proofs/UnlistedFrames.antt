@@ -1,14 +1,15 @@
--- No list has a member of a frame at which no reservation begins: where one goes out, the lists are those without its frame, and at first they are empty.
-use Rattle.std.proofs.Common.{◌≡◌, ◌≢◌, ℕ, zero, suc, ◌<◌, Bool, true, false, cond, eqb, List, [], get_or, set, Option, Some, None, refl, sym, ap, ◌∙◌, arith, replicate}
-use Rattle.std.specs.List.{All}
-use Rattle.std.proofs.lemmas.Bool.{ne_eqb, or_from}
+-- No list has a member of a frame at which no reservation begins, or a full one: where one goes out, the lists are those without its
+-- frame, and at first they are empty.
+use Rattle.std.proofs.Common.{◌≡◌, ◌≢◌, ◌||◌, ℕ, zero, suc, ◌+◌, ◌-◌, ◌*◌, ◌^◌, ◌<◌, Bool, true, false, cond, eqb, List, [], get_or, set, Option, Some, None, refl, sym, ap, ◌∙◌, arith, replicate}
+use Rattle.std.specs.List.{All, list_any, range_with_len}
+use Rattle.std.proofs.lemmas.Bool.{cond-false, ne_eqb, or_from}
 use Rattle.std.proofs.lemmas.List.Folds.{list_any_none}
-use Rattle.std.proofs.lemmas.Option.{none-some}
+use Rattle.std.proofs.lemmas.Option.{none-some, same_Some}
 use Rattle.pager_model.specs.declared.reservation.Reservation.{Reservation}
 use Rattle.pager_model.specs.Ages.{Lists, list_at, with_member}
 use Rattle.pager_model.specs.Headline.{member_of}
 use Rattle.pager_model.specs.Layouts.{list_of}
-use Rattle.pager_model.specs.Records.{is_used, yield_in, same_size}
+use Rattle.pager_model.specs.Records.{is_used, none_used, has_empty, largest_empty, yield_in, same_size}
 use Rattle.pager_model.specs.SizeSets.{SizeSet}
 use Rattle.pager_model.proofs.Lists.{get_or_within, get_or-set_default}
 use Rattle.reservation_lists.specs.Kept.{has_member_of, is_listed, no_members, without_member_of, without_frame}
@@ -26,14 +27,39 @@ others_of_list z used k records id placed none =
     let here : at ≡ id = sym (placed at r is).named ∙ same in
     none-some r (sym none ∙ sym (ap (λ n. get_or records n None) here) ∙ is))
 
+-- a frame is listed nowhere, where the lists of these reservations have no member of it
+unlisted_from : (z : SizeSet) (lists : Lists) (used : List Bool) (records : List (Option Reservation)) (id : ℕ)
+    → AreListed z lists used records → ((k : ℕ) → All (λ m. m.frame ≢ id) (list_of z used k records)) → is_listed id lists ≡ false
+unlisted_from z lists used records id are others =
+    let missing : (k : ℕ) → k < 3 → has_member_of id (list_at lists k) ≡ false =
+    λ k small. ap (has_member_of id) (are k small)
+    ∙ list_any_none (λ m. eqb m.frame id) (list_of z used k records) (λ i d within. ne_eqb _ _ (others k i d within)) in
+    or_from _ _ (missing 0 (omega arith)) (or_from _ _ (missing 1 (omega arith)) (missing 2 (omega arith)))
+
 pub is_listed-none : (z : SizeSet) (lists : Lists) (used : List Bool) (records : List (Option Reservation)) (id : ℕ)
     → AreListed z lists used records → ArePlaced records → get_or records id None ≡ None → is_listed id lists ≡ false
 is_listed-none z lists used records id are placed none =
-    let missing : (k : ℕ) → k < 3 → has_member_of id (list_at lists k) ≡ false =
-    λ k small. ap (has_member_of id) (are k small)
-    ∙ list_any_none (λ m. eqb m.frame id) (list_of z used k records) (λ i d within. ne_eqb _ _
-    (others_of_list z used k records id placed none i d within)) in
-    or_from _ _ (missing 0 (omega arith)) (or_from _ _ (missing 1 (omega arith)) (missing 2 (omega arith)))
+    unlisted_from z lists used records id are (λ k. others_of_list z used k records id placed none)
+
+-- nor does one have a member of a frame at which a full reservation begins
+pub is_listed-full : (z : SizeSet) (lists : Lists) (used : List Bool) (records : List (Option Reservation)) (id : ℕ) (r : Reservation)
+    → AreListed z lists used records → ArePlaced records → get_or records id None ≡ Some r → yield_in z (is_used used) r ≡ None
+    → is_listed id lists ≡ false
+is_listed-full z lists used records id r are placed is full =
+    unlisted_from z lists used records id are (λ k. All-list_of z (λ m. m.frame ≢ id) used k records (λ at q stands yields same.
+    let here : at ≡ id = sym (placed at q stands).named ∙ same in
+    let it : r ≡ q = same_Some r q (sym is ∙ sym (ap (λ n. get_or records n None) here) ∙ stands) in
+    none-some k (sym full ∙ ap (yield_in z (is_used used)) it ∙ yields)))
+
+-- a reservation of one frame, which is used, is full
+pub yield_in-alone : (z : SizeSet) (used : ℕ → Bool) (r : Reservation) → r.size ≡ 0 → used r.frame ≡ true → yield_in z used r ≡ None
+yield_in-alone z used r one is =
+    let start : r.frame + 0 * 1 ≡ r.frame = omega arith in
+    let full : has_empty used r 0 ≡ false =
+    ap (λ k. list_any (λ i. none_used used (r.frame + i * 1) 1) (range_with_len 0 (8 ^ (k - 0)))) one
+    ∙ ap (λ f. none_used used f 1 || false) start
+    ∙ rw is refl in
+    ap (largest_empty z used r) one ∙ cond-false _ _ _ full
 
 -- The reservation that begins at a frame goes out of the lists.
 list_at-without_frame : (id : ℕ) (lists : Lists) (k : ℕ) → list_at (without_frame id lists) k ≡ without_member_of id (list_at lists k)

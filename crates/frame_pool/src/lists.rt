@@ -1,6 +1,6 @@
 ghost use Rattle.std.specs.Prelude.{◌≡◌, ◌<◌, false, List, Option, length, slice_set, slice_index_or, None, IsSomeAnd};
 ghost use Rattle.pager_model.specs.declared.reservation.Reservation.{Reservation};
-ghost use Rattle.reservation_lists.specs.Kept.{is_listed};
+ghost use Rattle.reservation_lists.specs.Kept.{is_listed, without_frame};
 ghost use Rattle.reservations.specs.Kept.{reservation_at};
 ghost use Rattle.pager_laws.specs.Listed.{AreListed};
 ghost use Rattle.frame_pool.specs.Listed.{WasSplit};
@@ -25,6 +25,18 @@ pub(crate) fn enlist(lists: &mut Lists, reservations: &Reservations, sizes: Size
             let reservation = reservations.get(id).unwrap();
             lists.insert(size, reservation.stamp, id);
         }
+    }
+}
+
+/// Takes a reservation out of its list, where it is in one. One of a single frame is in none: its place is used.
+pub(crate) fn delist(lists: &mut Lists, reservation: &Reservation)
+    requires known { reservation.now.frame < lists.old.frames }
+    requires alone { reservation.now.size ≡ 0 → is_listed reservation.now.frame lists.old.lists ≡ false }
+    ensures { lists.new ≡ record lists.old { lists = without_frame reservation.now.frame lists.old.lists } }
+{
+    // A reservation that was broken leaves many of a single frame. For these nothing that the lists keep is touched in memory.
+    if reservation.size.level() > 0 {
+        lists.remove(reservation.frame);
     }
 }
 

@@ -12,7 +12,7 @@ ghost use Rattle.frame_pool.specs.Placed.{first_of, with_reservation};
 ghost use Rattle.frame_pool.specs.ReservedChanges.{Vacates, none_reserved, with_free};
 ghost use Rattle.pager_model.specs.Bounds.{most_frames, space_pages, most_spaces};
 
-use crate::lists::{enlist, enlist_parts};
+use crate::lists::{delist, enlist, enlist_parts};
 use crate::mapped;
 use crate::records::{page_at, yields_in};
 use pager_model::{Extent, MOST_SPACES, NoMemory, Reservation, Size, Sizes, Want};
@@ -205,7 +205,7 @@ impl Reserved {
     {
         let reservation = self.reservation_of(frame).unwrap();
         let id = reservation.frame;
-        self.lists.remove(id);
+        delist(&mut self.lists, &reservation);
         if self.reservations.vacate(id, page_at(&reservation, frame)) {
             mapped::remove(&mut self.map, &self.reservations, id);
             self.reservations.dissolve(id);

@@ -1,5 +1,6 @@
 use Rattle.std.proofs.Common.{◌≡◌, ◌∙◌, ℕ, Some, None, true, false, replicate, refl, sym, ap, subst}
 use Rattle.std.proofs.lemmas.List.{length-replicate, set-get_or}
+use Rattle.std.specs.Option.{IsSomeAnd}
 use Rattle.pager_model.specs.Agreement.{has_frame}
 use Rattle.pager_model.specs.Layouts.{Layout, record_at, is_last}
 use Rattle.pager_model.specs.Records.{Records}
@@ -10,7 +11,7 @@ use Rattle.pager_laws.specs.Laid.{IsLaid}
 use Rattle.frame_pool.specs.Mapped.{IsMapped}
 use Rattle.frame_pool.specs.ReservedChanges.{without_place}
 use Rattle.frame_pool.specs.ReservedState.{reserved_in}
-use Rattle.frame_pool.proofs.LayoutInOrder.{IsInOrder-again, IsInOrder-gone, known_to_lists}
+use Rattle.frame_pool.proofs.LayoutInOrder.{IsInOrder-again, IsInOrder-gone, known_to_lists, unlisted_alone}
 use Rattle.frame_pool.proofs.ReservedLayouts.{IsLaid-without_place, vacated}
 use Rattle.frame_pool.proofs.reserved.Reserved.vacate.Goals as goal
 use Rattle.frame_pool.proofs.reserved.Reserved.vacate.Goals.{After-vacate, After-enlist}
@@ -43,21 +44,24 @@ page_at-requires-clause-pages c =
     let found = rw (c.unwrap-reservation.ensures, ← c.self.view_is) at c.reservation_of.ensures.found in
     (c.self.invariant.laid.placed r.frame r found.0).pages_aligned
 
-pub remove-requires : goal.remove-requires
-remove-requires c =
+pub delist-requires : goal.delist-requires
+delist-requires c =
     let found = rw (c.unwrap-reservation.ensures, ← c.self.view_is) at c.reservation_of.ensures.found in
+    let r = c.unwrap-reservation.result in
+    let l = reserved_in c.self.inside in
     record {
-      known = known_to_lists (reserved_in c.self.inside) _ c.unwrap-reservation.result c.self.invariant.laid found.0
+      known = known_to_lists l _ r c.self.invariant.laid found.0 c.self.inside.lists c.self.inside.map c.self.invariant;
+      alone = λ one. unlisted_alone l r.frame c.self.invariant.laid (subst (λ o. IsSomeAnd o (λ q. q.size ≡ 0)) (sym found.0) one)
           c.self.inside.lists c.self.inside.map c.self.invariant;
     }
 
-pub remove-requires-then-vacate-clause-mapped : goal.remove-requires-then-vacate-clause-mapped
-remove-requires-then-vacate-clause-mapped c =
+pub remove-requires-clause-mapped : goal.remove-requires-clause-mapped
+remove-requires-clause-mapped c =
     subst (λ (st : Records). IsMapped c.self.inside.map st.records) (sym
-    (unused (goal.at.remove-requires-then-vacate-clause-mapped c).After-vacate)) c.self.invariant.mapped
+    (unused (goal.at.remove-requires-clause-mapped c).After-vacate)) c.self.invariant.mapped
 
 pub enlist-requires-clause-unlisted : goal.enlist-requires-clause-unlisted
-enlist-requires-clause-unlisted c = rw c.remove.ensures (is_listed-without c.unwrap-reservation.result.frame c.self.inside.lists.lists)
+enlist-requires-clause-unlisted c = rw c.delist.ensures (is_listed-without c.unwrap-reservation.result.frame c.self.inside.lists.lists)
 
 pub invariant_of-self : goal.invariant_of-self
 invariant_of-self c =
@@ -67,8 +71,8 @@ invariant_of-self c =
     let r = c.unwrap-reservation.result in
     let gone = c.dissolve.ensures ∙ ap (λ st. with_record st r.frame None) (unused w) in
     let after = vacated l c.args.frame r true c.dissolve.new.self (tells w ∙ c.if-vacate.true) gone in
-    rw c.remove.ensures
-    (IsInOrder-gone l r.frame r c.self.invariant.laid (owner w).0 _ inside.lists inside.map c.remove-then-vacate.new.map c.self.invariant
+    rw c.delist.ensures
+    (IsInOrder-gone l r.frame r c.self.invariant.laid (owner w).0 _ inside.lists inside.map c.remove.new.map c.self.invariant
     (record {
       frame = c.args.frame;
       has = (owner w).1;
@@ -79,7 +83,7 @@ invariant_of-self c =
       records = ap (λ (st : Records). st.records) gone;
     })
     (length-replicate inside.lists.frames false)
-    (subst (λ (st : Records). IsMapped c.remove-then-vacate.new.map st.records) (sym c.dissolve.ensures) c.remove-then-vacate.ensures))
+    (subst (λ (st : Records). IsMapped c.remove.new.map st.records) (sym c.dissolve.ensures) c.remove.ensures))
 
 pub returns-then-vacate : goal.returns-then-vacate
 returns-then-vacate c =
@@ -87,7 +91,7 @@ returns-then-vacate c =
     let r = c.unwrap-reservation.result in
     let gone = c.dissolve.ensures ∙ ap (λ st. with_record st r.frame None) (unused w) in
     let last = tells w ∙ c.if-vacate.true in
-    rw (c.remove.ensures, ← c.self.view_is)
+    rw (c.delist.ensures, ← c.self.view_is)
     (record {
       whole = r;
       stood = (owner w).0;
@@ -99,7 +103,7 @@ returns-then-vacate c =
 
 -- the lists are of as many frames then
 room : (c : After-enlist) → c.enlist.new.lists.frames ≡ c.self.inside.lists.frames
-room c = c.enlist.ensures.room ∙ ap (λ (k : KeptLists). k.frames) c.remove.ensures
+room c = c.enlist.ensures.room ∙ ap (λ (k : KeptLists). k.frames) c.delist.ensures
 
 pub invariant_of-self-2 : goal.invariant_of-self-2
 invariant_of-self-2 c =
@@ -123,7 +127,7 @@ invariant_of-self-2 c =
       records = ap (λ (st : Records). st.records) (unused w) ∙ sym (set-get_or inside.reservations.records r.frame None);
     })
     (length-replicate m false)
-    (room (goal.at.invariant_of-self-2 c).After-enlist) (rw c.remove.ensures at c.enlist.ensures.listed)
+    (room (goal.at.invariant_of-self-2 c).After-enlist) (rw c.delist.ensures at c.enlist.ensures.listed)
     (subst (λ (st : Records). IsMapped inside.map st.records) (sym (unused w)) c.self.invariant.mapped)
 
 pub returns : goal.returns
