@@ -1,5 +1,5 @@
 -- What becomes of the rights of pages as a block gets one value, a leaf, or other rights in a part of its leaf.
-use Rattle.std.proofs.Common.{◌≡◌, ◌≢◌, ℕ, zero, suc, ◌+◌, ◌/◌, ◌%◌, ◌<◌, ◌≤◌, ◌==◌, cond, if◌then◌else◌, List, [], ◌∷◌, Option, Some, None, length, replicate, slice_index_or, slice_set, is_some, nat_le, nat_lt, ◌&&◌, refl, sym, ap, inl, inr, ◌∙◌, arith, unwrap_or, IfSome, IfNone}
+use Rattle.std.proofs.Common.{◌≡◌, ◌≢◌, ℕ, zero, suc, ◌+◌, ◌/◌, ◌%◌, ◌<◌, ◌==◌, cond, if◌then◌else◌, List, [], ◌∷◌, Option, Some, None, length, replicate, slice_index_or, slice_set, is_some, nat_le, nat_lt, ◌&&◌, refl, sym, ap, inl, inr, ◌∙◌, arith, unwrap_or, IfSome, IfNone}
 use Rattle.std.specs.List.{count_by}
 use Rattle.std.proofs.lemmas.Bool.{cases_eq, cond-true, cond-false, eq-eqb, ne_eqb}
 use Rattle.std.proofs.lemmas.List.{get_or-set_other, get_or-set_same, length-set, get_or-replicate, length-replicate, get_or_append_left, length-append}
