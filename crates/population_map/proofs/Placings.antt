@@ -1,6 +1,5 @@
 -- What becomes of the marks as an extent is placed, or taken out once its pages are evicted; and what a walk finds.
 use Rattle.std.proofs.Common.{◌≡◌, ◌≢◌, ℕ, zero, suc, ◌+◌, ◌-◌, ◌*◌, ◌/◌, ◌%◌, ◌^◌, ◌<◌, ◌≤◌, ◌⊎◌, ◌↔◌, ◌==◌, ◌||◌, Bool, true, false, Option, Some, None, unwrap_or, is_some, MatchOption, inl, inr, refl, sym, ap, subst, ◌∙◌, arith}
-use Rattle.std.specs.Cmp.{both_ways}
 use Rattle.std.specs.Int.{bit_at}
 use Rattle.std.specs.List.{range_with_len, count_by}
 use Rattle.std.proofs.lemmas.Bool.{cases_eq, cases_lt, false≢true, false_from_ne_true, or_left, or_right, eq-eqb, eqb-true}
@@ -19,6 +18,7 @@ use Rattle.population_map.specs.Kept.{AreMarks, IsPopulation}
 use Rattle.population_map.specs.Populations.{mark_of, id_of, is_placed, is_populated, placed_pages, unmarked, IsInNone, SameRoom, PlacesOnly, EmptiesOnly, SomePopulated, AllPopulated, page_at}
 use Rattle.population_map.proofs.Masks.{no_bit}
 use Rattle.population_map.proofs.Marks.{mark_alike, id_alike, placed_by, placed_size, rows_placed, row_if_id, some_page, full_page, all_pages, pages_all, bits_over, bit_of_page, page_of_bit}
+use Rattle.population_map.proofs.Swaps.{ChangesIds, marks_with_ids, IsSwapped, IsSwappedOrSame, pages_kept, ids_swapped}
 use Rattle.population_map.proofs.Ways.{placed_alike}
 
 some_or_none : {X : Type 0} (o : Option X) → (o ≡ None) ⊎ (is_some o ≡ true)
@@ -28,52 +28,6 @@ some_or_none (Some x) = inr refl
 -- no placed extent has a page where none has an id there
 pub in_none : (m : Arena Mark) (page : ℕ) → IsInNone m page → is_placed m page ≡ false
 in_none m page none = false_from_ne_true _ (λ is. let at = placed_size m page is in false≢true (sym (ap is_some (none at.0 at.1)) ∙ at.2))
-
--- ---- ids change, and no bit does
-
--- A tree after the ids of some extents changed: bits of marks are as before, and what is kept is right.
-pub record ChangesIds (m n : Arena Mark) : Type 0 where
-  pub splits : SplitsAreRowsBelow n
-  pub some : (size page part : ℕ) → size ≤ 3 → part < 8 → (bit_at (mark_of n size page).some part ≡ 1) ↔
-      (bit_at (mark_of m size page).some part ≡ 1)
-  pub full : (size page part : ℕ) → size ≤ 3 → part < 8 → (bit_at (mark_of n size page).full part ≡ 1) ↔
-      (bit_at (mark_of m size page).full part ≡ 1)
-  pub no_parts : (page : ℕ) → ((mark_of n 0 page).some ≡ 0) × ((mark_of n 0 page).full ≡ 0)
-  pub pages_full : (page : ℕ) → (mark_of n 1 page).full ≡ (mark_of n 1 page).some
-  pub in_use : (size page : ℕ) → size ≤ 3 → is_some (row n size page) ≡ true
-      → (is_some (id_of n size page) ≡ true) ⊎ (HasBit (mark_of n size page).some ⊎ HasBit (mark_of n size page).full)
-  pub placed : (page : ℕ) → is_populated n page ≡ true → is_placed n page ≡ true
-  pub apart : (a b page : ℕ) → a ≤ 3 → b ≤ 3 → is_some (id_of n a page) ≡ true → is_some (id_of n b page) ≡ true → a ≡ b
-
-pub marks_with_ids : (m n : Arena Mark) → AreMarks m → ChangesIds m n → AreMarks n
-marks_with_ids m n marks c = record {
-  splits = c.splits;
-  in_use = c.in_use;
-  no_parts = c.no_parts;
-  pages_full = c.pages_full;
-  some = λ size page low less.
-      let old = marks.some size page low less in
-      let bit = c.some (suc size) page (page / 8 ^ size % 8) (omega arith) (omega arith) in (
-        λ h. let x = old.0 (bit.0 h) in (x.0, x.1, (c.some size page x.0 (omega arith) x.1).1 x.2),
-        λ h. bit.1 (old.1 (h.0, h.1, (c.some size page h.0 (omega arith) h.1).0 h.2)),
-      );
-  full = λ size page low less.
-      let old = marks.full size page low less in
-      let bit = c.full (suc size) page (page / 8 ^ size % 8) (omega arith) (omega arith) in (
-        λ h. let x = old.0 (bit.0 h) in (λ part small. (c.full size page part (omega arith) small).1 (x part small)),
-        λ h. bit.1 (old.1 (λ part small. (c.full size page part (omega arith) small).0 (h part small))),
-      );
-  placed = c.placed;
-  apart = c.apart;
-}
-
--- the same pages are populated
-same_pages : (m n : Arena Mark) (page : ℕ)
-    → (bit_at (mark_of n 1 page).some (page % 8) ≡ 1) ↔ (bit_at (mark_of m 1 page).some (page % 8) ≡ 1)
-    → is_populated n page ≡ is_populated m page
-same_pages m n page bit =
-    both_ways (is_populated n page) (is_populated m page)
-    (λ h. page_of_bit m page (bit.0 (bit_of_page n page h))) (λ h. page_of_bit n page (bit.1 (bit_of_page m page h)))
 
 -- ---- the marks after one row changed
 
@@ -117,82 +71,34 @@ swapped_ids m n size page value s = record {
   others = λ part other less apart. ap (λ v. v.id) (mark_else m n size page value s.changes part other less apart);
 }
 
--- bits of a mask are as before, where the extent had none and gets none
-swapped_bits : (mask : Mark → ℕ) (m n : Arena Mark) (size page : ℕ) (value : Option Mark) → ChangesOnly m n size page value
-    → mask (unwrap_or value unmarked) ≡ 0 → ((other : ℕ) → other / 8 ^ size ≡ page / 8 ^ size → HasBit (mask (mark_of m size other)) → ⊥)
-    → (part other bit : ℕ) → part ≤ 3 → bit < 8
-    → (bit_at (mask (mark_of n part other)) bit ≡ 1) ↔ (bit_at (mask (mark_of m part other)) bit ≡ 1)
-swapped_bits mask m n size page value changes now before part other bit less low = elim (here_or_not size page part other) [
+swapped_each : (m n : Arena Mark) (size page : ℕ) (value : Option Mark) → SwapsId m n size page value → (part other : ℕ) → part ≤ 3
+    → IsSwappedOrSame m n part other
+swapped_each m n size page value s part other less = elim (here_or_not size page part other) [
+  | inr else ↦ inr (s.changes.others part other less else)
   | inl here ↦
       let there = at_size size page part other here.0 here.1 in
-      let at = mark_here m n size page value changes other there in
-      subst (λ k. (bit_at (mask (mark_of n k other)) bit ≡ 1) ↔ (bit_at (mask (mark_of m k other)) bit ≡ 1)) (sym here.0) (
-        λ h. absurd (no_bit 0 refl (bit, low, ap (λ x. bit_at x bit) (sym (ap mask at ∙ now)) ∙ h)),
-        λ h. absurd (before other there (bit, low, h)),
-      )
-  | inr else ↦ let at = ap (λ v. bit_at (mask v) bit) (mark_else m n size page value changes part other less else) in
-      (λ h. sym at ∙ h, λ h. at ∙ h)
+      let at = mark_here m n size page value s.changes other there in
+      inl (subst (λ k. IsSwapped m n k other) (sym here.0) (record {
+        some_now = ap (λ v. v.some) at ∙ s.some_now;
+        full_now = ap (λ v. v.full) at ∙ s.full_now;
+        some_before = s.some_before other there;
+        full_before = s.full_before other there;
+        use_now = λ has. ap is_some ((swapped_ids m n size page value s).changed other there)
+            ∙ s.use_now (ap is_some (sym (s.changes.changed other there)) ∙ has);
+      }))
 ]
 
-swapped_some : (m n : Arena Mark) (size page : ℕ) (value : Option Mark) → SwapsId m n size page value → (part other bit : ℕ) → part ≤ 3
-    → bit < 8 → (bit_at (mark_of n part other).some bit ≡ 1) ↔ (bit_at (mark_of m part other).some bit ≡ 1)
-swapped_some m n size page value s = swapped_bits (λ v. v.some) m n size page value s.changes s.some_now s.some_before
-
--- and so are populated pages
+-- the same pages are populated
 swapped_pages : (m n : Arena Mark) (size page : ℕ) (value : Option Mark) → SwapsId m n size page value → (other : ℕ)
     → is_populated n other ≡ is_populated m other
-swapped_pages m n size page value s other = same_pages m n other (swapped_some m n size page value s 1 other (other % 8) (omega arith)
-    (omega arith))
+swapped_pages m n size page value s = pages_kept m n (swapped_each m n size page value s)
 
 -- what is kept is right where the placed pages are
 pub swapped : (m n : Arena Mark) (size page : ℕ) (value : Option Mark) → AreMarks m → SwapsId m n size page value
     → ((other : ℕ) → is_populated n other ≡ true → is_placed n other ≡ true)
     → ((a b other : ℕ) → a ≤ 3 → b ≤ 3 → is_some (id_of n a other) ≡ true → is_some (id_of n b other) ≡ true → a ≡ b)
     → ChangesIds m n
-swapped m n size page value marks s placed apart = record {
-  splits = s.splits;
-  some = swapped_some m n size page value s;
-  full = swapped_bits (λ v. v.full) m n size page value s.changes s.full_now s.full_before;
-  no_parts = λ other. elim (here_or_not size page 0 other) [
-    | inl here ↦
-        let at : mark_of n 0 other ≡ unwrap_or value unmarked = subst (λ k. mark_of n k other ≡ unwrap_or value unmarked) (sym here.0)
-        (mark_here m n size page value s.changes other (at_size size page 0 other here.0 here.1)) in
-        (ap (λ v. v.some) at ∙ s.some_now, ap (λ v. v.full) at ∙ s.full_now)
-    | inr else ↦ let at = mark_else m n size page value s.changes 0 other (omega arith) else in
-        (ap (λ v. v.some) at ∙ (marks.no_parts other).0, ap (λ v. v.full) at ∙ (marks.no_parts other).1)
-  ];
-  pages_full = λ other. elim (here_or_not size page 1 other) [
-    | inl here ↦
-        let at : mark_of n 1 other ≡ unwrap_or value unmarked = subst (λ k. mark_of n k other ≡ unwrap_or value unmarked) (sym here.0)
-        (mark_here m n size page value s.changes other (at_size size page 1 other here.0 here.1)) in
-        ap (λ v. v.full) at ∙ (s.full_now ∙ (sym s.some_now ∙ ap (λ v. v.some) (sym at)))
-    | inr else ↦ let at = mark_else m n size page value s.changes 1 other (omega arith) else in ap (λ v. v.full) at
-        ∙ (marks.pages_full other ∙ ap (λ v. v.some) (sym at))
-  ];
-  in_use = in_use;
-  placed = placed;
-  apart = apart;
-}
-  where
-    in_use : (part other : ℕ) → part ≤ 3 → is_some (row n part other) ≡ true
-        → (is_some (id_of n part other) ≡ true) ⊎ (HasBit (mark_of n part other).some ⊎ HasBit (mark_of n part other).full)
-    in_use part other less has = elim (here_or_not size page part other) [
-      | inl here ↦
-          let there = at_size size page part other here.0 here.1 in
-          let id = (swapped_ids m n size page value s).changed other there in
-          let value_some = ap is_some (sym (s.changes.changed other there)) ∙ subst (λ k. is_some (row n k other) ≡ true) here.0 has in
-          inl (subst (λ k. is_some (id_of n k other) ≡ true) (sym here.0) (ap is_some id ∙ s.use_now value_some))
-      | inr else ↦
-          let id = ap is_some ((swapped_ids m n size page value s).others part other less else) in
-          let at = mark_else m n size page value s.changes part other less else in
-          elim (marks.in_use part other less (ap is_some (sym (s.changes.others part other less else)) ∙ has)) [
-            | inl was ↦ inl (id ∙ was)
-            | inr bits ↦ elim bits [
-              | inl bit ↦ inr (inl (subst (λ v. HasBit v.some) (sym at) bit))
-              | inr bit ↦ inr (inr (subst (λ v. HasBit v.full) (sym at) bit))
-            ]
-          ]
-    ]
+swapped m n size page value marks s = ids_swapped m n (swapped_each m n size page value s) marks s.splits
 
 -- ---- pages of an extent
 

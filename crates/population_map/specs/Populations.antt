@@ -1,6 +1,6 @@
 -- Which extents of pages are placed with which id, and which pages of them are populated. Pages are counted over all spaces.
-use Rattle.std.specs.Prelude.{ℕ, ◌≡◌, ◌≢◌, ◌+◌, ◌*◌, ◌/◌, ◌%◌, ◌^◌, ◌≤◌, Bool, true, false, ◌||◌, ◌==◌, Option, None, unwrap_or, is_some, count_by}
-use Rattle.std.specs.List.{range_with_len}
+use Rattle.std.specs.Prelude.{ℕ, ◌≡◌, ◌≢◌, ◌+◌, ◌*◌, ◌/◌, ◌%◌, ◌^◌, ◌≤◌, ◌⊎◌, suc, Bool, true, false, ◌||◌, ◌==◌, List, Option, Some, None, unwrap_or, is_some, count_by}
+use Rattle.std.specs.List.{range_with_len, slice_get}
 use Rattle.std.specs.Int.{bit_at}
 use Rattle.extent_tree.specs.Rows.{Arena, row}
 use Rattle.population_map.specs.declared.mark.Mark.{Mark}
@@ -17,6 +17,10 @@ Populations = Arena Mark
 -- nothing is kept of an extent
 abbrev pub unmarked : Mark
 unmarked = record { id = None; some = 0; full = 0 }
+
+-- what is kept of an extent that is placed with this id and has no populated page
+abbrev pub placed_mark : ℕ → Mark
+placed_mark id = record { id = Some id; some = 0; full = 0 }
 
 -- what is kept of the extent of a size round a page
 unfoldable pub mark_of : Arena Mark → ℕ → ℕ → Mark
@@ -55,6 +59,15 @@ pub record SameRoom (old new : Arena Mark) : Type 0 where
 pub record PlacesOnly (old new : Arena Mark) (size page : ℕ) (id : Option ℕ) : Type 0 where
   pub changed : (other : ℕ) → other / 8 ^ size ≡ page / 8 ^ size → id_of new size other ≡ id
   pub others : (part other : ℕ) → part ≤ 3 → (part ≡ size → other / 8 ^ part ≡ page / 8 ^ part → ⊥)
+      → id_of new part other ≡ id_of old part other
+
+-- the extent of a size round a page isn't placed afterwards, each of its eight parts is placed with the id of its number, and no other
+-- changes
+pub record PlacesParts (old new : Arena Mark) (size page : ℕ) (ids : List ℕ) : Type 0 where
+  pub whole : (other : ℕ) → other / 8 ^ size ≡ page / 8 ^ size → id_of new size other ≡ None
+  pub parts : (part other : ℕ) → suc part ≡ size → other / 8 ^ size ≡ page / 8 ^ size
+      → id_of new part other ≡ slice_get ids (other / 8 ^ part % 8)
+  pub others : (part other : ℕ) → part ≤ 3 → (part ≡ size ⊎ suc part ≡ size → other / 8 ^ size ≡ page / 8 ^ size → ⊥)
       → id_of new part other ≡ id_of old part other
 
 -- no page of the extent of a size round a page is populated afterwards, and no other page changes

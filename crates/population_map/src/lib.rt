@@ -4,15 +4,15 @@
 //! Pages are counted over all spaces (`page_at`). What is kept of an extent is its id, and which of its eight parts have populated pages
 //! and are full of them, as a row of the tree. Each look at a root or a node of it, and each write of one, counts as a step.
 //!
-//! The pool calls `place`, `remove`, `find` and `meets`. `populate`, `evict`, `some` and `full` are for policies that look at which pages
-//! are populated, and the pool calls none of them.
+//! The pool calls `place`, `remove`, `split`, `find` and `meets`. `populate`, `evict`, `some` and `full` are for policies that look at which
+//! pages are populated, and the pool calls none of them.
 #![tactic(auto)]
 
-ghost use Rattle.std.specs.Prelude.{◌≡◌, ℕ, ◌+◌, ◌-◌, ◌*◌, ◌/◌, ◌%◌, ◌^◌, ◌<◌, ◌≤◌, ◌↔◌, true, false, IfOk, MatchOption, Some, None, is_some};
+ghost use Rattle.std.specs.Prelude.{◌≡◌, ℕ, ◌+◌, ◌-◌, ◌*◌, ◌/◌, ◌%◌, ◌^◌, ◌<◌, ◌≤◌, ◌↔◌, true, false, IfOk, MatchOption, Some, None, is_some, All};
 ghost use Rattle.std.specs.Bool.{OnTrue, OnFalse};
 ghost use Rattle.std.specs.Int.{bit_at};
 ghost use Rattle.pager_model.specs.Extents.{IsExtent};
-ghost use Rattle.population_map.specs.Populations.{page_at, id_of, is_placed, is_populated, placed_pages, space_count, frame_count, IsInNone, SomePopulated, AllPopulated, SameRoom, PlacesOnly, EmptiesOnly, PopulatesOnly};
+ghost use Rattle.population_map.specs.Populations.{page_at, id_of, is_placed, is_populated, placed_pages, space_count, frame_count, IsInNone, SomePopulated, AllPopulated, SameRoom, PlacesOnly, PlacesParts, EmptiesOnly, PopulatesOnly};
 ghost use Rattle.pager_model.specs.Bounds.{space_pages};
 
 mod mark;
@@ -111,7 +111,8 @@ impl PopulationMap {
         );
     }
 
-    /// Takes a placed extent out, and evicts its pages. Where none is populated, at most three looks say so.
+    /// Takes a placed extent out, and evicts its pages. Where none of the 512 pages round it is populated, one look says so; where
+    /// others of these are, at most three more say that none of its own is.
     pub fn remove(&mut self, space: u32, extent: Extent)
         requires space { space < space_count self.old }
         requires aligned { IsExtent extent.size extent.first }
@@ -126,6 +127,29 @@ impl PopulationMap {
             &mut self.tree,
             extent.size,
             page_at(space, extent.first),
+            Blank::new(1),
+        );
+    }
+
+    /// Takes a placed extent of more than a page out, evicts its pages, and places its eight parts with these ids in its stead, in order.
+    /// That writes eight places of one node at once, where a removal and eight placings would walk to each.
+    pub fn split(&mut self, space: u32, extent: Extent, ids: &[u32; 8])
+        requires space { space < space_count self.old }
+        requires size { 0 < extent.size }
+        requires aligned { IsExtent extent.size extent.first }
+        requires within { extent.first < space_pages }
+        requires placed { is_some (id_of self.old extent.size (page_at space extent.first)) ≡ true }
+        requires ids { All (λ id. id < frame_count self.old) ids.now }
+        ensures room { SameRoom self.old self.new }
+        ensures placed { PlacesParts self.old self.new extent.size (page_at space extent.first) ids.now }
+        ensures empty { EmptiesOnly self.old self.new extent.size (page_at space extent.first) }
+        ensures count { placed_pages self.new ≡ placed_pages self.old }
+    {
+        placing::split::<Brand>(
+            &mut self.tree,
+            extent.size,
+            page_at(space, extent.first),
+            ids,
             Blank::new(1),
         );
     }

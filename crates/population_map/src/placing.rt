@@ -1,11 +1,11 @@
 //! Extents as they are placed and looked for, over the tree. Pages are counted over all spaces.
 
-ghost use Rattle.std.specs.Prelude.{◌≡◌, ℕ, ◌+◌, ◌-◌, ◌*◌, ◌/◌, ◌%◌, ◌^◌, ◌<◌, ◌≤◌, ◌↔◌, true, false, MatchOption, Some, None, is_some};
+ghost use Rattle.std.specs.Prelude.{◌≡◌, ℕ, ◌+◌, ◌-◌, ◌*◌, ◌/◌, ◌%◌, ◌^◌, ◌<◌, ◌≤◌, ◌↔◌, true, false, MatchOption, Some, None, is_some, All, slice_get, option_map};
 ghost use Rattle.std.specs.Bool.{OnTrue, OnFalse};
 ghost use Rattle.pager_model.specs.Extents.{IsExtent};
 ghost use Rattle.pager_model.specs.OptionalIndices.{no_index};
 ghost use Rattle.population_map.specs.Kept.{AreMarks};
-ghost use Rattle.population_map.specs.Populations.{id_of, is_placed, is_populated, mark_of, placed_pages, IsInNone, SomePopulated, SameRoom, PlacesOnly, EmptiesOnly};
+ghost use Rattle.population_map.specs.Populations.{id_of, is_placed, is_populated, mark_of, placed_mark, placed_pages, IsInNone, SomePopulated, SameRoom, PlacesOnly, PlacesParts, EmptiesOnly};
 
 use crate::mark::{Mark, has_bit};
 use crate::way;
@@ -68,7 +68,56 @@ pub(crate) fn remove<L: Ledger>(tree: &mut ExtentTree<Mark>, size: Size, first: 
     tree.remove(size, first, steps);
 }
 
-/// Evicts the populated pages of a placed extent. Where there is none, its mark says so, and no page is asked.
+/// Evicts the pages of a placed extent of more than a page, and places its eight parts with these ids in its stead.
+pub(crate) fn split<L: Ledger>(
+    tree: &mut ExtentTree<Mark>,
+    size: Size,
+    first: u32,
+    ids: &[u32; 8],
+    blank: Blank,
+)
+    requires name { blank.name ≡ L.name }
+    requires parts { blank.parts ≡ L.parts }
+    requires share { 0 < blank.parts }
+    requires marks { AreMarks tree.old }
+    requires size { 0 < size }
+    requires page { first < 512 * tree.old.roots }
+    requires known { tree.old.roots ≤ 2097152 }
+    requires aligned { IsExtent size first }
+    requires placed { is_some (id_of tree.old size first) ≡ true }
+    requires ids { All (λ id. id < no_index) ids.now }
+    requires room { 3 * placed_pages tree.old ≤ tree.old.room }
+    ensures marks { AreMarks tree.new }
+    ensures room { SameRoom tree.old tree.new }
+    ensures placed { PlacesParts tree.old tree.new size first ids.now }
+    ensures empty { EmptiesOnly tree.old tree.new size first }
+    ensures count { placed_pages tree.new ≡ placed_pages tree.old }
+{
+    let (book, share) = blank.open::<L>();
+    let steps = &mut Steps::begin(book, share);
+    evict_all(tree, size, first, steps);
+    let marks = marks_from(ids);
+    tree.split(size, first, &marks, steps);
+}
+
+/// The marks of eight extents that are placed with these ids and have no populated page.
+fn marks_from(ids: &[u32; 8]) -> [Mark; 8]
+    requires { All (λ id. id < no_index) ids.now }
+    ensures { (part : ℕ) → part < 8 → slice_get result part ≡ option_map placed_mark (slice_get ids.now part) }
+{
+    let mut marks = [Mark::NONE; 8];
+    for part in 0..8 {
+        marks[part] = Mark {
+            id: OptionalIndex::of(ids[part]),
+            some: 0,
+            full: 0,
+        };
+    }
+    marks
+}
+
+/// Evicts the populated pages of a placed extent. Where there is none, its mark says so, and no page is asked. Most often the 512 pages
+/// round the extent have none either, and their mark, which is found first, says so of all.
 fn evict_all<L: Ledger>(tree: &mut ExtentTree<Mark>, size: Size, first: u32, steps: &mut Steps<L>)
     requires marks { AreMarks tree.old }
     requires page { first < 512 * tree.old.roots }
@@ -81,6 +130,9 @@ fn evict_all<L: Ledger>(tree: &mut ExtentTree<Mark>, size: Size, first: u32, ste
     ensures ids { (part page : ℕ) → part ≤ 3 → id_of tree.new part page ≡ id_of tree.old part page }
     ensures empty { EmptiesOnly tree.old tree.new size first }
 {
+    if mark_at(tree, Size::at_level(3), first, steps).some == 0 {
+        return;
+    }
     if !has_populated(tree, size, first, steps) {
         return;
     }

@@ -1,9 +1,22 @@
-use Rattle.std.proofs.Common.{inl, inr, refl, sym, ◌∙◌, arith}
-use Rattle.std.proofs.lemmas.Bool.{cases_Bool, false≢true}
-use Rattle.population_map.specs.Populations.{is_populated}
-use Rattle.pager_model.proofs.ExtentLemmas.{in_extent, of_extent, extent_within}
+use Rattle.std.proofs.Common.{inl, inr, refl, sym, ap, ◌∙◌, arith}
+use Rattle.std.proofs.lemmas.Bool.{cases_Bool, false≢true, false_from_ne_true}
+use Rattle.population_map.specs.Populations.{is_populated, mark_of}
+use Rattle.pager_model.proofs.ExtentLemmas.{coarser, in_extent, of_extent, extent_within}
+use Rattle.population_map.proofs.Marks.{bits_over, mark_alike}
+use Rattle.population_map.proofs.Masks.{no_bit}
 use Rattle.population_map.proofs.Placings.{same_count}
 use Rattle.population_map.proofs.placing.evict_all.Goals as goal
+
+pub returns-then-mark_at-eq0-clause-empty : goal.returns-then-mark_at-eq0-clause-empty
+returns-then-mark_at-eq0-clause-empty g c = record {
+  emptied = λ other same.
+      let m = c.args.tree.now in
+      let whole = coarser c.args.size 3 other c.args.first c.requires.aligned.0 (omega arith) same in
+      false_from_ne_true _ (λ is. no_bit _ (ap (λ v. v.some) (mark_alike m 3 other c.args.first (omega arith) whole)
+      ∙ (ap (λ v. v.some) (sym (c.mark_at.ensures ∙ ap (λ k. mark_of m k c.args.first) c.at_level.ensures)) ∙ c.if-mark_at-eq0.true))
+      (bits_over m c.requires.marks 3 other (omega arith) (omega arith) is));
+  others = λ other apart. refl;
+}
 
 pub returns-then-not-has_populated-clause-empty : goal.returns-then-not-has_populated-clause-empty
 returns-then-not-has_populated-clause-empty g c = record {

@@ -1,0 +1,18 @@
+use Rattle.std.proofs.Common.{◌<◌, sym, ap, subst, arith}
+use Rattle.std.proofs.lemmas.List.Elements.{All-weaker}
+use Rattle.extent_tree.specs.Rows.{Arena}
+use Rattle.pager_model.specs.Extents.{IsExtent}
+use Rattle.population_map.specs.declared.mark.Mark.{Mark}
+use Rattle.population_map.specs.Populations.{frame_count}
+use Rattle.population_map.proofs.Placings.{aligned_at}
+use Rattle.population_map.proofs.PopulationMap.split.Goals as goal
+
+pub split-requires-clause-aligned : goal.split-requires-clause-aligned
+split-requires-clause-aligned c =
+    subst (IsExtent c.args.extent.size) (sym c.page_at.ensures)
+    (aligned_at c.args.extent.size c.args.space c.args.extent.first c.requires.aligned)
+
+pub split-requires-clause-ids : goal.split-requires-clause-ids
+split-requires-clause-ids c =
+    All-weaker (λ id. id < frame_count c.args.self.now) (λ id. id < 4294967295)
+    (λ id low. omega (arith, low, c.self.invariant.small, ap (λ (t : Arena Mark). t.room) c.self.view_is)) c.args.ids.now c.requires.ids
