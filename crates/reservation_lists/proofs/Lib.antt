@@ -1,4 +1,5 @@
 pub mod Members
 pub mod Places
+pub mod Renewed
 pub mod StampOrder
 pub mod ToldMembers

@@ -1,7 +1,7 @@
 -- What stays true of a list of members as one goes in or out.
-use Rattle.std.proofs.Common.{◌==◌, ◌||◌, suc, zero, ◌≡◌, ◌≢◌, ◌<◌, ◌≤◌, ℕ, true, false, not, cond, eqb, List, [], ◌∷◌, length, get_or, map, refl, sym, ap, ◌∙◌, arith}
+use Rattle.std.proofs.Common.{◌==◌, ◌||◌, suc, zero, ◌≡◌, ◌≢◌, ◌<◌, ◌≤◌, ℕ, Bool, true, false, not, cond, eqb, List, [], ◌∷◌, length, get_or, map, refl, sym, ap, ◌∙◌, arith}
 use Rattle.std.proofs.lemmas.List.{length-map, get_or-map}
-use Rattle.std.specs.List.{All, AllPairs}
+use Rattle.std.specs.List.{All, filter}
 use Rattle.std.proofs.lemmas.List.Elements.{All-cons, All-head, All-tail, All-filter, All-map}
 use Rattle.std.proofs.lemmas.List.Folds.{Any-from_list_any, list_any_at}
 use Rattle.std.proofs.lemmas.List.Kept.{AllPairs-cons, AllPairs-filter}
@@ -10,15 +10,11 @@ use Rattle.std.proofs.lemmas.Map.Keys.{IsDistinct-from_apart}
 use Rattle.std.proofs.lemmas.Map.Views.{any-filter_same}
 use Rattle.std.proofs.lemmas.Map.Steps.{length-le_from_distinct_below}
 use Rattle.pager_model.specs.Ages.{Member, Lists, is_before, with_member}
-use Rattle.reservation_lists.specs.Kept.{HasRoom, IsInOrder, has_member_of, is_listed, without_member_of, without_frame, same_member, without_member}
+use Rattle.reservation_lists.specs.Kept.{Differ, HasRoom, IsInOrder, has_member_of, is_listed, without_member_of, without_frame}
 use Rattle.reservation_lists.proofs.StampOrder.{is_before-apart, IsInOrder-tail, all_behind, all_later}
 use Rattle.pager_model.proofs.AgeOrder.{All-with_member}
 
--- the frames of a list differ
-abbrev pub Differ : List Member → Type 0
-Differ ms = AllPairs (λ a b. a.frame ≢ b.frame) ms
-
-Differ-tail : (m : Member) (ms : List Member) → Differ (m ∷ ms) → Differ ms
+pub Differ-tail : (m : Member) (ms : List Member) → Differ (m ∷ ms) → Differ ms
 Differ-tail m ms differ = λ i j d lt below. differ (suc i) (suc j) d (omega arith) (omega arith)
 
 Differ-with_member : (new : Member) (ms : List Member) → All (λ m. m.frame ≢ new.frame) ms → Differ ms → Differ (with_member new ms)
@@ -83,13 +79,13 @@ HasRoom-with_member frames capacity more new ms has le known other = record {
   differ = Differ-with_member new ms other has.differ;
 }
 
-pub HasRoom-without_member : (frames capacity : ℕ) (gone : Member) (ms : List Member) → HasRoom frames capacity ms
-    → HasRoom frames capacity (without_member gone ms)
-HasRoom-without_member frames capacity gone ms has = record {
-  ordered = AllPairs-filter (λ a b. is_before a b ≡ true) (λ m. not (same_member gone m)) ms has.ordered;
+pub HasRoom-filter : (frames capacity : ℕ) (p : Member → Bool) (ms : List Member) → HasRoom frames capacity ms
+    → HasRoom frames capacity (filter p ms)
+HasRoom-filter frames capacity p ms has = record {
+  ordered = AllPairs-filter (λ a b. is_before a b ≡ true) p ms has.ordered;
   room = has.room;
-  known = All-filter (λ m. not (same_member gone m)) (λ m. m.frame < frames) ms has.known;
-  differ = AllPairs-filter (λ a b. a.frame ≢ b.frame) (λ m. not (same_member gone m)) ms has.differ;
+  known = All-filter p (λ m. m.frame < frames) ms has.known;
+  differ = AllPairs-filter (λ a b. a.frame ≢ b.frame) p ms has.differ;
 }
 
 -- a list without a member of the frame
@@ -141,8 +137,12 @@ without_unlisted frame lists unlisted =
     let middle = without_member_of-none frame lists.middle none.middle in
     rw (base, small, middle) refl
 
--- the lists without a frame have no member of it
+-- a list without a frame has no member of it, nor have the lists
+pub has_member_of-without : (frame : ℕ) (ms : List Member) → has_member_of frame (without_member_of frame ms) ≡ false
+has_member_of-without frame ms =
+    any-filter_same (λ (m : Member). m.frame == frame) (λ m. not (m.frame == frame)) false (λ m has. ap not has) ms
+
 pub is_listed-without : (frame : ℕ) (lists : Lists) → is_listed frame (without_frame frame lists) ≡ false
 is_listed-without frame lists =
-    let gone = any-filter_same (λ (m : Member). m.frame == frame) (λ m. not (m.frame == frame)) false (λ m has. ap not has) in
-    or_from _ _ (gone lists.base) (or_from _ _ (gone lists.small) (gone lists.middle))
+    or_from _ _ (has_member_of-without frame lists.base)
+    (or_from _ _ (has_member_of-without frame lists.small) (has_member_of-without frame lists.middle))

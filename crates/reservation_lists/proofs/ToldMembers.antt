@@ -156,7 +156,7 @@ AreTold-without frames listed lists frame told = record {
 }
 
 -- where none of the list is told of the frame, none goes out of it
-without-untold : (listed : List (Option Listed)) (frame size : ℕ) (ms : List Member) → IsTold listed size ms
+pub without-untold : (listed : List (Option Listed)) (frame size : ℕ) (ms : List Member) → IsTold listed size ms
     → ((stamp : ℕ) → tells size stamp (get_or listed frame None) ≡ false) → without_member_of frame ms ≡ ms
 without-untold listed frame size ms told none =
     without_member_of-none frame ms

@@ -1,7 +1,7 @@
 -- The lists of reservations as they are kept in memory that is taken once.
 use Rattle.std.specs.Prelude.{ℕ, true, false, ◌≡◌, ◌≢◌, ◌<◌, ◌≤◌, Bool, ◌&&◌, ◌||◌, ◌==◌, not, filter, length, List, [], All, AllPairs, Option, Some, None, IfSome, slice_index_or}
 use Rattle.std.specs.List.{list_any}
-use Rattle.pager_model.specs.Ages.{Member, Lists, is_before}
+use Rattle.pager_model.specs.Ages.{Member, Lists, is_before, list_at, with_list, with_member}
 use Rattle.reservation_lists.specs.declared.listed.Listed.{Listed}
 use Rattle.reservation_lists.specs.declared.Lists.TheInside.{Inside}
 
@@ -42,16 +42,26 @@ without_frame frame lists = record {
   middle = without_member_of frame lists.middle;
 }
 
+-- the lists where the member of a frame went out of its list, if it was in one, and in again into the list of the size
+abbrev pub moved_to : ℕ → Member → KeptLists → KeptLists
+moved_to size new kept =
+    let rest = without_frame new.frame kept.lists in
+    record kept { lists = with_list rest size (with_member new (list_at rest size)) }
+
 -- each member of a list comes before all that stand after it
 abbrev pub IsInOrder : List Member → Type 0
 IsInOrder ms = AllPairs (λ a b. is_before a b ≡ true) ms
+
+-- the frames of a list differ
+abbrev pub Differ : List Member → Type 0
+Differ ms = AllPairs (λ a b. a.frame ≢ b.frame) ms
 
 -- the members of a list are in order, have frames that differ and are known, and there is memory for one of each frame
 pub record HasRoom (frames capacity : ℕ) (ms : List Member) : Type 0 where
   pub ordered : IsInOrder ms
   pub room : frames ≤ capacity
   pub known : All (λ m. m.frame < frames) ms
-  pub differ : AllPairs (λ a b. a.frame ≢ b.frame) ms
+  pub differ : Differ ms
 
 -- what is kept for a frame tells that the list of the size has a member of it by the stamp
 abbrev pub tells : ℕ → ℕ → Option Listed → Bool

@@ -6,10 +6,10 @@
 //! has the reservation that begins at it, and by which stamp; so one is taken out with nothing asked but its first frame.
 #![tactic(auto)]
 
-ghost use Rattle.std.specs.Prelude.{◌≡◌, ◌<◌, ◌≤◌, IfOk, vec_len, vec_capacity, false};
+ghost use Rattle.std.specs.Prelude.{◌≡◌, ◌<◌, ◌≤◌, IfOk, vec_len, vec_capacity, true, false, if◌then◌else◌, Some};
 ghost use Rattle.std.specs.List.{prefix_len};
 ghost use Rattle.pager_model.specs.Ages.{is_before, list_at, oldest_in, with_list, with_member};
-ghost use Rattle.reservation_lists.specs.Kept.{IsInOrder, has_member_of, is_listed, no_members, without_frame, without_member};
+ghost use Rattle.reservation_lists.specs.Kept.{Differ, IsInOrder, has_member_of, is_listed, moved_to, no_members, without_frame, without_member, without_member_of};
 
 mod listed;
 
@@ -78,6 +78,30 @@ fn remove_from(list: &mut Vec<Member>, gone: &Member)
     if list.get(place) == Some(gone) {
         list.remove(place);
     }
+}
+
+/// Puts the new member in place of the last one of the list, which is in order, where that is of the same frame and no younger, and
+/// notes its stamp. There it goes in once the last one has gone out: all others come before it. Answers whether it did.
+fn renew_last(list: &mut Vec<Member>, listing: &mut Listing, size: Size, new: Member) -> bool
+    requires ordered { IsInOrder list.old.items }
+    requires differ { Differ list.old.items }
+    ensures stood { result ≡ true → has_member_of new.frame list.old.items ≡ true }
+    ensures items { list.new.items ≡ (if result then with_member new (without_member_of new.frame list.old.items) else list.old.items) }
+    ensures capacity { vec_capacity list.new ≡ vec_capacity list.old }
+    ensures listing { listing.new ≡ (if result then Some (record { size = size; stamp = new.stamp }) else listing.old) }
+{
+    let Some(last) = list.last_mut() else {
+        return false;
+    };
+    if last.frame != new.frame || last.stamp > new.stamp {
+        return false;
+    }
+    *listing = Listing::of(Listed {
+        size,
+        stamp: new.stamp,
+    });
+    *last = new;
+    true
 }
 
 /// The lists of the sizes below the largest.
@@ -154,6 +178,36 @@ impl Lists {
             0 => remove_from(&mut self.base, &gone),
             1 => remove_from(&mut self.small, &gone),
             _ => remove_from(&mut self.middle, &gone),
+        }
+    }
+
+    /// Where the reservation of this first frame is the last in the list of a size, and no younger than the stamp, gives it the stamp
+    /// there. Answers whether it did.
+    fn renew(&mut self, size: Size, stamp: u64, frame: u32) -> bool
+        requires has_list { size < 3 }
+        requires known { frame < self.old.frames }
+        ensures { self.new ≡ (if result then moved_to size (record { stamp = stamp; frame = frame }) self.old else self.old) }
+    {
+        let new = Member { stamp, frame };
+        let listing = &mut self.listed[frame as usize];
+        match size.level() {
+            0 => renew_last(&mut self.base, listing, size, new),
+            1 => renew_last(&mut self.small, listing, size, new),
+            _ => renew_last(&mut self.middle, listing, size, new),
+        }
+    }
+
+    /// Takes the reservation of this first frame out of the list that it stands in, where it stands in one, and puts it with this stamp in
+    /// its place in the list of a size.
+    pub fn move_to(&mut self, size: Size, stamp: u64, frame: u32)
+        requires has_list { size < 3 }
+        requires known { frame < self.old.frames }
+        ensures { self.new ≡ moved_to size (record { stamp = stamp; frame = frame }) self.old }
+    {
+        // Mostly the reservation that gets a page is the youngest, and its yield stays the same.
+        if !self.renew(size, stamp, frame) {
+            self.remove(frame);
+            self.insert(size, stamp, frame);
         }
     }
 

@@ -4,7 +4,7 @@ use Rattle.pager_model.specs.Ages.{Lists, list_at, with_list}
 use Rattle.pager_model.proofs.Options.{in_some}
 use Rattle.reservation_lists.specs.declared.listed.Listed.{Listed}
 use Rattle.reservation_lists.specs.Kept.{AreTold, lists_in, without_frame, without_member}
-use Rattle.reservation_lists.proofs.Members.{HasRoom-without_member}
+use Rattle.reservation_lists.proofs.Members.{HasRoom-filter}
 use Rattle.reservation_lists.proofs.ToldMembers.{AreTold-without, without_frame-told, without_frame-untold}
 use Rattle.reservation_lists.proofs.Lists.remove.Goals as goal
 use Rattle.reservation_lists.proofs.Lists.remove.Goals.{After-take}
@@ -54,7 +54,7 @@ invariant_of-self-in-0 c =
     let w = (goal.at.invariant_of-self-in-0 c).After-take in
     let has = c.self.invariant in
     let lists = gone w c.in-Some.listed 0 c.in-Some.is (sym c.level.ensures.level ∙ c.in-0.is) in (
-      rw (c.remove_from.ensures.items, c.remove_from.ensures.capacity) (HasRoom-without_member _ _ _ _ has.0),
+      rw (c.remove_from.ensures.items, c.remove_from.ensures.capacity) (HasRoom-filter _ _ _ _ has.0),
       has.1,
       has.2,
       rw c.remove_from.ensures.items (subst (AreTold _ _) (sym lists) (told w)),
@@ -72,7 +72,7 @@ invariant_of-self-in-1 c =
     let has = c.self.invariant in
     let lists = gone w c.in-Some.listed 1 c.in-Some.is (sym c.level.ensures.level ∙ c.in-1.is) in (
       has.0,
-      rw (c.remove_from-in-1.ensures.items, c.remove_from-in-1.ensures.capacity) (HasRoom-without_member _ _ _ _ has.1),
+      rw (c.remove_from-in-1.ensures.items, c.remove_from-in-1.ensures.capacity) (HasRoom-filter _ _ _ _ has.1),
       has.2,
       rw c.remove_from-in-1.ensures.items (subst (AreTold _ _) (sym lists) (told w)),
     )
@@ -91,7 +91,7 @@ invariant_of-self-in_default-level c =
       has.0,
       has.1,
       rw (c.remove_from-in_default-level.ensures.items, c.remove_from-in_default-level.ensures.capacity)
-          (HasRoom-without_member _ _ _ _ has.2),
+          (HasRoom-filter _ _ _ _ has.2),
       rw c.remove_from-in_default-level.ensures.items (subst (AreTold _ _) (sym lists) (told w)),
     )
 
