@@ -1,19 +1,21 @@
 -- That reservations of a sound layout may come into the map.
-use Rattle.std.proofs.Common.{◌≡◌, ℕ, ◌<◌, true, false, length, get_or, set, Some, None, inl, inr, sym, ap, subst, ◌∙◌, arith}
+use Rattle.std.proofs.Common.{◌≡◌, ℕ, ◌<◌, true, false, List, Option, length, get_or, set, Some, None, inl, inr, sym, ap, subst, ◌∙◌, arith}
 use Rattle.std.proofs.lemmas.Bool.{cases_Bool, cases_eq}
-use Rattle.std.proofs.lemmas.List.{get_or-set_same, get_or-set_other, length-set}
+use Rattle.std.proofs.lemmas.List.{get_or-set_same, get_or-set_other, length-set, set-set, set-get_or}
 use Rattle.std.proofs.lemmas.List.Sums.{sum_by-set}
 use Rattle.std.proofs.lemmas.Option.{none-some}
 use Rattle.pager_model.specs.declared.reservation.Reservation.{Reservation}
 use Rattle.pager_model.specs.Agreement.{has_frame}
 use Rattle.pager_model.specs.FrameStates.{places_in}
 use Rattle.pager_model.specs.Layouts.{Layout, record_at}
-use Rattle.pager_model.specs.Records.{Records, is_used, split_records}
+use Rattle.pager_model.specs.Records.{is_used, split_records}
 use Rattle.population_map.specs.Populations.{Populations}
 use Rattle.pager_model.specs.RecordPlaces.{IsPlaced}
 use Rattle.pager_model.proofs.ExtentLemmas.{eight_pos}
 use Rattle.pager_model.proofs.Lists.{get_or_within, unset_before}
 use Rattle.pager_model.proofs.RecordFrames.{has_frame_from}
+use Rattle.reservations.specs.declared.part.Part.{Part}
+use Rattle.reservations.specs.Parts.{told_parts}
 use Rattle.reservations.proofs.FrameIds.{none_begins}
 use Rattle.reservations.proofs.SplitLemmas.{split_records-open}
 use Rattle.pager_laws.specs.Laid.{IsLaid}
@@ -79,13 +81,17 @@ module _ (l : Layout) (id : ℕ) (r : Reservation) (laid : IsLaid l) (is : recor
       }
 
   -- and is split
-  pub WasSplitFrom-left : (map left : Populations) (after : Records) → IsMapped map l.records → IsMapped left (set l.records id None)
-      → after.records ≡ split_records (is_used l.used) r l.records → after.used ≡ l.used → WasSplitFrom left after r
-  WasSplitFrom-left map left after mapped rest split used = record {
-    records = set l.records id None;
-    mapped = rest;
-    enters = MayEnter-again (mapped.pages id r is);
-    split =
-        split ∙ sym (split_records-open (is_used l.used) r id l.records (laid.placed id r is).named)
-        ∙ ap (λ u. split_records (is_used u) r (set l.records id None)) (sym used);
-  }
+  pub WasSplitFrom-left : (map : Populations) (after : List (Option Reservation)) (parts : List Part) → IsMapped map l.records
+      → after ≡ split_records (is_used l.used) r l.records → parts ≡ told_parts (is_used l.used) r → WasSplitFrom map after parts r
+  WasSplitFrom-left map after parts mapped split told =
+      let named = (laid.placed id r is).named in
+      let again : set (set l.records id None) r.frame (Some r) ≡ l.records = ap (λ k. set (set l.records id None) k (Some r)) named
+      ∙ set-set l.records id None (Some r) ∙ ap (set l.records id) (sym is) ∙ set-get_or l.records id None in
+      record {
+        records = set l.records id None;
+        used = is_used l.used;
+        mapped = subst (IsMapped map) (sym again) mapped;
+        enters = MayEnter-again (mapped.pages id r is);
+        parts = told;
+        split = split ∙ sym (split_records-open (is_used l.used) r id l.records named);
+      }

@@ -1,10 +1,13 @@
 -- What putting a reservation into the lists leaves, by the reservation that is found at the frame.
-use Rattle.std.proofs.Common.{◌≡◌, ℕ, zero, suc, ◌+◌, ◌-◌, ◌<◌, ◌≤◌, Bool, false, List, set, get_or, length, Option, Some, None, IsSomeAnd, refl, sym, ap, subst, ◌∙◌, arith}
+use Rattle.std.proofs.Common.{◌≡◌, ℕ, zero, suc, ◌+◌, ◌-◌, ◌^◌, ◌<◌, ◌≤◌, Bool, false, List, set, get_or, length, Option, Some, None, IsSomeAnd, inl, inr, refl, sym, ap, subst, ◌∙◌, arith}
+use Rattle.std.proofs.Math.Numerals.{add-one}
+use Rattle.std.proofs.lemmas.Bool.{cases_Bool, cond-true}
+use Rattle.std.proofs.lemmas.Option.{none-some}
 use Rattle.std.proofs.lemmas.List.{get_or-set_same, set-set, set-get_or}
 use Rattle.pager_model.specs.declared.reservation.Reservation.{Reservation}
 use Rattle.pager_model.specs.Ages.{Lists, Member, list_at, with_list, with_member}
 use Rattle.pager_model.specs.Headline.{member_of}
-use Rattle.pager_model.specs.Records.{Records, is_used, yield_in, part_of, kept_part}
+use Rattle.pager_model.specs.Records.{Records, is_used, yield_in, part_of, is_part_empty, kept_part}
 use Rattle.pager_model.specs.SizeSets.{SizeSet}
 use Rattle.reservation_lists.specs.Kept.{KeptLists, is_listed}
 use Rattle.pager_model.specs.RecordPlaces.{IsPlaced, ArePlaced}
@@ -12,11 +15,12 @@ use Rattle.frame_pool.proofs.PartRecords.{split_suc, length-split, parts_apart, 
 use Rattle.pager_model.proofs.ExtentLemmas.{eight_pos, part_of_eight}
 use Rattle.pager_model.proofs.RecordFrames.{has_frame_from}
 use Rattle.reservations.proofs.FrameIds.{none_begins}
-use Rattle.reservations.proofs.SplitLemmas.{split_up_to, split_up_to-more, ArePlaced-part}
+use Rattle.reservations.proofs.SplitLemmas.{split_up_to, split_up_to-more, kept_cases, ArePlaced-part}
 use Rattle.pager_laws.specs.Listed.{AreListed}
 use Rattle.frame_pool.specs.Listed.{WasSplit}
 use Rattle.pager_laws.proofs.AgeLists.{AreListed-with, AreListed-full}
-use Rattle.frame_pool.proofs.UnlistedFrames.{is_listed-none}
+use Rattle.pager_laws.proofs.SplitFrames.{some_used_in}
+use Rattle.frame_pool.proofs.UnlistedFrames.{is_listed-none, yield_in-alone}
 
 -- where something stands, it is a reservation
 pub found_record_and : (o : Option Reservation) (P : Reservation → Type 0) → IsSomeAnd o P → (r : Reservation) × (o ≡ Some r) × P r
@@ -143,3 +147,42 @@ module _ (s : SplitFrom) (n : ℕ) (lists : KeptLists) (splits : 0 < s.whole.siz
   pub HasParts-skip : get_or s.after.records first None ≡ None → HasParts s (n + 1) lists
   HasParts-skip none = HasParts-more lists (subst (AreListed s.sizes lists.lists s.after.used)
       (sym (ap (set before first) none ∙ set-none before first none_before)) has.listed) refl
+
+-- The parts of a reservation of eight frames are of one frame each, and those that are reservations are full: lists that had none of them
+-- are theirs.
+module _ (s : SplitFrom) (was : WasSplit s.sizes s.start s.after s.whole) (eight : s.whole.size ≡ 1) where
+  full_alone : (i : ℕ) → kept_part (is_used s.after.used) s.whole i ≡ Some (part_of s.whole i)
+      → yield_in s.sizes (is_used s.after.used) (part_of s.whole i) ≡ None
+  full_alone i kept = elim (cases_Bool (is_part_empty (is_used s.after.used) s.whole i)) [
+    | inl empty ↦ absurd (none-some (part_of s.whole i) (sym (cond-true _ _ _ empty) ∙ kept))
+    | inr filled ↦
+        let one : 8 ^ (s.whole.size - 1) ≡ 1 = ap (λ k. 8 ^ (k - 1)) eight in
+        let used = some_used_in (is_used s.after.used) (part_of s.whole i).frame (8 ^ (s.whole.size - 1)) filled in
+        let here : used.0 ≡ (part_of s.whole i).frame = omega (arith, used.1, used.2, one) in
+        yield_in-alone s.sizes (is_used s.after.used) (part_of s.whole i) (omega (arith, eight))
+        (ap (is_used s.after.used) (sym here) ∙ used.3)
+  ]
+
+  has_alone : (n : ℕ) → n ≤ 8 → HasParts s n s.start
+  has_alone zero le = HasParts-none s was
+  has_alone (suc n) le =
+      let has = has_alone n (omega arith) in
+      let splits : 0 < s.whole.size = omega (arith, eight) in
+      let first = (part_of s.whole n).frame in
+      let before = split_up_to n (is_used s.after.used) s.whole has.was.records in
+      let found = part_found s n s.start splits (omega arith) has in
+      subst (λ k. HasParts s k s.start) (add-one n) (elim (kept_cases (is_used s.after.used) s.whole n) [
+        | inl empty ↦ HasParts-skip s n s.start splits (omega arith) has (found ∙ empty.0)
+        | inr whole ↦ HasParts-more s n s.start splits (omega arith) has s.start
+            (subst (λ o. AreListed s.sizes s.start.lists s.after.used (set before first o)) (sym (found ∙ whole))
+            (AreListed-not_enlisted s.sizes s.start.lists s.after.used before first (part_of s.whole n)
+            (record {
+              none = none_before s n s.start splits (omega arith) has;
+              known = known_before s n s.start splits (omega arith) has;
+              listed = has.listed;
+            })
+            (λ k yields. absurd (none-some k (sym (full_alone n whole) ∙ yields))))) refl
+      ])
+
+  pub AreListed-alone : AreListed s.sizes s.start.lists s.after.used s.after.records
+  AreListed-alone = HasParts-all s s.start (has_alone 8 (omega arith))

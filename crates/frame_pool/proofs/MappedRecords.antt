@@ -19,7 +19,7 @@ use Rattle.frame_pool.proofs.MappedPages.{covered_in, in_covered, page_in}
 use Rattle.pager_laws.proofs.PagePlaces.{CoversPageOf-covers, covers-CoversPageOf}
 
 -- the reservation is of the size and has the page
-abbrev HasAt : ℕ → ℕ → ℕ → Option Reservation → Type 0
+abbrev pub HasAt : ℕ → ℕ → ℕ → Option Reservation → Type 0
 HasAt k s p o = IsSomeAnd o (λ r. (r.size ≡ k) × (covers s p r ≡ true))
 
 -- the extent of a size round a page is the reservation's, or another

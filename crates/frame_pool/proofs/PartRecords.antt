@@ -1,18 +1,35 @@
 -- The records after a reservation was split into its eight parts.
-use Rattle.std.proofs.Common.{◌≡◌, ◌<◌, ◌≤◌, ℕ, zero, suc, ◌+◌, ◌-◌, ◌*◌, ◌/◌, ◌^◌, Bool, Option, None, List, length, get_or, set, refl, ap, sym, subst, ◌∙◌, arith, inl, inr}
+use Rattle.std.proofs.Common.{◌≡◌, ◌<◌, ◌≤◌, ℕ, zero, suc, ◌+◌, ◌-◌, ◌*◌, ◌/◌, ◌^◌, Bool, Option, Some, None, option_map, List, length, get_or, slice_get, set, refl, ap, sym, subst, ◌∙◌, arith, inl, inr}
 use Rattle.std.proofs.Math.Numerals.{add-one}
 use Rattle.std.proofs.lemmas.List.{get_or-set_same, get_or-set_other, length-set}
+use Rattle.std.proofs.lemmas.List.FromFn.{get_or-map-range_with_len}
 use Rattle.std.proofs.lemmas.Bool.{cases_eq}
 use Rattle.std.proofs.lemmas.Nat.{same_from_place}
+use Rattle.std.proofs.lemmas.Option.{slice_get-get_or}
 use Rattle.pager_model.specs.Records.{part_of, kept_part}
 use Rattle.pager_model.specs.declared.reservation.Reservation.{Reservation}
 use Rattle.pager_model.specs.RecordPlaces.{IsPlaced}
 use Rattle.pager_model.proofs.ExtentLemmas.{eight_pos, eight_quotient, part_of_eight}
+use Rattle.reservations.specs.declared.part.Part.{Part}
+use Rattle.reservations.specs.Parts.{told_part, told_parts}
 use Rattle.reservations.proofs.SplitLemmas.{split_up_to, split_step, split_up_to-more}
 
 -- the number of pages of a part
 pub eighth : (pages size : ℕ) → 0 < size → pages ≡ 8 ^ size → pages / 8 ≡ 8 ^ (size - 1)
 eighth pages size splits is = ap (λ n. n / 8) is ∙ eight_quotient 1 size splits
+
+-- what is told at a place is told of that part
+pub told_at : (used : ℕ → Bool) (r : Reservation) (parts : List Part) (i : ℕ) (d : Part) → parts ≡ told_parts used r → i < length parts
+    → (i < 8) × (get_or parts i d ≡ told_part used r i)
+told_at used r parts i d is within =
+    let below : i < 8 = omega (arith, ap length is) in
+    (below, ap (λ ps. get_or ps i d) is ∙ get_or-map-range_with_len (told_part used r) 0 8 i i d below (omega arith))
+
+pub first_told : (used : ℕ → Bool) (r : Reservation) (parts : List Part) (i : ℕ) → parts ≡ told_parts used r → i < length parts
+    → option_map (λ (part : Part). part.extent.first) (slice_get parts i) ≡ Some (part_of r i).frame
+first_told used r parts i is within =
+    ap (option_map (λ (part : Part). part.extent.first)) (slice_get-get_or parts i (told_part used r i) within
+    ∙ ap Some (told_at used r parts i (told_part used r i) is within).1)
 
 -- The records after a split.
 

@@ -1,12 +1,14 @@
 -- Which pages the reservations have, as a population map says it.
-use Rattle.std.specs.Prelude.{ℕ, ◌≡◌, ◌+◌, ◌^◌, ◌<◌, ◌≤◌, ◌↔◌, true, List, length, slice_index_or, sum_by, Option, Some, None, IsSomeAnd}
+use Rattle.std.specs.Prelude.{ℕ, ◌≡◌, ◌+◌, ◌^◌, ◌<◌, ◌≤◌, ◌↔◌, true, Bool, List, length, slice_index_or, slice_set, sum_by, Option, Some, None, IsSomeAnd}
 use Rattle.population_map.specs.Populations.{Populations, page_at, id_of, placed_pages, space_count, frame_count}
 use Rattle.pager_model.specs.declared.reservation.Reservation.{Reservation}
 use Rattle.pager_model.specs.Agreement.{has_frame}
 use Rattle.pager_model.specs.FrameStates.{places_in}
 use Rattle.pager_model.specs.Layouts.{covers}
-use Rattle.pager_model.specs.Records.{Records, is_used, split_records}
+use Rattle.pager_model.specs.Records.{split_records}
 use Rattle.pager_model.specs.RecordPlaces.{IsPlaced}
+use Rattle.reservations.specs.declared.part.Part.{Part}
+use Rattle.reservations.specs.Parts.{told_parts}
 use Rattle.pager_model.specs.Bounds.{space_pages, most_spaces}
 
 -- The extent of size k round a page is placed with an id exactly where the reservation that begins at this frame is of this size and has
@@ -38,9 +40,12 @@ pub record MayEnter (records : List (Option Reservation)) (r : Reservation) : Ty
       → covers r.space page q ≡ true → ⊥
   pub few : sum_by places_in records + 8 ^ r.size ≤ length records
 
--- From records that this map has, and that the reservation may come into, the reservation was split.
-pub record WasSplitFrom (m : Populations) (after : Records) (whole : Reservation) : Type 0 where
+-- From records that the reservation may come into, and that this map has with it, the reservation was split. These are the parts and the
+-- records afterwards.
+pub record WasSplitFrom (m : Populations) (after : List (Option Reservation)) (told : List Part) (whole : Reservation) : Type 0 where
   pub records : List (Option Reservation)
-  pub mapped : IsMapped m records
+  pub used : ℕ → Bool
+  pub mapped : IsMapped m (slice_set records whole.frame (Some whole))
   pub enters : MayEnter records whole
-  pub split : after.records ≡ split_records (is_used after.used) whole records
+  pub parts : told ≡ told_parts used whole
+  pub split : after ≡ split_records used whole records

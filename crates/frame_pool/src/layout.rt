@@ -253,6 +253,11 @@ impl Layout {
         ensures { IfSome (record_at self.old id) (λ r. self.new ≡ parted size r self.old) }
     {
         let whole = self.reserved.get(id).unwrap();
+        // Where no size between them is left out, its eight parts are of this size.
+        if whole.size.level() == size.level() + 1 {
+            self.split(id);
+            return;
+        }
         let end = id + whole.size.pages();
         let mut next = id;
         while next < end {

@@ -28,6 +28,25 @@ pub(crate) fn enlist(lists: &mut Lists, reservations: &Reservations, sizes: Size
     }
 }
 
+/// Puts the reservation that begins at the frame `id` into its list, where it isn't full, and takes it out of the one that it stood in:
+/// its used places or its stamp changed.
+pub(crate) fn relist(lists: &mut Lists, reservations: &Reservations, sizes: Sizes, id: u32)
+    requires there { IsSomeAnd (reservation_at reservations.now id) (λ r. r.frame ≡ id) }
+    requires known { id < lists.old.frames }
+    ensures listed { (records : List (Option Reservation)) → slice_index_or records id None ≡ None → id < length records
+        → AreListed sizes (without_frame id lists.old.lists) reservations.now.used records
+        → AreListed sizes lists.new.lists reservations.now.used (slice_set records id (reservation_at reservations.now id)) }
+    ensures room { lists.new.frames ≡ lists.old.frames }
+{
+    match yields_in(reservations, sizes, id) {
+        Some(size) if size.level() < 3 => {
+            let reservation = reservations.get(id).unwrap();
+            lists.move_to(size, reservation.stamp, id);
+        }
+        _ => lists.remove(id),
+    }
+}
+
 /// Takes a reservation out of its list, where it is in one. One of a single frame is in none: its place is used.
 pub(crate) fn delist(lists: &mut Lists, reservation: &Reservation)
     requires known { reservation.now.frame < lists.old.frames }
@@ -53,6 +72,10 @@ pub(crate) fn enlist_parts(
     ensures listed { AreListed sizes lists.new.lists reservations.now.used reservations.now.records }
     ensures room { lists.new.frames ≡ lists.old.frames }
 {
+    // The parts of eight frames are of one frame each, and a reservation of one frame is full: its place is used.
+    if whole.size.level() == 1 {
+        return;
+    }
     let pages = whole.size.pages() / 8;
     for i in 0..8 {
         let first = whole.frame + i * pages;

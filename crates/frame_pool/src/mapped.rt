@@ -1,18 +1,20 @@
 //! The reservations in the map of their pages, and what the map answers of them. A counted call counts its steps on a blank of its own,
 //! from 0.
 
-ghost use Rattle.std.specs.Prelude.{◌≡◌, ℕ, ◌/◌, ◌^◌, ◌<◌, ◌≤◌, true, List, Option, Some, None, IsSome, MatchOption, slice_set};
+ghost use Rattle.std.specs.Prelude.{◌≡◌, ℕ, ◌/◌, ◌^◌, ◌<◌, ◌≤◌, true, List, Option, Some, None, IsSome, MatchOption, slice_get, slice_set, option_map};
 ghost use Rattle.std.specs.Bool.{OnTrue, OnFalse};
 ghost use Rattle.pager_model.specs.declared.reservation.Reservation.{Reservation};
 ghost use Rattle.pager_model.specs.Extents.{IsExtent};
 ghost use Rattle.population_map.specs.Populations.{page_at, id_of, is_placed, space_count, IsInNone};
 ghost use Rattle.reservations.specs.Kept.{reservation_at};
+ghost use Rattle.reservations.specs.declared.part.Part.{Part};
 ghost use Rattle.frame_pool.specs.Mapped.{IsMapped, MayEnter, WasSplitFrom};
 ghost use Rattle.pager_model.specs.Bounds.{space_pages};
 
+use crate::records::page_at;
 use pager_model::{Extent, Reservation, Steps};
 use population_map::PopulationMap;
-use reservations::Reservations;
+use reservations::{Part, Reservations};
 use std::sync::ledger::{Blank, Ledger};
 
 /// The pages of a reservation.
@@ -44,23 +46,33 @@ pub(crate) fn remove(map: &mut PopulationMap, reservations: &Reservations, id: u
     map.remove(reservation.space, pages_of(&reservation));
 }
 
-/// Places the pages of the parts that a reservation, which isn't in the map any more, was split into, where they are reservations.
-pub(crate) fn insert_parts(
-    map: &mut PopulationMap,
-    reservations: &Reservations,
-    whole: &Reservation,
-)
+/// Places the eight parts that a reservation was split into in its stead, and takes those out that are empty, and so no reservations.
+pub(crate) fn split(map: &mut PopulationMap, whole: &Reservation, parts: &[Part; 8])
     requires splits { 0 < whole.now.size }
-    requires split { WasSplitFrom map.old reservations.now whole.now }
-    ensures { IsMapped map.new reservations.now.records }
+    requires split { (after : List (Option Reservation)) × WasSplitFrom map.old after parts.now whole.now }
+    ensures { (after : List (Option Reservation)) → WasSplitFrom map.old after parts.now whole.now → IsMapped map.new after }
 {
-    let pages = whole.size.pages() / 8;
-    for i in 0..8 {
-        let first = whole.frame + i * pages;
-        if let Some(part) = reservations.get(first) {
-            insert(map, &part);
+    map.split(whole.space, pages_of(whole), &first_frames(parts));
+    for part in parts {
+        if part.empty {
+            let pages = Extent {
+                size: part.extent.size,
+                first: page_at(whole, part.extent.first),
+            };
+            map.remove(whole.space, pages);
         }
     }
+}
+
+/// The first frames of the parts.
+fn first_frames(parts: &[Part; 8]) -> [u32; 8]
+    ensures { (i : ℕ) → i < 8 → slice_get result i ≡ option_map (λ (part : Part). part.extent.first) (slice_get parts.now i) }
+{
+    let mut frames = [0; 8];
+    for i in 0..8 {
+        frames[i] = parts[i].extent.first;
+    }
+    frames
 }
 
 /// The first frame of the reservation that has the page of a space, by at most four looks.

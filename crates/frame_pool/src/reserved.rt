@@ -12,7 +12,7 @@ ghost use Rattle.frame_pool.specs.Placed.{first_of, with_reservation};
 ghost use Rattle.frame_pool.specs.ReservedChanges.{Vacates, none_reserved, with_free};
 ghost use Rattle.pager_model.specs.Bounds.{most_frames, space_pages, most_spaces};
 
-use crate::lists::{delist, enlist, enlist_parts};
+use crate::lists::{delist, enlist, enlist_parts, relist};
 use crate::mapped;
 use crate::records::{page_at, yields_in};
 use pager_model::{Extent, MOST_SPACES, NoMemory, Reservation, Size, Sizes, Want};
@@ -192,9 +192,8 @@ impl Reserved {
         ensures frame { result ≡ frame_for page reservation.now }
     {
         let id = reservation.frame;
-        self.lists.remove(id);
         self.reservations.populate(id, page, stamp);
-        enlist(&mut self.lists, &self.reservations, self.sizes, id);
+        relist(&mut self.lists, &self.reservations, self.sizes, id);
         frame_for(reservation, page)
     }
 
@@ -228,10 +227,9 @@ impl Reserved {
     {
         let whole = self.reservations.get(id).unwrap();
         self.lists.remove(id);
-        mapped::remove(&mut self.map, &self.reservations, id);
         let parts = self.reservations.split(id);
         enlist_parts(&mut self.lists, &self.reservations, self.sizes, &whole);
-        mapped::insert_parts(&mut self.map, &self.reservations, &whole);
+        mapped::split(&mut self.map, &whole, &parts);
         parts
     }
 }

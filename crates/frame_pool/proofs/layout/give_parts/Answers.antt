@@ -1,22 +1,12 @@
-use Rattle.std.proofs.Common.{◌≡◌, ◌∙◌, ◌<◌, ◌-◌, ℕ, Bool, List, length, get_or, ap, sym, arith}
-use Rattle.std.proofs.lemmas.List.FromFn.{get_or-map-range_with_len}
-use Rattle.pager_model.specs.declared.reservation.Reservation.{Reservation}
+use Rattle.std.proofs.Common.{◌≡◌, ◌∙◌, ◌-◌, length, ap, sym, arith}
 use Rattle.pager_model.specs.Records.{part_of}
-use Rattle.reservations.specs.declared.part.Part.{Part}
-use Rattle.reservations.specs.Parts.{told_part, told_parts}
 use Rattle.pager_model.proofs.ExtentLemmas.{aligned_part, part_of_eight}
 use Rattle.pager_model.proofs.RecordFrames.{has_frame_from}
 use Rattle.frame_pool.proofs.LayoutInOrder.{free_up_to-later}
+use Rattle.frame_pool.proofs.PartRecords.{told_at}
 use Rattle.pager_laws.proofs.SplitFrames.{free_up_to, length-free_up_to}
 use Rattle.pager_laws.proofs.EightParts.{eight_count, parted_free-eight}
 use Rattle.frame_pool.proofs.layout.give_parts.Goals as goal
-
--- what is told at a place is told of that part
-told_at : (used : ℕ → Bool) (r : Reservation) (parts : List Part) (i : ℕ) (d : Part) → parts ≡ told_parts used r → i < length parts
-    → (i < 8) × (get_or parts i d ≡ told_part used r i)
-told_at used r parts i d is within =
-    let below : i < 8 = omega (arith, ap length is) in
-    (below, ap (λ ps. get_or ps i d) is ∙ get_or-map-range_with_len (told_part used r) 0 8 i i d below (omega arith))
 
 pub give-requires-clause-aligned : goal.give-requires-clause-aligned
 give-requires-clause-aligned c =

@@ -2,10 +2,14 @@ use Rattle.std.proofs.Common.{◌≡◌, ◌+◌, ◌-◌, ◌*◌, ◌/◌, is_
 use Rattle.reservations.specs.Kept.{reservation_at}
 use Rattle.pager_model.proofs.ExtentLemmas.{eight_pos, part_of_eight, aligned_end}
 use Rattle.pager_model.proofs.Options.{none_from_is_some}
-use Rattle.frame_pool.proofs.ListsByFrame.{HasParts, HasParts-none, HasParts-all, HasParts-more, HasParts-skip, part_in_room, part_unlisted, none_before, known_before, split_from}
+use Rattle.frame_pool.proofs.ListsByFrame.{HasParts, HasParts-none, HasParts-all, HasParts-more, HasParts-skip, part_in_room, part_unlisted, none_before, known_before, split_from, AreListed-alone}
 use Rattle.frame_pool.proofs.PartRecords.{eighth}
 use Rattle.frame_pool.proofs.lists.enlist_parts.Goals as goal
 use Rattle.frame_pool.proofs.lists.enlist_parts.Goals.{then-is_some, else-is_some}
+
+pub returns-then-level-eq1-clause-listed : goal.returns-then-level-eq1-clause-listed
+returns-then-level-eq1-clause-listed c =
+    AreListed-alone (split_from c.args.sizes c.args.lists.now c.args.reservations.now c.args.whole.now) c.requires.split (omega arith)
 
 pub loop-i-init : goal.loop-i-init
 loop-i-init c = HasParts-none (split_from c.args.sizes c.args.lists.now c.args.reservations.now c.args.whole.now) c.requires.split

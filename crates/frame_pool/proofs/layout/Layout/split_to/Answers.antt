@@ -1,9 +1,18 @@
-use Rattle.std.proofs.Common.{◌≡◌, ◌<◌, ◌≤◌, ◌+◌, Some, length, sym, ap, subst, ◌∙◌, arith}
-use Rattle.pager_model.specs.Layouts.{Layout, record_at}
+use Rattle.std.proofs.Common.{◌≡◌, ◌<◌, ◌≤◌, ◌+◌, ◌-◌, Some, length, sym, ap, subst, ◌∙◌, arith}
+use Rattle.pager_model.specs.Layouts.{Layout, parted, record_at}
 use Rattle.pager_model.proofs.ExtentLemmas.{eight_pos}
 use Rattle.pager_laws.specs.Laid.{IsLaid}
 use Rattle.frame_pool.proofs.PartedOnce.{IsGoing, IsGoing-start, IsGoing-split, IsGoing-skip, going_done, split_nearer, size_there-small}
 use Rattle.frame_pool.proofs.layout.Layout.split_to.Goals as goal
+
+pub returns-then-level : goal.returns-then-level
+returns-then-level c =
+    let l = c.args.self.now in
+    let r = c.unwrap-whole.result in
+    let is : record_at l c.args.id ≡ Some r = sym (ap (λ m. record_at m c.args.id) c.self.view_is) ∙ sym c.get.ensures
+    ∙ c.unwrap-whole.ensures in
+    let next : r.size - 1 ≡ c.args.size = omega arith in
+    rw is (subst (λ k. c.split.new.self ≡ parted k r l) next (rw is at c.split.ensures))
 
 pub overflow_add-end : goal.overflow_add-end
 overflow_add-end c =
@@ -25,14 +34,14 @@ pub loop-next-smaller-then-is_larger : goal.loop-next-smaller-then-is_larger
 loop-next-smaller-then-is_larger c =
     let going = c.loop-next.invariant in
     let nearer = split_nearer c.args.size c.loop-next.next
-    (c.args.id + c.pages.result) c.args.id c.args.self.now c.loop-next.self going c.split.new.self c.loop-next-test.true
-    (sym c.is_larger.ensures ∙ c.if-is_larger.true) c.split.ensures in
+    (c.args.id + c.pages.result) c.args.id c.args.self.now c.loop-next.self going c.split-then-is_larger.new.self c.loop-next-test.true
+    (sym c.is_larger.ensures ∙ c.if-is_larger.true) c.split-then-is_larger.ensures in
     omega (arith, nearer)
 
 pub loop-next-preserved-then-is_larger : goal.loop-next-preserved-then-is_larger
 loop-next-preserved-then-is_larger c =
     IsGoing-split c.args.size c.loop-next.next
-    (c.args.id + c.pages.result) c.args.id c.args.self.now c.loop-next.self c.loop-next.invariant c.split.new.self c.loop-next-test.true (sym c.is_larger.ensures ∙ c.if-is_larger.true) c.split.ensures
+    (c.args.id + c.pages.result) c.args.id c.args.self.now c.loop-next.self c.loop-next.invariant c.split-then-is_larger.new.self c.loop-next-test.true (sym c.is_larger.ensures ∙ c.if-is_larger.true) c.split-then-is_larger.ensures
 
 pub overflow_add-next : goal.overflow_add-next
 overflow_add-next c =

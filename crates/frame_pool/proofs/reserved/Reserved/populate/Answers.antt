@@ -1,10 +1,8 @@
-use Rattle.std.proofs.Common.{◌≡◌, ◌∙◌, ℕ, Some, true, false, replicate, refl, sym, ap, subst}
+use Rattle.std.proofs.Common.{◌≡◌, ℕ, Some, true, false, replicate, refl, sym, ap, subst}
 use Rattle.std.proofs.lemmas.List.{length-replicate}
 use Rattle.pager_model.specs.Layouts.{Layout, frame_for, stamped, record_at}
 use Rattle.pager_model.specs.Records.{Records, is_used}
 use Rattle.reservations.specs.Kept.{with_record, with_used}
-use Rattle.reservation_lists.specs.Kept.{KeptLists}
-use Rattle.reservation_lists.proofs.Members.{is_listed-without}
 use Rattle.pager_laws.specs.Laid.{IsLaid}
 use Rattle.frame_pool.specs.Mapped.{IsMapped}
 use Rattle.frame_pool.specs.ReservedState.{reserved_in}
@@ -12,16 +10,11 @@ use Rattle.frame_pool.proofs.MappedRecords.{IsMapped-alike}
 use Rattle.frame_pool.proofs.LayoutInOrder.{IsLaid-populated, IsInOrder-again, known_to_lists, place_has}
 use Rattle.frame_pool.proofs.reserved.Reserved.populate.Goals as goal
 
-pub remove-requires : goal.remove-requires
-remove-requires c =
+pub relist-requires-clause-known : goal.relist-requires-clause-known
+relist-requires-clause-known c =
     let there = rw (← c.self.view_is) at c.requires.there in
-    record {
-      known = known_to_lists (reserved_in c.self.inside) _ c.args.reservation.now c.self.invariant.laid there
-          c.self.inside.lists c.self.inside.map c.self.invariant;
-    }
-
-pub enlist-requires-clause-unlisted : goal.enlist-requires-clause-unlisted
-enlist-requires-clause-unlisted c = rw c.remove.ensures (is_listed-without c.args.reservation.now.frame c.self.inside.lists.lists)
+    known_to_lists (reserved_in c.self.inside) _ c.args.reservation.now c.self.invariant.laid there
+    c.self.inside.lists c.self.inside.map c.self.invariant
 
 pub invariant_of-self : goal.invariant_of-self
 invariant_of-self c =
@@ -34,11 +27,11 @@ invariant_of-self c =
     let laid = IsLaid-populated l r c.args.stamp page c.self.invariant.laid is c.requires.has unused in
     let done : c.populate.new.self ≡ with_used (with_record inside.reservations r.frame (Some (stamped r c.args.stamp)))
     (frame_for page r) true = rw is at c.populate.ensures in
-    let m = c.enlist.new.lists.frames in
-    let room : m ≡ inside.lists.frames = c.enlist.ensures.room ∙ ap (λ (k : KeptLists). k.frames) c.remove.ensures in
+    let m = c.relist.new.lists.frames in
+    let room : m ≡ inside.lists.frames = c.relist.ensures.room in
     let after : ℕ → Records → Layout = λ n st. record { sizes = l.sizes; free = replicate n false; records = st.records; used = st.used } in
     IsInOrder-again l r.frame r c.self.invariant.laid is (Some (stamped r c.args.stamp)) (after m c.populate.new.self)
-    inside.lists c.enlist.new.lists inside.map inside.map c.self.invariant (record {
+    inside.lists c.relist.new.lists inside.map inside.map c.self.invariant (record {
       frame = frame_for page r;
       has = place_has r page c.requires.has;
       becomes = true;
@@ -48,7 +41,7 @@ invariant_of-self c =
       used = ap (λ (st : Records). st.used) done;
       records = ap (λ (st : Records). st.records) done;
     })
-    (length-replicate m false) room (rw c.remove.ensures at c.enlist.ensures.listed)
+    (length-replicate m false) room c.relist.ensures.listed
     (subst (λ (st : Records). IsMapped inside.map st.records) (sym done)
     (IsMapped-alike inside.map l.records r.frame r (stamped r c.args.stamp) c.self.invariant.mapped is refl refl refl))
 

@@ -3,6 +3,8 @@ use Rattle.std.proofs.lemmas.List.{length-replicate}
 use Rattle.pager_model.specs.Layouts.{parted, record_at}
 use Rattle.pager_model.specs.Records.{is_used, parted_records, split_records}
 use Rattle.reservation_lists.specs.Kept.{KeptLists}
+use Rattle.reservations.specs.Parts.{told_parts}
+use Rattle.frame_pool.specs.Mapped.{WasSplitFrom}
 use Rattle.frame_pool.specs.ReservedState.{reserved_in}
 use Rattle.frame_pool.proofs.LayoutInOrder.{WasSplit-from, known_to_lists}
 use Rattle.frame_pool.proofs.LayoutMapped.{WasSplitFrom-left}
@@ -47,12 +49,17 @@ enlist_parts-requires-clause-split c =
     (WasSplit-from (reserved_in c.self.inside) c.args.id c.unwrap-whole.result was.laid (stood w) c.self.inside.lists c.split-parts.new.self
     (sym was.known ∙ sym was.laid.records_long) was.listed (split w) c.split-parts.ensures.used)
 
-pub insert_parts-requires-clause-split : goal.insert_parts-requires-clause-split
-insert_parts-requires-clause-split c =
-    let w = (goal.at.insert_parts-requires-clause-split c).After-split-parts in
-    WasSplitFrom-left (reserved_in c.self.inside) c.args.id c.unwrap-whole.result c.self.invariant.laid
-    (stood w) c.self.inside.map c.remove-2.new.map c.split-parts.new.self c.self.invariant.mapped c.remove-2.ensures
-    (split w) c.split-parts.ensures.used
+-- and told of them
+told : (c : After-split-parts) → c.split-parts.result ≡ told_parts (is_used c.self.inside.reservations.used) c.unwrap-whole.result
+told c = rw (stood c) at c.split-parts.ensures.parts
+
+was_split : (c : After-split-parts)
+    → WasSplitFrom c.self.inside.map c.split-parts.new.self.records c.split-parts.result c.unwrap-whole.result
+was_split c = WasSplitFrom-left (reserved_in c.self.inside) c.args.id c.unwrap-whole.result c.self.invariant.laid
+    (stood c) c.self.inside.map c.split-parts.new.self.records c.split-parts.result c.self.invariant.mapped (split c) (told c)
+
+pub split-requires-clause-split : goal.split-requires-clause-split
+split-requires-clause-split c = (c.split-parts.new.self.records, was_split (goal.at.split-requires-clause-split c).After-split-parts)
 
 -- the lists are of as many frames then
 room : (c : After-enlist_parts) → c.enlist_parts.new.lists.frames ≡ c.self.inside.lists.frames
@@ -71,7 +78,7 @@ invariant_of-self c =
       few = omega (arith, same, was.few);
       laid = IsLaid-none_free (parted (r.size - 1) r l) c.enlist_parts.new.lists.frames settles.laid (settles.long ∙ was.known ∙ sym same);
       listed = rw (eight w, c.split-parts.ensures.used) at c.enlist_parts.ensures.listed;
-      mapped = rw (eight w) at c.insert_parts.ensures;
+      mapped = rw (eight w) at (c.split.ensures _ (was_split w));
     })
 
 pub returns-clause-split : goal.returns-clause-split
