@@ -1,9 +1,11 @@
 -- The jobs of each processor, in one pass over the lines.
-use Rattle.std.proofs.Common.{◌≡◌, ◌≢◌, ℕ, zero, suc, ◌+◌, ◌<◌, ◌≤◌, ◌==◌, List, [], ◌∷◌, ◌++◌, cond, length, map, take, replicate, length-append, get_or, slice_get, Option, Some, None, refl, ap, sym, ◌∙◌, inl, inr, arith}
+use Rattle.std.proofs.Common.{◌≡◌, ◌≢◌, ℕ, zero, suc, ◌+◌, ◌<◌, ◌≤◌, ◌==◌, List, [], ◌∷◌, ◌++◌, cond, length, map, take, replicate, length-append, get_or, slice_get, Option, Some, None, refl, ap, sym, subst, ◌∙◌, inl, inr, arith}
 use Rattle.std.specs.List.{range_with_len, All}
 use Rattle.std.proofs.lemmas.Bool.{cases_eq, eq-eqb, ne_eqb}
-use Rattle.std.proofs.lemmas.List.{append-nil, get_or-set_same, get_or-set_other, map_push, map-set, same_lists, take_more}
+use Rattle.std.proofs.lemmas.List.{append-nil, get_or-map, get_or-replicate, get_or-set_same, get_or-set_other, map_push, map-set, same_lists, take_more}
+use Rattle.std.proofs.lemmas.List.Elements.{All-nil, All-push}
 use Rattle.std.proofs.lemmas.List.FromFn.{get_or-map-range_with_len, length-map-range_with_len}
+use Rattle.std.proofs.lemmas.Option.{slice_get-get_or}
 use Rattle.std.proofs.Math.ListN.{length-map, length-replicate, length-set, set}
 use Rattle.pager_model.specs.declared.call.Line.{Line}
 use Rattle.pager_model.specs.declared.trace.Daemon.{Daemon}
@@ -11,8 +13,10 @@ use Rattle.pager_model.specs.declared.trace.Job.{Job}
 use Rattle.pager_model.specs.declared.trace.Job.TheVariants.{Call as MakesCall}
 use Rattle.pager_model.specs.Plans.{Plan}
 use Rattle.pager_model.specs.Showing.{actors, calls_of, daemon_marks, jobs_of, turns_of}
+use Rattle.pager_model.proofs.Lists.{map-alike}
 use Rattle.pager_model.proofs.Histories.{filter-push_in, filter-push_out}
 use Rattle.pager_core.specs.Running.{jobs_at}
+use Rattle.pager_core.specs.TraceJobs.{AreOfLines, job_at, job_of, turns_behind}
 use Rattle.pager_core.proofs.Lists.{map_range-push}
 use Rattle.pager_core.proofs.StartMachines.{calls_within}
 use Rattle.pager_core.proofs.WholeTurns.{jobs_read}
@@ -128,16 +132,73 @@ jobs-calls plan jobs none are =
     (let count = count_actors plan None none in let e : plan.processors ≡ actors plan = omega (arith, count) in e)
 
 -- and with one it is the last, and has its turns
+jobs-more : (plan : Plan) (jobs jobs' : List (List Job)) (d : Daemon) → plan.daemon ≡ Some d
+    → All (λ (l : Line). l.processor < plan.processors) plan.calls
+    → jobs' ≡ jobs ++ turns_of (Some d) ∷ [] → jobs ≡ map (λ c. map MakesCall (calls_of c plan.calls)) (range_with_len 0 plan.processors)
+    → jobs' ≡ map (λ c. jobs_of c plan) (range_with_len 0 (actors plan))
+jobs-more plan jobs jobs' d some known more are =
+    map_range-push (λ c. jobs_of c plan) jobs jobs' (turns_of (Some d)) plan.processors more (are ∙ callers plan)
+    (ap turns_of (sym some)
+    ∙ ap (λ b. cond b (turns_of plan.daemon) []) (sym (eq-eqb plan.processors plan.processors refl))
+    ∙ ap (λ calls. map MakesCall calls ++ cond (plan.processors == plan.processors) (turns_of plan.daemon) [])
+    (sym (none_behind plan.processors plan.processors plan.calls known (omega arith))))
+    ∙ ap (λ n. map (λ c. jobs_of c plan) (range_with_len 0 n)) (sym (count_actors plan (Some d) some))
+
 pub jobs-turns : {V : Type 0} (items : V → List Job) (plan : Plan) (vs vs' : List V) (v : V) (d : Daemon) → plan.daemon ≡ Some d
     → All (λ (l : Line). l.processor < plan.processors) plan.calls
     → vs' ≡ vs ++ v ∷ [] → map items vs ≡ map (λ c. map MakesCall (calls_of c plan.calls)) (range_with_len 0 plan.processors)
     → items v ≡ turns_of (Some d)
     → map items vs' ≡ map (λ c. jobs_of c plan) (range_with_len 0 (actors plan))
 jobs-turns items plan vs vs' v d some known more are turns =
-    map_range-push (λ c. jobs_of c plan) (map items vs) (map items vs') (items v) plan.processors
-    (ap (map items) more ∙ map_push items vs v) (are ∙ callers plan)
-    (turns ∙ ap turns_of (sym some)
-    ∙ ap (λ b. cond b (turns_of plan.daemon) []) (sym (eq-eqb plan.processors plan.processors refl))
-    ∙ ap (λ calls. map MakesCall calls ++ cond (plan.processors == plan.processors) (turns_of plan.daemon) [])
-    (sym (none_behind plan.processors plan.processors plan.calls known (omega arith))))
-    ∙ ap (λ n. map (λ c. jobs_of c plan) (range_with_len 0 n)) (sym (count_actors plan (Some d) some))
+    jobs-more plan (map items vs) (map items vs') d some known
+    (ap (map items) more ∙ map_push items vs v ∙ ap (λ own. map items vs ++ own ∷ []) turns) are
+
+-- with what stands behind the calls they are the trace's
+pub jobs-behind : (plan : Plan) (jobs : List (List Job)) → All (λ (l : Line). l.processor < plan.processors) plan.calls
+    → jobs ≡ map (λ c. map MakesCall (calls_of c plan.calls)) (range_with_len 0 plan.processors)
+    → jobs ++ turns_behind plan.daemon ≡ map (λ c. jobs_of c plan) (range_with_len 0 (actors plan))
+jobs-behind plan jobs known are = by plan.daemon refl
+  where
+    by : (o : Option Daemon) → plan.daemon ≡ o → jobs ++ turns_behind o ≡ map (λ c. jobs_of c plan) (range_with_len 0 (actors plan))
+    by None is = append-nil jobs ∙ jobs-calls plan jobs is are
+    by (Some d) is = jobs-more plan jobs (jobs ++ turns_of (Some d) ∷ []) d is known refl are
+
+-- The jobs by the numbers of their lines.
+
+map_items : {V : Type 0} (items : V → List ℕ) (f : ℕ → Job) (vs : List V) → map (λ v. map f (items v)) vs ≡ map (map f) (map items vs)
+map_items items f [] = refl
+map_items items f (v ∷ vs) = ap (λ l. map f (items v) ∷ l) (map_items items f vs)
+
+-- before the first line there are none
+module _ {V : Type 0} (items : V → List ℕ) (lines : List Line) (vs : List V) (processors : ℕ)
+    (none : map items vs ≡ replicate processors []) where
+  pub numbered-none : map (λ v. map (job_at lines) (items v)) vs
+      ≡ map (λ c. map MakesCall (calls_of c (take 0 lines))) (range_with_len 0 processors)
+  numbered-none =
+      map_items items (job_at lines) vs ∙ ap (map (map (job_at lines))) none ∙ map-alike (map (job_at lines)) processors []
+      ∙ sym (map_range-alike [] 0 processors)
+
+  is_empty : (i : ℕ) (d : V) → i < length vs → items (get_or vs i d) ≡ []
+  is_empty i d within =
+      let count = sym (length-map vs items) ∙ ap length none ∙ length-replicate {A = List ℕ} processors [] in
+      sym (get_or-map items vs i d [] within) ∙ ap (λ l. get_or l i []) none
+      ∙ get_or-replicate processors i [] [] (omega (arith, within, count))
+
+  pub AreOfLines-none : All (λ v. AreOfLines lines (items v)) vs
+  AreOfLines-none i d within = subst (AreOfLines lines) (sym (is_empty i d within)) (All-nil (λ n. n < length lines))
+
+-- one number more
+pub numbered-push : (lines : List Line) (own own' : List ℕ) (n : ℕ) (d : Line) → n < length lines → own' ≡ own ++ n ∷ []
+    → map (job_at lines) own' ≡ map (job_at lines) own ++ MakesCall (get_or lines n d).call ∷ []
+numbered-push lines own own' n d below more =
+    ap (map (job_at lines)) more ∙ map_push (job_at lines) own n
+    ∙ ap (λ o. map (job_at lines) own ++ job_of o ∷ []) (slice_get-get_or lines n d below)
+
+-- whatever the number is called
+pub pushed-as : (own own' : List ℕ) (m n : ℕ) → own' ≡ own ++ m ∷ [] → m ≡ n → own' ≡ own ++ n ∷ []
+pushed-as own own' m n more is = more ∙ ap (λ k. own ++ k ∷ []) is
+
+pub AreOfLines-push : (lines : List Line) (own own' : List ℕ) (n : ℕ) → n < length lines → own' ≡ own ++ n ∷ []
+    → AreOfLines lines own → AreOfLines lines own'
+AreOfLines-push lines own own' n below more are =
+    subst (AreOfLines lines) (sym more) (All-push (λ k. k < length lines) own n are below)

@@ -1,5 +1,5 @@
 -- A call that can't be served is answered so: no frame could be had, a store failed, or there was no memory.
-use Rattle.std.proofs.Common.{◌≡◌, ℕ, ◌<◌, Bool, true, false, is_some, Option, Some, None, option_map, refl, ap, sym, subst, ◌∙◌, inl, inr, arith}
+use Rattle.std.proofs.Common.{◌≡◌, ℕ, Bool, true, false, is_some, Option, Some, None, option_map, refl, ap, sym, subst, ◌∙◌, inl, inr, arith}
 use Rattle.std.specs.Option.{IsSome}
 use Rattle.std.proofs.lemmas.Bool.{cond-true, cond-false, and_from, and_parts, eq-eqb, not-true, false≢true}
 use Rattle.std.proofs.lemmas.Option.{same_Some}
@@ -24,7 +24,7 @@ use Rattle.pager_core.specs.declared.flight.Flight.{Flight}
 use Rattle.pager_core.specs.declared.flight.Phase.{Phase}
 use Rattle.pager_core.specs.declared.flight.Phase.TheVariants.{Short, Fault, Lack, Ended}
 use Rattle.pager_core.specs.Flights.{IsReady}
-use Rattle.pager_core.specs.Rows.{access_in, access_of, call_in, claimed_in, faulted, row_of}
+use Rattle.pager_core.specs.Rows.{access_in, access_of, call_in, claimed_in, faulted}
 use Rattle.pager_core.specs.Steps.{Makes, Refuses}
 use Rattle.pager_core.proofs.AnswerSteps.{MayEnd, IsAnswered, answered_in, is_access_by_page, is_access_of}
 use Rattle.pager_core.proofs.EntrySteps.{unchanged}

@@ -108,10 +108,9 @@ module _ (m : MachineParts) (self : Running) (c s : ℕ) (f : Flight) where
 
 -- What the actor has after a step: its flight where that goes on, and else that of its next job.
 pub record HasNext (m : MachineParts) (step : Step) (o : Option Flight) : Type 0 where
-  pub jobs : List Job
-  pub own : jobs ≡ jobs_at m.run.jobs step.actor
   pub going : (row_of step.new).outcome ≡ Going → o ≡ Some step.new
-  pub next : has_ended (row_of step.new).outcome ≡ true → o ≡ flight_of step.new.processor (step.new.number + 1) jobs
+  pub next : has_ended (row_of step.new).outcome ≡ true
+      → o ≡ flight_of step.new.processor (step.new.number + 1) (jobs_at m.run.jobs step.new.processor)
 
 module _ (m : MachineParts) (step : Step) (o : Option Flight) where
   -- what comes of the flight after a step
@@ -119,10 +118,12 @@ module _ (m : MachineParts) (step : Step) (o : Option Flight) where
       → Lands (mark_of m.run.given step.actor) (jobs_at m.run.jobs step.actor) step.new o
   landed machine flies same fits_too has =
       let job = job_kept same in
+      let processor_is = same.processor ∙ (machine.flights step.actor step.old flies).processor in
       Lands-on (mark_of m.run.given step.actor) (jobs_at m.run.jobs step.actor) step.new (machine.kinds step.actor)
       (ap (slice_get (jobs_at m.run.jobs step.actor)) same.number ∙ (machine.flights step.actor step.old flies).job ∙ ap Some (sym job))
       fits_too
-      o has.going (λ ended. has.next ended ∙ ap (flight_of step.new.processor (step.new.number + 1)) has.own)
+      o has.going
+      (λ ended. has.next ended ∙ ap (λ c. flight_of step.new.processor (step.new.number + 1) (jobs_at m.run.jobs c)) processor_is)
 
   -- under a space's lock
   pub Goes-of : (s : ℕ) (was now : Kept) → Turns m step s was now → HasNext m step o → Goes m step (set m.spaces s now) o

@@ -2,6 +2,7 @@ pub mod Rows
 pub mod Flights
 pub mod Steps
 pub mod RunParts
+pub mod TraceJobs
 pub mod Running
 pub mod Machines
 pub mod Sums

@@ -6,6 +6,7 @@
 #![tactic(auto)]
 
 mod flight;
+mod jobs;
 mod machine;
 mod run_parts;
 

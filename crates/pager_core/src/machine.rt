@@ -1,6 +1,5 @@
 ghost use Rattle.std.specs.Prelude.{◌≡◌, ◌≢◌, ℕ, ◌+◌, ◌*◌, ◌^◌, ◌<◌, ◌≤◌, ◌↔◌, Bool, [], ◌∷◌, ◌++◌, Some, None, IfOk, IfErr, IfSome, IfNone, IsTrue, length, map, option_map, drop, take, replicate, true, slice_get};
 ghost use Rattle.std.specs.List.{range_with_len};
-ghost use Rattle.pager_model.specs.Bounds.{most_actors};
 ghost use Rattle.pager_model.specs.Agreement.{OwnsBy};
 ghost use Rattle.pager_model.specs.Counts.{counts};
 ghost use Rattle.pager_model.specs.FrameStates.{start_frames};
@@ -15,11 +14,12 @@ ghost use Rattle.pager_core.specs.Flights.{IsReady};
 ghost use Rattle.pager_core.specs.Machines.{IsOther, entries_of_trace, entries_of_turns};
 ghost use Rattle.pager_core.specs.Rows.{Going, has_ended, row_of, space_under};
 ghost use Rattle.pager_core.specs.RunParts.{AreRoomsOver};
-ghost use Rattle.pager_core.specs.Running.{Running, progress_of_actor, flight_at, flight_for, flight_of, first_flights, HasEnded, MustWait, OneMore, IsLawful, IsWholeRun};
+ghost use Rattle.pager_core.specs.Running.{Running, progress_of_actor, flight_at, flight_for, flight_of, first_flights, jobs_at, HasEnded, MustWait, OneMore, IsLawful, IsWholeRun};
 ghost use Rattle.pager_core.specs.Steps.{AreAgreed, Makes, Passes};
 
 use crate::flight::{Flight, Needs};
-use crate::run_parts::{Gathered, RunRoom, jobs_by_processor, marks_of};
+use crate::jobs::Jobs;
+use crate::run_parts::{Gathered, RunRoom, marks_of};
 use frame_pool::Pool;
 use pager_model::{Daemon, Entry, Job, NoMemory, Setting, Trace};
 use run_history::History;
@@ -43,10 +43,10 @@ pub enum Turn {
 /// order of turns, and keeps the history. It owns the spaces with their stores, the pool and each processor's job in progress: a call, or a turn
 /// of the daemon.
 #[derive(Drop)]
-pub struct Machine<S: Store + Send + Drop> {
+pub struct Machine<'a, S: Store + Send + Drop> {
     setting: Setting,
     // each processor's jobs
-    jobs: Vec<Vec<Job>>,
+    jobs: Jobs<'a>,
     // each processor's job that is in progress or comes next
     flights: Vec<Option<Flight>>,
     spaces: Vec<Space<S>>,
@@ -58,7 +58,7 @@ pub struct Machine<S: Store + Send + Drop> {
     history: History,
 }
 
-impl<S: Store + Send + Drop> Model for Machine<S> {
+impl<'a, S: Store + Send + Drop> Model for Machine<'a, S> {
     ghost use Rattle.std.specs.Prelude.{◌+◌, ◌≤◌, length, map, reverse, vec_capacity, vec_len};
     ghost use Rattle.pager_core.specs.Running.{Running};
     ghost use Rattle.pager_core.specs.Machines.{IsMachine, AreKeepers};
@@ -67,7 +67,7 @@ impl<S: Store + Send + Drop> Model for Machine<S> {
 
     ghost view = { λ m. record {
       given = m.setting;
-      jobs = map (λ v. v.items) m.jobs.items;
+      jobs = m.jobs;
       flights = m.flights.items;
       history = m.history.items;
       unused = map S.seen (reverse m.stores.items);
@@ -75,17 +75,17 @@ impl<S: Store + Send + Drop> Model for Machine<S> {
 
     ghost invariant = { λ m. IsMachine (record {
       given = m.setting;
-      jobs = map (λ v. v.items) m.jobs.items;
+      jobs = m.jobs;
       flights = m.flights.items;
       history = m.history.items;
       unused = map S.seen (reverse m.stores.items);
     }) m.spaces.items m.pool (m.history.room) × (vec_len m.stores + length m.spaces.items ≤ vec_capacity m.stores) × AreKeepers m.flights.items (length m.spaces.items) m.keepers.items };
 }
 
-impl<S: Store + Send + Drop> Machine<S> {
+impl<'a, S: Store + Send + Drop> Machine<'a, S> {
     /// A machine at the start of a trace, whose spaces use the stores of their numbers; there are at least as many stores as spaces. All the
     /// memory that a run takes, but for that of the stores' writes, is taken here, and for want of it the stores come back.
-    pub fn create(alloc: Global, trace: &Trace, stores: Vec<S>) -> Result<Machine<S>, Vec<S>>
+    pub fn create(alloc: Global, trace: &'a Trace, stores: Vec<S>) -> Result<Machine<'a, S>, Vec<S>>
         requires enough { trace.now.spaces ≤ length stores.items }
         ensures made { IfOk result (λ m. (m.given ≡ setting_over trace.now (map S.seen stores.items)) × (m.history ≡ [])
             × (m.jobs ≡ map (λ c. jobs_of c trace.now) (range_with_len 0 (actors trace.now)))
@@ -171,7 +171,7 @@ impl<S: Store + Send + Drop> Machine<S> {
         );
         self.history.push(&entry);
         self.keepers[space as usize] = keeper(actor, &flight);
-        self.flights[actor as usize] = going_on(flight, self.jobs[actor as usize].as_slice());
+        self.flights[actor as usize] = going_on(flight, &self.jobs);
         Turn::Stepped
     }
 
@@ -190,7 +190,7 @@ impl<S: Store + Send + Drop> Machine<S> {
         let mut flight = flight;
         let entry = flight.step_frames(&mut self.pool);
         self.history.push(&entry);
-        self.flights[actor as usize] = going_on(flight, self.jobs[actor as usize].as_slice());
+        self.flights[actor as usize] = going_on(flight, &self.jobs);
         Turn::Stepped
     }
 
@@ -202,7 +202,7 @@ impl<S: Store + Send + Drop> Machine<S> {
     {
         match &self.flights[actor as usize] {
             Some(flight) => flight.number,
-            None => self.jobs[actor as usize].len() as u32,
+            None => self.jobs.count(actor),
         }
     }
 
@@ -227,11 +227,11 @@ impl<S: Store + Send + Drop> Machine<S> {
     /// The history of the whole run, the stores, and the counts.
     pub fn finish(self) -> Gathered<S>
         requires { HasEnded self }
-        ensures history { result.history.items ≡ self.history }
-        ensures run { IsWholeRun self.given self.jobs self.history }
-        ensures stores { StoresEnd self.given self.history (map S.seen result.stores.items) }
-        ensures unused { drop (length self.given.told) (map S.seen result.stores.items) ≡ self.unused }
-        ensures summary { result.summary ≡ counts self.given (entries_in self.history) }
+        ensures history { result.history.items ≡ self.entry.history }
+        ensures run { IsWholeRun self.entry.given self.entry.jobs self.entry.history }
+        ensures stores { StoresEnd self.entry.given self.entry.history (map S.seen result.stores.items) }
+        ensures unused { drop (length self.entry.given.told) (map S.seen result.stores.items) ≡ self.entry.unused }
+        ensures summary { result.summary ≡ counts self.entry.given (entries_in self.entry.history) }
     {
         Gathered::of(self.history, self.spaces, self.pool, self.stores)
     }
@@ -242,8 +242,8 @@ const ENTRIES_OF_CALL: usize = 8;
 
 /// What a machine is made of, beside its stores.
 #[derive(Drop)]
-struct Parts<S: Store + Send + Drop> {
-    jobs: Vec<Vec<Job>>,
+struct Parts<'a, S: Store + Send + Drop> {
+    jobs: Jobs<'a>,
     flights: Vec<Option<Flight>>,
     keepers: Vec<Option<u32>>,
     history: History,
@@ -251,17 +251,17 @@ struct Parts<S: Store + Send + Drop> {
 }
 
 /// The parts of a machine over stores, of which those of its spaces are looked at.
-fn parts_of<S: Store + Send + Drop>(
+fn parts_of<'a, S: Store + Send + Drop>(
     alloc: Global,
-    trace: &Trace,
+    trace: &'a Trace,
     stores: &[S],
-) -> Result<Parts<S>, NoMemory>
+) -> Result<Parts<'a, S>, NoMemory>
     requires enough { trace.now.spaces ≤ length stores.now }
 
     // Each part is as it is at the start of the trace.
     ensures text { IfOk result (λ _. HasText trace.now) }
-    ensures jobs { IfOk result (λ p. map (λ v. v.items) p.jobs.items ≡ map (λ c. jobs_of c trace.now) (range_with_len 0 (actors trace.now))) }
-    ensures flights { IfOk result (λ p. p.flights.items ≡ first_flights (map (λ v. v.items) p.jobs.items)) }
+    ensures jobs { IfOk result (λ p. p.jobs ≡ map (λ c. jobs_of c trace.now) (range_with_len 0 (actors trace.now))) }
+    ensures flights { IfOk result (λ p. p.flights.items ≡ first_flights p.jobs) }
     ensures keepers { IfOk result (λ p. p.keepers.items ≡ replicate trace.now.spaces None) }
     ensures history { IfOk result (λ p. (p.history.items ≡ []) × (entries_of_trace trace.now ≤ p.history.room)) }
     ensures setting { IfOk result (λ p. p.room.setting ≡ setting_over trace.now (map S.seen stores.now)) }
@@ -270,8 +270,8 @@ fn parts_of<S: Store + Send + Drop>(
     ensures capped { IfOk result (λ _. AreCapped trace.now.spaces (map S.seen stores.now)) }
 {
     let history = History::create(alloc, entries_of_trace(trace))?;
-    let jobs = jobs_by_processor(alloc, trace)?;
-    let flights = first_of_each(alloc, jobs.as_slice())?;
+    let jobs = Jobs::of(alloc, trace)?;
+    let flights = first_of_each(alloc, &jobs, trace.actors())?;
     let spaces = trace.spaces();
     let keepers = no_keepers(alloc, spaces)?;
     let marks = marks_of(alloc, trace)?;
@@ -312,24 +312,28 @@ fn entries_of_turns(daemon: Option<Daemon>) -> usize
     }
 }
 
-/// For each processor the flight of its first job, where it has one.
-fn first_of_each(alloc: Global, jobs: &[Vec<Job>]) -> Result<Vec<Option<Flight>>, NoMemory>
-    requires { length jobs.now ≤ most_actors }
-    ensures { IfOk result (λ flights. flights.items ≡ first_flights (map (λ v. v.items) jobs.now)) }
+/// For each of all actors the flight of its first job, where it has one.
+fn first_of_each(
+    alloc: Global,
+    jobs: &Jobs<'_>,
+    actors: u32,
+) -> Result<Vec<Option<Flight>>, NoMemory>
+    requires { length jobs.now ≡ actors }
+    ensures { IfOk result (λ flights. flights.items ≡ first_flights jobs.now) }
 {
-    let mut flights = Vec::with_capacity(alloc, jobs.len())?;
-    for (processor, own) in jobs.iter().enumerate() {
-        flights.push(flight_of(processor as u32, 0, own.as_slice()))?;
+    let mut flights = Vec::with_capacity(alloc, actors as usize)?;
+    for actor in 0..actors {
+        flights.push(flight_of(actor, 0, jobs))?;
     }
     Ok(flights)
 }
 
-/// The flight of the processor's job of this number, where there is one.
-fn flight_of(processor: u32, number: u32, jobs: &[Job]) -> Option<Flight>
-    ensures { result ≡ flight_of processor number jobs.now }
+/// The flight of the actor's job of this number, where there is one.
+fn flight_of(actor: u32, number: u32, jobs: &Jobs<'_>) -> Option<Flight>
+    ensures { result ≡ flight_of actor number (jobs_at jobs.now actor) }
 {
-    let job = jobs.get(number as usize)?;
-    Some(flight_for(processor, number, *job))
+    let job = jobs.get(actor, number)?;
+    Some(flight_for(actor, number, job))
 }
 
 /// The flight of a job, of which nothing was done.
@@ -343,10 +347,10 @@ fn flight_for(processor: u32, number: u32, job: Job) -> Flight
 }
 
 /// The flight after a step: the same, or where its job is done that of the processor's next one.
-fn going_on(flight: Flight, jobs: &[Job]) -> Option<Flight>
+fn going_on(flight: Flight, jobs: &Jobs<'_>) -> Option<Flight>
     requires { flight.number + 1 < 2 ^ 32 }
     ensures going { (row_of flight).outcome ≡ Going → result ≡ Some flight }
-    ensures next { has_ended (row_of flight).outcome ≡ true → result ≡ flight_of flight.processor (flight.number + 1) jobs.now }
+    ensures next { has_ended (row_of flight).outcome ≡ true → result ≡ flight_of flight.processor (flight.number + 1) (jobs_at jobs.now flight.processor) }
 {
     if flight.has_ended() {
         return flight_of(flight.processor, flight.number + 1, jobs);

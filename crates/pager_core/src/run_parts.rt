@@ -294,23 +294,27 @@ fn calls_by_processor(
     requires within { All (λ (l : Line). l.processor < processors) lines.now }
     ensures { IfOk result (λ jobs. map (λ v. v.items) jobs.items ≡ map (λ c. map Job.Call (calls_of c lines.now)) (range_with_len 0 processors)) }
 {
-    let mut jobs = no_jobs(alloc, processors, lines.len())?;
+    let mut jobs = empty_rows(alloc, processors, lines.len())?;
     for line in lines {
         jobs[line.processor as usize].push(Job::Call(line.call))?;
     }
     Ok(jobs)
 }
 
-/// No job for each of so many processors, and room for its share of so many calls.
-fn no_jobs(alloc: Global, processors: u32, calls: usize) -> Result<Vec<Vec<Job>>, NoMemory>
-    ensures { IfOk result (λ jobs. map (λ v. v.items) jobs.items ≡ replicate processors []) }
+/// An empty row for each of so many processors, with room for its share of so many calls.
+pub(crate) fn empty_rows<T: Drop>(
+    alloc: Global,
+    processors: u32,
+    calls: usize,
+) -> Result<Vec<Vec<T>>, NoMemory>
+    ensures { IfOk result (λ rows. map (λ v. v.items) rows.items ≡ replicate processors []) }
 {
-    let mut jobs = Vec::with_capacity(alloc, processors as usize)?;
+    let mut rows = Vec::with_capacity(alloc, processors as usize)?;
     for _ in 0..processors {
         let share = calls / processors as usize;
-        jobs.push(Vec::with_capacity(alloc, share)?)?;
+        rows.push(Vec::with_capacity(alloc, share)?)?;
     }
-    Ok(jobs)
+    Ok(rows)
 }
 
 /// A daemon's turns.

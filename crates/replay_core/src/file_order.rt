@@ -37,7 +37,7 @@ pub fn replay_file_order<S: Store + Send + Drop>(
 }
 
 /// Does the actor's next job to its end, where it has one left.
-fn do_next<S: Store + Send + Drop>(machine: &mut Machine<S>, actor: u32)
+fn do_next<S: Store + Send + Drop>(machine: &mut Machine<'_, S>, actor: u32)
     requires lawful { IsLawful machine.old }
     requires between { IsBetween machine.old actor }
     requires none_keeps { NoneKeeps machine.old.flights }
@@ -49,7 +49,7 @@ fn do_next<S: Store + Send + Drop>(machine: &mut Machine<S>, actor: u32)
 }
 
 /// Does all jobs that the actor has left, one after another.
-fn do_rest<S: Store + Send + Drop>(machine: &mut Machine<S>, actor: u32)
+fn do_rest<S: Store + Send + Drop>(machine: &mut Machine<'_, S>, actor: u32)
     requires lawful { IsLawful machine.old }
     requires between { IsBetween machine.old actor }
     requires none_keeps { NoneKeeps machine.old.flights }
@@ -61,7 +61,7 @@ fn do_rest<S: Store + Send + Drop>(machine: &mut Machine<S>, actor: u32)
 }
 
 /// Does the actor's next job to its end.
-fn do_job<S: Store + Send + Drop>(machine: &mut Machine<S>, actor: u32)
+fn do_job<S: Store + Send + Drop>(machine: &mut Machine<'_, S>, actor: u32)
     requires lawful { IsLawful machine.old }
     requires left { flight_at machine.old.flights actor ≢ None }
     requires between { IsBetween machine.old actor }

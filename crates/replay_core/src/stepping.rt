@@ -9,7 +9,7 @@ use pager_core::{Machine, Turn};
 use store_core::Store;
 
 /// Gives the actors turns, in order, until one has made an entry. One of them can.
-pub fn step_first<S: Store + Send + Drop>(machine: &mut Machine<S>, actors: &[u32])
+pub fn step_first<S: Store + Send + Drop>(machine: &mut Machine<'_, S>, actors: &[u32])
     requires known { AllByRecursion (λ c. c < length machine.old.jobs) actors.now }
     requires some { AllByRecursion (IsStuck machine.old) actors.now → ⊥ }
     ensures { FirstStepped machine.old machine.new actors.now }

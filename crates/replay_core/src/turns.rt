@@ -41,7 +41,7 @@ pub fn replay_turns<S: Store + Send + Drop>(
 
 /// Makes one entry, of the first processor that can step from a drawn one on.
 fn step_drawn<S: Store + Send + Drop>(
-    machine: &mut Machine<S>,
+    machine: &mut Machine<'_, S>,
     actors: u32,
     generator: &mut Generator,
 )
@@ -59,7 +59,10 @@ fn step_drawn<S: Store + Send + Drop>(
 }
 
 /// The processors that have a call or a turn left, ascending.
-fn left_in<S: Store + Send + Drop>(machine: &Machine<S>, actors: u32) -> ArrayVec<u32, MOST_ACTORS>
+fn left_in<S: Store + Send + Drop>(
+    machine: &Machine<'_, S>,
+    actors: u32,
+) -> ArrayVec<u32, MOST_ACTORS>
     requires all { length machine.now.jobs ≡ actors }
     requires few { actors ≤ most_actors }
     ensures { result.items ≡ flying_in machine.now }

@@ -26,7 +26,7 @@ struct Counts {
 }
 
 /// A machine at the start of the trace, over empty stores.
-fn machine_of(alloc: Global, trace: &Trace) -> Result<Machine<MemoryStore>, Fail>
+fn machine_of(alloc: Global, trace: &Trace) -> Result<Machine<'_, MemoryStore>, Fail>
     ensures { IfOk result (λ m. length m.jobs ≡ actors trace.now) }
 {
     let mut stores = Vec::new(alloc);
@@ -51,7 +51,7 @@ fn draw(random: &mut u64, limit: u32) -> u32
 }
 
 /// Takes so many turns, each of a processor that is drawn, the daemon among them.
-fn take_turns(machine: &mut Machine<MemoryStore>, actors: u32, turns: u32) -> Counts
+fn take_turns(machine: &mut Machine<'_, MemoryStore>, actors: u32, turns: u32) -> Counts
     requires known { length machine.old.jobs ≡ actors }
     requires some { 0 < actors }
 {

@@ -1,24 +1,17 @@
 use Rattle.std.proofs.Common.{◌≡◌, ℕ, List, length, map, take, replicate, None, slice_get, subst, ap, sym, ◌∙◌, arith}
 use Rattle.std.proofs.lemmas.List.{length-take-le, take-map}
 use Rattle.std.proofs.lemmas.List.FromFn.{length-map-range_with_len}
-use Rattle.std.proofs.Math.ListN.{length-map}
 use Rattle.pager_model.specs.Showing.{actors, jobs_of, marks_of}
 use Rattle.pager_model.specs.Stored.{Stored}
 use Rattle.pager_model.specs.Stores.{given_over}
 use Rattle.pager_core.specs.RunParts.{AreRoomsOver}
-use Rattle.pager_model.proofs.Actors.{actors_few}
 use Rattle.pager_core.proofs.Stores.{slice_get-take}
 use Rattle.pager_core.proofs.machine.parts_of.Goals as goal
 
 pub first_of_each-requires : goal.first_of_each-requires
 first_of_each-requires g c =
-    let trace = c.entries_of_trace.ensures.text in
-    let all = ap length c.in_ok-jobs.ensures.jobs in
-    let vs = length-map c.in_ok-jobs.jobs.items (λ v. v.items) in
-    let n = length-map-range_with_len (λ k. jobs_of k c.args.trace.now) 0 (actors c.args.trace.now) in
-    let same = ap length c.as_slice.ensures.value in
-    let few = actors_few c.args.trace.now trace in
-    omega (arith, all, vs, n, same, few)
+    ap length c.in_ok-jobs.ensures.jobs ∙ length-map-range_with_len (λ k. jobs_of k c.args.trace.now) 0 (actors c.args.trace.now)
+    ∙ sym c.actors.ensures.actors
 
 -- the stores of the spaces are the first
 first : {P : Type 0} (seen : P → Stored) (stores : List P) (n m : ℕ) → n ≡ m → map seen (take n stores) ≡ take m (map seen stores)
@@ -27,7 +20,7 @@ first seen stores n m same = sym (take-map seen n stores) ∙ ap (λ k. take k (
 pub returns-clause-setting : goal.returns-clause-setting
 returns-clause-setting g c =
     let plan = c.args.trace.now in
-    let marks : c.as_slice-2.result.now ≡ marks_of plan = c.as_slice-2.ensures.value ∙ c.in_ok-marks.ensures in
+    let marks : c.as_slice.result.now ≡ marks_of plan = c.as_slice.ensures.value ∙ c.in_ok-marks.ensures in
     let own = first g.S.Store.seen c.args.stores.now c.spaces-spaces.result plan.spaces c.spaces-spaces.ensures.spaces in
     c.in_ok-room.ensures.setting
     ∙ (λ i. given_over (c.frames.ensures.frames i) (c.sizes.ensures.sizes i) (marks i) (own i))

@@ -57,7 +57,7 @@ new g c = c.over-spaces.ensures.new c.in-Ok.parts.room.setting
 started : (g : Over) (c : goal.After-over-spaces g)
     → IsMachine (record {
       given = c.in-Ok.parts.room.setting;
-      jobs = map (λ v. v.items) c.in-Ok.parts.jobs.items;
+      jobs = c.in-Ok.parts.jobs;
       flights = c.in-Ok.parts.flights.items;
       history = c.in-Ok.parts.history.items;
       unused = map g.S.Store.seen (reverse c.over-spaces.result.1.items);
@@ -90,7 +90,7 @@ invariant_of-result g c =
         c.args.stores.ok.0,
         c.args.stores.ok.1,
       ),
-      AreKeepers-start (map (λ v. v.items) c.in-Ok.parts.jobs.items) c.in-Ok.parts.flights.items
+      AreKeepers-start c.in-Ok.parts.jobs c.in-Ok.parts.flights.items
           (length c.over-spaces.result.0.items) c.in-Ok.parts.keepers.items c.in-Ok.ensures.flights
           (c.in-Ok.ensures.keepers ∙ ap (λ n. replicate n None) (let e : c.args.trace.now.spaces
           ≡ length c.over-spaces.result.0.items = omega (arith, count, told) in e)),

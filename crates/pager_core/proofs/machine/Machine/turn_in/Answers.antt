@@ -1,5 +1,5 @@
-use Rattle.std.proofs.Common.{◌≡◌, length, map, reverse, refl, ap, subst, ◌∙◌, arith}
-use Rattle.std.proofs.Math.ListN.{set, length-set, length-map}
+use Rattle.std.proofs.Common.{◌≡◌, map, reverse, refl, ap, subst, arith}
+use Rattle.std.proofs.Math.ListN.{set, length-set}
 use Rattle.pager_model.specs.Legal.{space_at, entries_in}
 use Rattle.pager_core.specs.Running.{Running, MustWait}
 use Rattle.run_history.specs.Kept.{Kept}
@@ -9,7 +9,7 @@ use Rattle.pager_core.proofs.Laws.{IsNeverShort-machine, KeepsLaws-machine}
 use Rattle.pager_core.proofs.MachineTurns.{Goes, MachineParts, Step, run_after}
 use Rattle.pager_core.proofs.ReadyFlights.{number-few, OwnsBy-machine, entries-below, known-machine, space_within}
 use Rattle.pager_core.proofs.SpaceTurns.{Turns}
-use Rattle.pager_core.proofs.WholeTurns.{AreKeepers-of, MustWait-kept, none_waits, flies_in, Finds, finds, jobs_read, Goes-of, IsMachine-turned, IsLawful-turned, OneMore-turned}
+use Rattle.pager_core.proofs.WholeTurns.{AreKeepers-of, MustWait-kept, none_waits, flies_in, Finds, finds, Goes-of, IsMachine-turned, IsLawful-turned, OneMore-turned}
 use Rattle.pager_core.proofs.machine.Machine.turn_in.Given.{Over}
 use Rattle.pager_core.proofs.machine.Machine.turn_in.Goals as goal
 
@@ -172,7 +172,7 @@ parts g c =
     let i = c.self.inside in
     let run : Running = record {
       given = i.setting;
-      jobs = map (λ v. v.items) i.jobs.items;
+      jobs = i.jobs;
       flights = i.flights.items;
       history = i.history.items;
       unused = map g.S.Store.seen (reverse i.stores.items);
@@ -195,7 +195,7 @@ after g c =
     let i = c.self.inside in
     record {
       given = i.setting;
-      jobs = map (λ v. v.items) i.jobs.items;
+      jobs = i.jobs;
       flights = set i.flights.items c.args.actor c.going_on.result;
       history = c.push.new.self.items;
       unused = map g.S.Store.seen (reverse i.stores.items);
@@ -239,12 +239,7 @@ goes : (g : Over) (c : goal.After-self-3-1 g)
     → Goes (parts g c) (step g c) (set c.self.inside.spaces.items c.args.space c.next_entry-entry.new.space) c.going_on.result
 goes g c =
     let i = c.self.inside in
-    let jobs : length (parts g c).run.jobs ≡ length c.args.self.now.jobs = ap (λ (r : Running). length r.jobs) c.self.view_is in
-    let count = length-map i.jobs.items (λ v. v.items) in
     Goes-of (parts g c) (step g c) c.going_on.result c.args.space c.index_mut.result.now c.next_entry-entry.new.space (turns g c) (record {
-      jobs = c.as_slice.result.now;
-      own = c.as_slice.ensures.value ∙ jobs_read (λ v. v.items) i.jobs.items c.args.actor c.index-2.result.now
-          (omega (arith, jobs, count, c.requires.actor)) c.index-2.ensures;
       going = c.going_on.ensures.going;
       next = c.going_on.ensures.next;
     })

@@ -1,5 +1,5 @@
-use Rattle.std.proofs.Common.{◌≡◌, length, map, reverse, refl, ap, ◌∙◌, arith}
-use Rattle.std.proofs.Math.ListN.{set, length-map}
+use Rattle.std.proofs.Common.{◌≡◌, map, reverse, refl, ap, arith}
+use Rattle.std.proofs.Math.ListN.{set}
 use Rattle.pager_core.specs.Running.{Running}
 use Rattle.run_history.specs.Kept.{Kept}
 use Rattle.pager_laws.proofs.KeptLaws.{KeepsLaws-legal}
@@ -7,7 +7,7 @@ use Rattle.pager_laws.proofs.OrderedRefusals.{IsNeverShort-legal}
 use Rattle.pager_core.proofs.MachineTurns.{Goes, MachineParts, Step, run_after}
 use Rattle.pager_core.proofs.ReadyFlights.{number-few, needs-frames, OwnsBy-machine, entries-below, known-machine, room_on_frames}
 use Rattle.pager_core.proofs.FrameTurns.{TurnsOnFrames}
-use Rattle.pager_core.proofs.WholeTurns.{AreKeepers-of_frames, flies_in, jobs_read, Goes-of_frames, IsMachine-turned, IsLawful-turned, OneMore-turned}
+use Rattle.pager_core.proofs.WholeTurns.{AreKeepers-of_frames, flies_in, Goes-of_frames, IsMachine-turned, IsLawful-turned, OneMore-turned}
 use Rattle.pager_core.proofs.machine.Machine.turn_on_frames.Given.{Over}
 use Rattle.pager_core.proofs.machine.Machine.turn_on_frames.Goals as goal
 
@@ -65,7 +65,7 @@ parts g c =
     let i = c.self.inside in
     let run : Running = record {
       given = i.setting;
-      jobs = map (λ v. v.items) i.jobs.items;
+      jobs = i.jobs;
       flights = i.flights.items;
       history = i.history.items;
       unused = map g.S.Store.seen (reverse i.stores.items);
@@ -88,7 +88,7 @@ after g c =
     let i = c.self.inside in
     record {
       given = i.setting;
-      jobs = map (λ v. v.items) i.jobs.items;
+      jobs = i.jobs;
       flights = set i.flights.items c.args.actor c.going_on.result;
       history = c.push.new.self.items;
       unused = map g.S.Store.seen (reverse i.stores.items);
@@ -107,12 +107,7 @@ turns g c =
 goes : (g : Over) (c : goal.After-self-1 g) → Goes (parts g c) (step g c) c.self.inside.spaces.items c.going_on.result
 goes g c =
     let i = c.self.inside in
-    let jobs : length (parts g c).run.jobs ≡ length c.args.self.now.jobs = ap (λ (r : Running). length r.jobs) c.self.view_is in
-    let count = length-map i.jobs.items (λ v. v.items) in
     Goes-of_frames (parts g c) (step g c) c.going_on.result (turns g c) (record {
-      jobs = c.as_slice.result.now;
-      own = c.as_slice.ensures.value ∙ jobs_read (λ v. v.items) i.jobs.items c.args.actor c.index.result.now
-          (omega (arith, jobs, count, c.requires.actor)) c.index.ensures;
       going = c.going_on.ensures.going;
       next = c.going_on.ensures.next;
     })
