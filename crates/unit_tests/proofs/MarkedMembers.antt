@@ -1,13 +1,13 @@
 -- What the marks of frames say as a member goes in or out.
-use Rattle.std.proofs.Common.{◌≡◌, ◌<◌, ◌==◌, ℕ, zero, suc, Bool, true, false, List, get_or, set, length, not, inl, inr, refl, sym, ap, ◌∙◌, arith, true≢false}
+use Rattle.std.proofs.Common.{◌≡◌, ◌<◌, ◌==◌, ℕ, zero, suc, Bool, true, false, List, get_or, set, length, not, inl, inr, refl, sym, ap, subst, ◌∙◌, arith, true≢false}
 use Rattle.std.proofs.lemmas.Bool.{cases_eq, eqb-false, ne_eqb, not-true, or_from}
 use Rattle.std.proofs.lemmas.Grind.{get_or-set_at}
-use Rattle.std.proofs.lemmas.List.{get_or-set_other}
+use Rattle.std.proofs.lemmas.List.{get_or-set_other, length-set, set-set}
 use Rattle.std.proofs.lemmas.List.Elements.{All-filter, filter_passes}
 use Rattle.std.proofs.lemmas.List.Folds.{list_any_none}
 use Rattle.pager_model.specs.Ages.{Member, Lists, with_member, list_at, with_list}
 use Rattle.pager_model.proofs.AgeOrder.{All-with_member}
-use Rattle.reservation_lists.specs.Kept.{has_member_of, is_listed, no_members, without_member_of, without_frame}
+use Rattle.reservation_lists.specs.Kept.{KeptLists, has_member_of, is_listed, moved_to, no_members, without_member_of, without_frame}
 use Rattle.unit_tests.specs.Marks.{MembersMarked, AreMarked}
 
 no_member : (marks : List Bool) (frame : ℕ) (ms : List Member) → get_or marks frame false ≡ false → MembersMarked marks ms
@@ -85,3 +85,12 @@ marked_without marks frame lists are = record {
   small = members_without marks frame lists.small are.small;
   middle = members_without marks frame lists.middle are.middle;
 }
+
+-- a member was moved, wherever its frame had one before, and its frame got a mark
+pub marked_moved : (marks : List Bool) (kept : KeptLists) (size : ℕ) (new : Member) → new.frame < length marks → AreMarked marks kept.lists
+    → AreMarked (set marks new.frame true) (moved_to size new kept).lists
+marked_moved marks kept size new known are =
+    let out = set marks new.frame false in
+    let many = length-set marks new.frame false in
+    subst (λ ms. AreMarked ms (moved_to size new kept).lists) (set-set marks new.frame false true)
+    (marked_with_member out (without_frame new.frame kept.lists) size new (omega (arith, known, many)) (marked_without marks new.frame kept.lists are))

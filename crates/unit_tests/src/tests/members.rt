@@ -59,6 +59,24 @@ impl Marked {
         true
     }
 
+    /// Puts a member in its place, wherever its frame had one before.
+    fn move_to(&mut self, row: Row) -> bool {
+        if row.level >= 3 || row.frame >= DRAWN {
+            return false;
+        }
+        self.place(row.level, row.stamp, row.frame);
+        true
+    }
+
+    /// Puts a member in its place, wherever its frame, which is known, had one before.
+    fn place(&mut self, level: u8, stamp: u64, frame: u32)
+        requires level { level < 3 }
+        requires known { frame < 4096 }
+    {
+        self.lists.move_to(size(level), stamp, frame);
+        self.marks[frame as usize] = true;
+    }
+
     /// Takes the member of a frame out, where it has one.
     fn remove(&mut self, frame: u32) {
         if frame < DRAWN {
@@ -169,9 +187,9 @@ fn orders_its_members_as_a_plain_list_does(rt: HostRuntime) {
     assert!(rt; goes_alike(&mut both, 2_000).expect(&rt, NO_MEMORY));
 }
 
-/// Steps on new lists: `in` with a level, a stamp and a frame puts a member in, `out` with a frame takes one out, and `next` with a level
-/// takes the oldest out, which is that of the frame, or none.
-static STEPS: [&str; 7] = [
+/// Steps on new lists: `in` with a level, a stamp and a frame puts a member in, `to` with these moves it there, `out` with a frame takes one
+/// out, and `next` with a level takes the oldest out, which is that of the frame, or none.
+static STEPS: [&str; 10] = [
     // The oldest comes first, whatever the order of insertion.
     "in 0 30 2, in 0 10 8, in 0 40 0, in 0 20 63, next 0 8, next 0 63, next 0 2, next 0 0, next 0 -",
     // Of equal stamps the lowest frame comes first.
@@ -186,6 +204,12 @@ static STEPS: [&str; 7] = [
     "in 0 7 1, in 0 8 2, out 1, in 0 9 1, next 0 2, next 0 1, in 0 3 1, in 0 2 2, in 0 4 3, out 1, next 0 2, next 0 3, next 0 -",
     // Or in another list.
     "in 0 7 1, out 1, in 2 6 1, next 0 -, out 1, next 2 -, in 1 5 1, next 2 -, next 1 1, next 1 -",
+    // The last of a list that gets a later stamp stays behind the others, and is once in the list. It goes out by that stamp.
+    "in 0 7 1, in 0 8 2, to 0 9 2, in 0 8 3, next 0 1, next 0 3, next 0 2, next 0 -, in 0 7 1, to 0 9 1, out 1, next 0 -",
+    // One before the last goes behind it, and one that gets an earlier stamp before those that are younger.
+    "in 0 7 1, in 0 8 2, to 0 9 1, to 0 6 1, next 0 1, next 0 2, in 0 5 4, in 0 6 8, to 0 5 8, to 0 5 3, next 0 3, next 0 4, next 0 8",
+    // One goes from list to list, and one that stood in none comes in.
+    "in 0 7 1, to 2 7 1, next 0 -, to 1 7 1, next 2 -, next 1 1, to 1 3 5, next 1 5, next 1 -",
 ];
 
 impl Marked {
@@ -201,6 +225,13 @@ impl Marked {
         let [call, first, second, third, ..] = words(step);
         if call == "in" {
             return self.insert(Row {
+                level: level_of(first),
+                stamp: u64::from(count(second)),
+                frame: count(third),
+            });
+        }
+        if call == "to" {
+            return self.move_to(Row {
                 level: level_of(first),
                 stamp: u64::from(count(second)),
                 frame: count(third),
