@@ -87,11 +87,12 @@ impl Pool {
         requires processors { processors ≤ most_actors }
         ensures { IfOk result (λ pool. pool ≡ start_frames sizes frames processors) }
     {
+        // What has most to drop is made last, so that no way out drops it.
         Ok(Pool {
-            frames: every_frame(alloc, frames)?,
-            layout: Layout::create(alloc, frames, sizes)?,
-            used: UsedFrames::create(alloc, frames, processors)?,
             held: vec![in alloc; None; processors as usize]?,
+            frames: every_frame(alloc, frames)?,
+            used: UsedFrames::create(alloc, frames, processors)?,
+            layout: Layout::create(alloc, frames, sizes)?,
             entries: 0,
             preemptions: 0,
         })

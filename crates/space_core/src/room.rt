@@ -43,8 +43,8 @@ impl SpaceRoom {
         requires few { processors ≤ most_actors }
         ensures { IfOk result (λ room. room ≡ record { frames = frames; processors = processors; sizes = sizes }) }
     {
-        let table = PageTable::create(alloc, frames, sizes)?;
         let images = Images::create(alloc, processors)?;
+        let table = PageTable::create(alloc, frames, sizes)?;
         Ok(SpaceRoom { table, images })
     }
 

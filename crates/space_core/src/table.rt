@@ -62,12 +62,13 @@ impl PageTable {
         requires { frames ≤ most_frames }
         ensures { IfOk result (IsFresh frames sizes) }
     {
+        // What has most to drop is made last, so that no way out drops it.
         Ok(PageTable {
             sizes,
-            pages: Base::create(alloc, frames)?,
-            own: PageRights::create(alloc)?,
-            frames: empty_places(alloc, frames)?,
             copy: Box::new(alloc, [0; WORDS])?,
+            frames: empty_places(alloc, frames)?,
+            own: PageRights::create(alloc)?,
+            pages: Base::create(alloc, frames)?,
         })
     }
 

@@ -5,9 +5,9 @@ pub invariant_of-result : goal.invariant_of-result
 invariant_of-result c =
     fresh_paged _ c.args.frames
     (record {
-      count = c.in_ok-create.ensures.frames;
-      none = c.in_ok-create.ensures.none;
-      own = c.in_ok-create-2.ensures;
+      count = c.in_ok-create-2.ensures.frames;
+      none = c.in_ok-create-2.ensures.none;
+      own = c.in_ok-create.ensures;
       places = c.in_ok-empty_places.ensures;
     }) c.requires
 
@@ -15,8 +15,8 @@ pub returns : goal.returns
 returns c =
     fresh _ c.args.frames
     (record {
-      count = c.in_ok-create.ensures.frames;
-      none = c.in_ok-create.ensures.none;
-      own = c.in_ok-create-2.ensures;
+      count = c.in_ok-create-2.ensures.frames;
+      none = c.in_ok-create-2.ensures.none;
+      own = c.in_ok-create.ensures;
       places = c.in_ok-empty_places.ensures;
     })
