@@ -274,9 +274,7 @@ fn parts_of<'a, S: Store + Send + Drop>(
     let flights = first_of_each(alloc, &jobs, trace.actors())?;
     let spaces = trace.spaces();
     let keepers = no_keepers(alloc, spaces)?;
-    let marks = marks_of(alloc, trace)?;
-    let own = &stores[..spaces as usize];
-    let room = RunRoom::create(alloc, trace.frames(), trace.sizes(), marks.as_slice(), own)?;
+    let room = room_of(alloc, trace, stores)?;
     Ok(Parts {
         jobs,
         flights,
@@ -284,6 +282,24 @@ fn parts_of<'a, S: Store + Send + Drop>(
         history,
         room,
     })
+}
+
+/// The room of a run over these stores, of which those of its spaces are looked at.
+fn room_of<S: Store + Send + Drop>(
+    alloc: Global,
+    trace: &Trace,
+    stores: &[S],
+) -> Result<RunRoom<S>, NoMemory>
+    requires enough { trace.now.spaces ≤ length stores.now }
+    ensures setting { IfOk result (λ room. room.setting ≡ setting_over trace.now (map S.seen stores.now)) }
+    ensures spaces { IfOk result (λ room. AreRoomsOver room.setting (take trace.now.spaces (map S.seen stores.now)) room.spaces) }
+    ensures pool { IfOk result (λ room. room.pool ≡ start_frames trace.now.sizes trace.now.frames (actors trace.now)) }
+    ensures capped { IfOk result (λ _. AreCapped trace.now.spaces (map S.seen stores.now)) }
+{
+    let spaces = trace.spaces();
+    let marks = marks_of(alloc, trace)?;
+    let own = &stores[..spaces as usize];
+    RunRoom::create(alloc, trace.frames(), trace.sizes(), marks.as_slice(), own)
 }
 
 /// That no flight keeps one of so many spaces.

@@ -56,9 +56,9 @@ impl<S: Store + Send + Drop> RunRoom<S> {
     {
         let processors = marks.len() as u32;
         let spaces = stores.len() as u32;
-        let pool = Pool::create(alloc, frames, processors, sizes)?;
         let setting = setting_of(alloc, frames, sizes, marks, stores)?;
         let spaces = SpaceRooms::create(alloc, frames, processors, sizes, spaces)?;
+        let pool = Pool::create(alloc, frames, processors, sizes)?;
         Ok(RunRoom {
             setting,
             spaces,
@@ -161,6 +161,7 @@ impl<S: Store + Send + Drop> Gathered<S> {
     {
         let frames = pool.counts();
         let preemptions = pool.preempted();
+        drop(pool);
         let tiles = tiles_of(spaces.as_slice());
         let (promotions, demotions) = moves_of(spaces.as_slice());
         let accesses = history.accesses();
