@@ -68,6 +68,8 @@ impl<S: Store + Send + Drop> Prepared<S> {
             return Err(stores);
         };
         let Ok(opened) = create(alloc, room.setting, rooms) else {
+            drop(room.spaces);
+            drop(room.pool);
             return Err(stores);
         };
         let (spaces, stores) = room.spaces.over(stores);

@@ -49,7 +49,7 @@ invariant_of-result g c =
     let count = told g.S.Store.seen c.args.frames c.args.sizes c.args.marks.now c.args.stores.items _ is in
     let rooms : length c.in-Ok.room.spaces ≡ length c.args.stores.items = length-rooms _ _ _ over ∙ count in
     let same : length c.in-Ok-create.opened.journal.name.setting.told ≡ length c.in-Ok.room.setting.told =
-    ap (λ (given : Given). length given.told) opened.setting in
+    ap (λ (given : Given). length given.told) {y = c.in-Ok.room.setting} opened.setting in
     let long = as_long g.S.Store.seen c.args.stores.items c.over-spaces.result.1.items
     (length c.in-Ok.room.spaces) c.over-spaces.ensures.left (omega (arith, rooms)) in
     let new = c.over-spaces.ensures.new c.in-Ok.room.setting (over_first g.S.Store.seen c.args.stores.items _ _ rooms over) in
