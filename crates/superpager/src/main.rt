@@ -39,6 +39,18 @@ fn run_words<R: AllocGlobal + Env + Files<File = File> + Threads + Wait + Sync, 
     let arguments: Vec<String> = env::args(rt)?.skip(1).collect(alloc)?;
     let words: Vec<&str> = arguments.iter().map(|word| word.as_str()).collect(alloc)?;
     let (backing, words) = stores_of(words.as_slice());
+    run_with(rt, backing, words, source, sink)
+}
+
+/// Runs with these words over such stores, and answers the status and why no trace was run.
+fn run_with<R: AllocGlobal + Files<File = File> + Threads + Wait + Sync, T: Source, K: Sink>(
+    rt: &R,
+    backing: Backing<'_>,
+    words: &[&str],
+    source: &mut T,
+    sink: &mut K,
+) -> io::Result<(u8, Option<TraceFault>)> {
+    let alloc = rt.alloc();
     match backing {
         Backing::Memory => {
             let stores = memory_stores(alloc)?;
