@@ -3,7 +3,7 @@ ghost use Rattle.std.specs.Prelude.{◌≡◌, IfOk, length};
 
 use super::beside_daemons::{FIRST, SECOND};
 use super::lines::{assert_recorded, hash_of, report_of};
-use super::runs::assert_runs;
+use super::runs::{assert_runs, put_loads};
 use super::{put_lines, read_text};
 use pager_model::Trace;
 use replay_core::{Gathered, replay_file_order, replay_turns};
@@ -100,22 +100,24 @@ static BESIDE: [Beside; 4] = [
 ];
 
 /// How many pages are loaded.
-const PAGES: u64 = 520;
+const PAGES: u32 = 520;
 
-/// The text of the trace beside a daemon of this mark.
-fn text_of(alloc: Global, low: u32) -> Result<String, AllocError> {
+/// Adds the calls of both processors.
+fn put_calls(text: &mut String) -> Result<(), AllocError> {
+    put_lines(text, "0 map 0 0 520 fixed write; 1 store 0 0 7; 0 load 0 0")?;
+    put_loads(text, PAGES)?;
+    put_lines(text, "1 load 0 0; 1 evict 0 519; end")
+}
+
+/// The trace beside a daemon of this mark.
+fn trace_beside(alloc: Global, low: u32) -> Result<Trace, Fail> {
     let mut text = format!(in alloc; "trace 1 512 2 1\ndaemon {low} 2000\n")?;
-    put_lines(&mut text, "0 map 0 0 520 fixed write; 1 store 0 0 7")?;
-    for page in 0..PAGES {
-        let address = page * 8192;
-        text.push_str(format!(in alloc; "0 load 0 {address}\n")?.as_str())?;
-    }
-    put_lines(&mut text, "1 load 0 0; 1 evict 0 519; end")?;
-    Ok(text)
+    put_calls(&mut text)?;
+    read_text(alloc, text.as_str())
 }
 
 /// A store in memory for each space.
-fn stores_of(alloc: Global, spaces: u32) -> Result<Vec<MemoryStore>, AllocError>
+pub(super) fn stores_of(alloc: Global, spaces: u32) -> Result<Vec<MemoryStore>, AllocError>
     ensures { IfOk result (λ stores. length stores.items ≡ spaces) }
 {
     let mut stores = Vec::new(alloc);
@@ -135,13 +137,17 @@ fn run(alloc: Global, trace: &Trace, seed: Option<u64>) -> Result<Gathered<Memor
     ran.map_err(|_| Fail::from("no memory for the machine"))
 }
 
-/// Asserts that a run has the recorded history and counts.
-fn assert_beside(rt: &impl Abort, alloc: Global, beside: &Beside) -> Result<(), Fail> {
-    let text = text_of(alloc, beside.low)?;
-    let trace = read_text(alloc, text.as_str())?;
+/// The report of a run, which is asserted to have as many entries as are recorded.
+fn report_beside(rt: &impl Abort, alloc: Global, beside: &Beside) -> Result<String, Fail> {
+    let trace = trace_beside(alloc, beside.low)?;
     let gathered = run(alloc, &trace, beside.seed)?;
     assert_eq!(rt; gathered.history.len(), beside.entries);
-    let report = report_of(alloc, &gathered.history, &gathered.summary)?;
+    report_of(alloc, &gathered.history, &gathered.summary)
+}
+
+/// Asserts that a run has the recorded history and counts.
+fn assert_beside(rt: &impl Abort, alloc: Global, beside: &Beside) -> Result<(), Fail> {
+    let report = report_beside(rt, alloc, beside)?;
     let mut lines = report.lines();
     assert_eq!(rt;
         hash_of(&mut lines, beside.entries),

@@ -20,7 +20,12 @@ pub(super) fn report_of(
     let room = Vec::with_capacity(alloc, MOST_BYTES)?;
     let mut sink = MemorySink::of(room, MOST_BYTES, Vec::new(alloc));
     write_report(&mut sink, 0, history, summary, Parts::AnswersAndHistory)?;
-    Ok(String::from_utf8(sink.bytes().to_vec(alloc)?)?)
+    text_of(alloc, sink.bytes())
+}
+
+/// The text of these bytes.
+fn text_of(alloc: Global, bytes: &[u8]) -> Result<String, Fail> {
+    Ok(String::from_utf8(bytes.to_vec(alloc)?)?)
 }
 
 /// The line of an entry without its number; any other line as it is.
@@ -47,11 +52,15 @@ pub(super) fn hash_of(lines: &mut Lines<'_>, count: usize) -> u64 {
     hash
 }
 
+/// Asserts that a line is the recorded one.
+fn assert_line(rt: &impl Abort, line: &str, wanted: &str) {
+    assert_eq!(rt; unnumbered(line), wanted, "{line}");
+}
+
 /// Asserts that the next lines are the recorded ones.
 fn assert_lines(rt: &impl Abort, lines: &mut Lines<'_>, recorded: &str) {
     for wanted in recorded.split_terminator("; ") {
-        let line = lines.next().unwrap_or("");
-        assert_eq!(rt; unnumbered(line), wanted, "{line}");
+        assert_line(rt, lines.next().unwrap_or(""), wanted);
     }
 }
 

@@ -74,31 +74,35 @@ fn one_store(alloc: Global) -> Result<Vec<Silent>, NoMemory>
     Ok(stores)
 }
 
-/// Runs a trace of one space in turns that are drawn from the seed.
-fn drawn(alloc: Global, trace: &Trace, seed: u64) -> Result<Gathered<Silent>, NoMemory>
-    requires { trace.now.spaces ≡ 1 }
-{
-    replay_turns(alloc, trace, one_store(alloc)?, seed).map_err(|_| NoMemory)
+/// The history of a run.
+fn history_of(ran: Result<Gathered<Silent>, Vec<Silent>>) -> Result<History, NoMemory> {
+    match ran {
+        Ok(gathered) => Ok(gathered.history),
+        Err(_) => Err(NoMemory),
+    }
 }
 
-/// Runs a trace of two processors and one space in the turns of a schedule.
-fn scheduled(alloc: Global, trace: &Trace, schedule: &[u32]) -> Result<Gathered<Silent>, NoMemory>
+/// The history of a trace of one space in turns that are drawn from the seed.
+fn drawn(alloc: Global, trace: &Trace, seed: u64) -> Result<History, NoMemory>
+    requires { trace.now.spaces ≡ 1 }
+{
+    history_of(replay_turns(alloc, trace, one_store(alloc)?, seed))
+}
+
+/// The history of a trace of two processors and one space in the turns of a schedule.
+fn scheduled(alloc: Global, trace: &Trace, schedule: &[u32]) -> Result<History, NoMemory>
     requires actors { actors trace.now ≡ 2 }
     requires spaces { trace.now.spaces ≡ 1 }
     requires known { All (λ n. n < 2) schedule.now }
 {
-    replay_schedule(alloc, trace, one_store(alloc)?, schedule).map_err(|_| NoMemory)
+    history_of(replay_schedule(alloc, trace, one_store(alloc)?, schedule))
 }
 
 /// Asserts that these processors made the entries, in this order.
-fn made_by(rt: &impl Abort, gathered: &Gathered<Silent>, processors: &[u32]) {
-    assert_eq!(rt; gathered.history.len(), processors.len());
+fn made_by(rt: &impl Abort, history: &History, processors: &[u32]) {
+    assert_eq!(rt; history.len(), processors.len());
     for (place, processor) in processors.iter().enumerate() {
-        assert_eq!(rt;
-            maker(&gathered.history, place),
-            Some(*processor),
-            "entry {place}"
-        );
+        assert_eq!(rt; maker(history, place), Some(*processor), "entry {place}");
     }
 }
 
@@ -127,8 +131,8 @@ fn the_generator_draws_the_numbers_of_mmix(rt: HostRuntime) {
 fn the_lines_are_made_in_their_order(rt: HostRuntime) -> Result<(), Fail> {
     let trace = two_processors(rt.alloc())?;
     let stores = one_store(rt.alloc())?;
-    let gathered = replay_file_order(rt.alloc(), &trace, stores).map_err(|_| NoMemory)?;
-    made_by(&rt, &gathered, &[0, 1, 1, 0]);
+    let history = history_of(replay_file_order(rt.alloc(), &trace, stores))?;
+    made_by(&rt, &history, &[0, 1, 1, 0]);
     Ok(())
 }
 
@@ -151,8 +155,8 @@ fn the_same_seed_gives_the_same_history(rt: HostRuntime) -> Result<(), Fail> {
     let first = drawn(rt.alloc(), &trace, 5)?;
     let again = drawn(rt.alloc(), &trace, 5)?;
     let other = drawn(rt.alloc(), &trace, 6)?;
-    assert!(rt; are_same(&first.history, &again.history));
-    assert!(rt; !are_same(&first.history, &other.history));
+    assert!(rt; are_same(&first, &again));
+    assert!(rt; !are_same(&first, &other));
     Ok(())
 }
 

@@ -12,6 +12,7 @@ use super::{put_lines, read_text};
 use pager_model::Trace;
 use replay_core::replay_schedule;
 use std::alloc::{AllocError, Global};
+use std::fmt::Write;
 use std::process::Abort;
 use std::str::Lines;
 use std::test::Fail;
@@ -107,23 +108,28 @@ pub(super) fn read_run(text: &str) -> Run<'_> {
 }
 
 /// Adds a load of each page behind the first one.
-fn put_loads(alloc: Global, text: &mut String, pages: u32) -> Result<(), AllocError> {
+pub(super) fn put_loads(text: &mut String, pages: u32) -> Result<(), AllocError> {
     for page in 1..pages {
         let address = u64::from(page) * 8192;
-        text.push_str(format!(in alloc; "0 load 0 {address}\n")?.as_str())?;
+        writeln!(text, "0 load 0 {address}")?;
     }
     Ok(())
 }
 
-/// The text of a run's trace.
-fn text_of(alloc: Global, run: &Run<'_>, fill: &Fill<'_>) -> Result<String, AllocError> {
+/// Adds the lines of a run's trace.
+fn put_run(text: &mut String, run: &Run<'_>, fill: &Fill<'_>) -> Result<(), AllocError> {
+    put_lines(text, run.head)?;
+    put_lines(text, fill.calls)?;
+    put_loads(text, fill.pages)?;
+    put_lines(text, run.calls)?;
+    put_lines(text, "end")
+}
+
+/// The trace of a run.
+fn trace_of(alloc: Global, run: &Run<'_>, fill: &Fill<'_>) -> Result<Trace, Fail> {
     let mut text = String::new(alloc);
-    put_lines(&mut text, run.head)?;
-    put_lines(&mut text, fill.calls)?;
-    put_loads(alloc, &mut text, fill.pages)?;
-    put_lines(&mut text, run.calls)?;
-    put_lines(&mut text, "end")?;
-    Ok(text)
+    put_run(&mut text, run, fill)?;
+    read_text(alloc, text.as_str())
 }
 
 /// The turns of a run: so many of processor 0, and those that the digits name.
@@ -199,18 +205,30 @@ fn report_over<S: Store + Send + Drop>(
     }
 }
 
-/// The report of a run.
-fn report_of_run(alloc: Global, run: &Run<'_>, fill: &Fill<'_>) -> Result<String, Fail> {
-    let text = text_of(alloc, run, fill)?;
-    let trace = read_text(alloc, text.as_str())?;
+/// The report of a run in these turns.
+fn report_in_turns(
+    alloc: Global,
+    run: &Run<'_>,
+    fill: &Fill<'_>,
+    trace: &Trace,
+    turns: &[u32],
+) -> Result<String, Fail>
+    requires known { All (λ c. c < actors trace.now) turns.now }
+{
     let spaces = trace.spaces();
-    let turns = turns_of(alloc, fill.entries, run.turns, trace.actors())?;
     if run.writes == "full" {
-        report_over(alloc, &trace, full_stores(alloc, spaces)?, &turns)
+        report_over(alloc, trace, full_stores(alloc, spaces)?, turns)
     } else {
         let stores = stores_of(alloc, run, fill.pages, spaces)?;
-        report_over(alloc, &trace, stores, &turns)
+        report_over(alloc, trace, stores, turns)
     }
+}
+
+/// The report of a run.
+fn report_of_run(alloc: Global, run: &Run<'_>, fill: &Fill<'_>) -> Result<String, Fail> {
+    let trace = trace_of(alloc, run, fill)?;
+    let turns = turns_of(alloc, fill.entries, run.turns, trace.actors())?;
+    report_in_turns(alloc, run, fill, &trace, &turns)
 }
 
 /// Asserts that a run's report has the recorded history and counts.

@@ -3,12 +3,14 @@
 ghost use Rattle.std.specs.Prelude.{◌≡◌, ◌<◌, IfOk, length};
 ghost use Rattle.pager_model.specs.Showing.{actors};
 
+use super::daemons::stores_of;
 use super::lines::{assert_recorded, report_of};
 use super::recorded::{COUNTS, HISTORY, TRACE};
 use super::trace_of;
-use pager_core::{Machine, Turn};
+use pager_core::{Gathered, Machine, Turn};
 use pager_model::Trace;
 use std::alloc::Global;
+use std::process::Abort;
 use std::test::Fail;
 use store_core::MemoryStore;
 
@@ -29,10 +31,7 @@ struct Counts {
 fn machine_of(alloc: Global, trace: &Trace) -> Result<Machine<'_, MemoryStore>, Fail>
     ensures { IfOk result (λ m. length m.jobs ≡ actors trace.now) }
 {
-    let mut stores = Vec::new(alloc);
-    stores.resize_with(trace.spaces() as usize, || {
-        MemoryStore::of(alloc, Vec::new(alloc), Vec::new(alloc))
-    })?;
+    let stores = stores_of(alloc, trace.spaces())?;
     match Machine::create(alloc, trace, stores) {
         Ok(machine) => Ok(machine),
         Err(_) => Err(Fail::from("no memory for the machine")),
@@ -71,13 +70,15 @@ fn take_turns(machine: &mut Machine<'_, MemoryStore>, actors: u32, turns: u32) -
     counts
 }
 
-#[test]
-fn turns_in_any_order_make_the_recorded_history(rt: HostRuntime) -> Result<(), Fail> {
-    let alloc = rt.alloc();
-    let trace = trace_of(alloc, TRACE)?;
-    let actors = trace.actors();
-    assert_eq!(rt; actors, 4);
-    let mut machine = machine_of(alloc, &trace)?;
+/// Takes all turns, and asserts what they answered and that the machine has ended.
+fn end_of(
+    rt: &impl Abort,
+    mut machine: Machine<'_, MemoryStore>,
+    actors: u32,
+) -> Gathered<MemoryStore>
+    requires known { length machine.jobs ≡ actors }
+    requires some { 0 < actors }
+{
     let counts = take_turns(&mut machine, actors, TURNS);
     let wanted = Counts {
         stepped: 1_461,
@@ -86,8 +87,23 @@ fn turns_in_any_order_make_the_recorded_history(rt: HostRuntime) -> Result<(), F
     };
     assert_eq!(rt; counts, wanted);
     assert!(rt; machine.ended());
-    let gathered = machine.finish();
-    let report = report_of(alloc, &gathered.history, &gathered.summary)?;
+    machine.finish()
+}
+
+/// The report of the machine's end.
+fn report_at_end(rt: &impl Abort, alloc: Global, trace: &Trace) -> Result<String, Fail>
+    requires { 0 < actors trace.now }
+{
+    let machine = machine_of(alloc, trace)?;
+    let gathered = end_of(rt, machine, trace.actors());
+    report_of(alloc, &gathered.history, &gathered.summary)
+}
+
+#[test]
+fn turns_in_any_order_make_the_recorded_history(rt: HostRuntime) -> Result<(), Fail> {
+    let trace = trace_of(rt.alloc(), TRACE)?;
+    assert_eq!(rt; trace.actors(), 4);
+    let report = report_at_end(&rt, rt.alloc(), &trace)?;
     assert_recorded(&rt, report.lines(), HISTORY, COUNTS);
     Ok(())
 }
