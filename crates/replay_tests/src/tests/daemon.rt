@@ -71,7 +71,9 @@ fn turn_when_full<N: Named, R: Wait>(rt: &R, prepared: Prepared<MemoryStore>) ->
         unreachable!()
     };
     load_all(rt, &pager, caller);
-    turn(&pager, rt, daemon, LOW).0
+    let (turned, _) = turn(&pager, rt, daemon, LOW);
+    drop(pager);
+    turned
 }
 
 /// The same over a pager of its own.

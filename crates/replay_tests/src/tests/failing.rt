@@ -3,9 +3,10 @@
 ghost use Rattle.std.specs.Prelude.{◌^◌, ◌<◌};
 
 use super::printed::{read_text, run_threads};
-use pager_model::{Generator, Numbered, Reply, What};
+use pager_model::{Generator, Numbered, Reply, Trace, What};
 use run_history::History;
 use std::alloc::{AllocError, Global};
+use std::fmt::Write;
 use std::process::Abort;
 use std::sync::Wait;
 use std::test::Fail;
@@ -68,63 +69,63 @@ fn page_of(owner: u32, page: u32) -> u64
 }
 
 /// Adds the lines by which a processor maps its region and touches each page: eight by a store, the next eight by a load, and so on.
-fn put_region(
-    alloc: Global,
-    text: &mut String,
-    shape: Shape,
-    processor: u32,
-) -> Result<(), AllocError> {
+fn put_region(text: &mut String, shape: Shape, processor: u32) -> Result<(), AllocError> {
     let (c, space, pages) = (processor, processor % shape.spaces, shape.pages);
     let first = page_of(c, 0);
-    text.push_str(format!(in alloc; "{c} map {space} {first} {pages} fixed write\n")?.as_str())?;
+    writeln!(text, "{c} map {space} {first} {pages} fixed write")?;
     for page in 0..pages {
         let address = page_of(c, page) * 8192;
-        let line = if page / 8 % 2 == 0 {
-            format!(in alloc; "{c} store {space} {address} {page}\n")?
+        if page / 8 % 2 == 0 {
+            writeln!(text, "{c} store {space} {address} {page}")?;
         } else {
-            format!(in alloc; "{c} load {space} {address}\n")?
-        };
-        text.push_str(line.as_str())?;
+            writeln!(text, "{c} load {space} {address}")?;
+        }
     }
     Ok(())
 }
 
 /// Adds a drawn call to a page of some processor's region.
-fn put_call(
-    alloc: Global,
-    text: &mut String,
-    shape: Shape,
-    random: &mut Generator,
-) -> Result<(), AllocError> {
+fn put_call(text: &mut String, shape: Shape, random: &mut Generator) -> Result<(), AllocError> {
     let c = random.draw(shape.processors);
     let owner = random.draw(shape.processors);
     let space = owner % shape.spaces;
     let page = page_of(owner, random.draw(shape.pages));
     let address = page * 8192;
-    let line = match random.draw(8) {
-        0..3 => format!(in alloc; "{c} store {space} {address} {page}\n")?,
-        3..6 => format!(in alloc; "{c} load {space} {address}\n")?,
-        6 => format!(in alloc; "{c} sync {space} {page}\n")?,
-        _ => format!(in alloc; "{c} evict {space} {page}\n")?,
-    };
-    text.push_str(line.as_str())
+    match random.draw(8) {
+        0..3 => writeln!(text, "{c} store {space} {address} {page}"),
+        3..6 => writeln!(text, "{c} load {space} {address}"),
+        6 => writeln!(text, "{c} sync {space} {page}"),
+        _ => writeln!(text, "{c} evict {space} {page}"),
+    }
 }
 
-/// The text of a drawn trace.
-fn draw_text(alloc: Global, shape: Shape, random: &mut Generator) -> Result<String, AllocError> {
+/// Adds the first lines: those of the shape, and the regions of its processors.
+fn put_shape(text: &mut String, shape: Shape) -> Result<(), AllocError> {
     let (processors, spaces) = (shape.processors, shape.spaces);
-    let mut text = format!(in alloc; "trace 1 512 {processors} {spaces}\n")?;
+    writeln!(text, "trace 1 512 {processors} {spaces}")?;
     if shape.daemon {
-        text.push_str(format!(in alloc; "daemon {LOW} {TURNS}\n")?.as_str())?;
+        writeln!(text, "daemon {LOW} {TURNS}")?;
     }
     for processor in 0..processors {
-        put_region(alloc, &mut text, shape, processor)?;
+        put_region(text, shape, processor)?;
     }
+    Ok(())
+}
+
+/// Adds the lines of a drawn trace.
+fn put_trace(text: &mut String, shape: Shape, random: &mut Generator) -> Result<(), AllocError> {
+    put_shape(text, shape)?;
     for _ in 0..CALLS {
-        put_call(alloc, &mut text, shape, random)?;
+        put_call(text, shape, random)?;
     }
-    text.push_str("end\n")?;
-    Ok(text)
+    text.push_str("end\n")
+}
+
+/// A drawn trace.
+fn draw_trace(alloc: Global, shape: Shape, random: &mut Generator) -> Result<Trace, Fail> {
+    let mut text = String::new(alloc);
+    put_trace(&mut text, shape, random)?;
+    read_text(alloc, text.as_str())
 }
 
 /// The first numbers, up to this one, and twenty drawn ones behind them.
@@ -247,9 +248,8 @@ fn run_drawn<R: Abort + Threads + Wait + Sync>(
 ) -> Result<(History, Shape), Fail> {
     let mut random = Generator::of(seed);
     let shape = draw_shape(&mut random, daemon);
-    let text = draw_text(alloc, shape, &mut random)?;
+    let trace = draw_trace(alloc, shape, &mut random)?;
     let stores = draw_stores(alloc, shape.spaces, &mut random)?;
-    let trace = read_text(alloc, text.as_str())?;
     let gathered = run_threads(rt, alloc, &trace, stores)?;
     Ok((gathered.history, shape))
 }

@@ -1,6 +1,7 @@
 //! Runs whose answers and counts are the same in every order of the threads' steps.
 use super::printed::{memory_stores, printed};
 use std::alloc::{AllocError, Global};
+use std::fmt::Write;
 use std::process::Abort;
 use std::sync::Wait;
 use std::test::Fail;
@@ -87,18 +88,16 @@ const ORDINARY_USE_END: &str = "\
     frames 3048 21 5123\n\
     end\n";
 
-/// A trace of two processors on one space. The first maps ten superpages of 4 MiB and stores to each page, and loads a word of the first;
-/// the second has a stack of sixteen pages with a guard page, which grows.
-fn ordinary_use(alloc: Global) -> Result<String, AllocError> {
-    let mut text = String::new(alloc);
+/// Adds a trace of two processors on one space. The first maps ten superpages of 4 MiB and stores to each page, and loads a word of the
+/// first; the second has a stack of sixteen pages with a guard page, which grows.
+fn put_ordinary_use(text: &mut String) -> Result<(), AllocError> {
     text.push_str("trace 1 8192 2 1\n0 map 0 0 5120 fixed write\n")?;
     for page in 0..u64::from(PAGES) {
         let (address, word) = (page * 8192, page + 1);
-        text.push_str(format!(in alloc; "0 store 0 {address} {word}\n")?.as_str())?;
+        writeln!(text, "0 store 0 {address} {word}")?;
     }
     text.push_str("0 load 0 0\n")?;
-    text.push_str(SECOND_PROCESSOR)?;
-    Ok(text)
+    text.push_str(SECOND_PROCESSOR)
 }
 
 /// The size of the translation of the last of so many pages that were stored to, from the first on.
@@ -112,16 +111,14 @@ fn size_of_last(pages: u32) -> u32 {
     }
 }
 
-/// What it prints.
-fn ordinary_use_text(alloc: Global) -> Result<String, AllocError> {
-    let mut text = String::new(alloc);
+/// Adds what it prints.
+fn put_ordinary_use_text(text: &mut String) -> Result<(), AllocError> {
     text.push_str("0 0 done\n")?;
     for pages in 1..=PAGES {
         let size = size_of_last(pages);
-        text.push_str(format!(in alloc; "0 {pages} done miss {size}\n")?.as_str())?;
+        writeln!(text, "0 {pages} done miss {size}")?;
     }
-    text.push_str(ORDINARY_USE_END)?;
-    Ok(text)
+    text.push_str(ORDINARY_USE_END)
 }
 
 /// Asserts that a trace of one space prints this text, each time that it is run.
@@ -155,7 +152,9 @@ fn a_daemon_that_rests_changes_nothing(rt: HostRuntime) -> Result<(), Fail> {
 
 #[test]
 fn a_table_of_superpages_and_a_stack_are_used_side_by_side(rt: HostRuntime) -> Result<(), Fail> {
-    let trace = ordinary_use(rt.alloc())?;
-    let wanted = ordinary_use_text(rt.alloc())?;
+    let mut trace = String::new(rt.alloc());
+    put_ordinary_use(&mut trace)?;
+    let mut wanted = String::new(rt.alloc());
+    put_ordinary_use_text(&mut wanted)?;
     prints(&rt, rt.alloc(), trace.as_str(), wanted.as_str())
 }

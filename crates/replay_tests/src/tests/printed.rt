@@ -2,9 +2,10 @@
 ghost use Rattle.std.specs.Prelude.{◌≡◌, IfOk, length};
 
 use io_core::{MemorySink, MemorySource};
-use pager_model::Trace;
+use pager_model::{Summary, Trace};
 use replay_core::{Gathered, replay};
 use report_text::{Parts, write_report};
+use run_history::History;
 use std::alloc::{AllocError, Global};
 use std::sync::Wait;
 use std::test::Fail;
@@ -49,6 +50,24 @@ pub(super) fn run_threads<S: Store + Send + Drop, R: Threads + Wait + Sync>(
     }
 }
 
+/// The text of these bytes.
+fn text_of(alloc: Global, bytes: &[u8]) -> Result<String, Fail> {
+    Ok(String::from_utf8(bytes.to_vec(alloc)?)?)
+}
+
+/// The answers of so many processors, and the counts.
+fn answers_of(
+    alloc: Global,
+    processors: u32,
+    history: &History,
+    summary: &Summary,
+) -> Result<String, Fail> {
+    let room = Vec::with_capacity(alloc, MOST_BYTES)?;
+    let mut sink = MemorySink::of(room, MOST_BYTES, Vec::new(alloc));
+    write_report(&mut sink, processors, history, summary, Parts::Answers)?;
+    text_of(alloc, sink.bytes())
+}
+
 /// What a run of a trace's text in threads prints without its history.
 pub(super) fn printed<S: Store + Send + Drop, R: Threads + Wait + Sync>(
     rt: &R,
@@ -58,14 +77,10 @@ pub(super) fn printed<S: Store + Send + Drop, R: Threads + Wait + Sync>(
 ) -> Result<String, Fail> {
     let trace = read_text(alloc, text)?;
     let gathered = run_threads(rt, alloc, &trace, stores)?;
-    let room = Vec::with_capacity(alloc, MOST_BYTES)?;
-    let mut sink = MemorySink::of(room, MOST_BYTES, Vec::new(alloc));
-    write_report(
-        &mut sink,
+    answers_of(
+        alloc,
         trace.processors(),
         &gathered.history,
         &gathered.summary,
-        Parts::Answers,
-    )?;
-    Ok(String::from_utf8(sink.bytes().to_vec(alloc)?)?)
+    )
 }
