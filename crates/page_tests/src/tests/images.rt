@@ -1,8 +1,8 @@
 //! The processors' images, by what hits.
-ghost use Rattle.std.specs.Prelude.{◌≡◌, ◌<◌, ◌≤◌, length, IfOk};
+ghost use Rattle.std.specs.Prelude.{◌≡◌, ◌<◌, ◌≤◌, length};
 
 use super::{NO_MEMORY, size};
-use pager_model::{Extent, NoMemory, PageRange, Rights, Tile};
+use pager_model::{Extent, PageRange, Rights, Tile};
 use std::alloc::Global;
 use std::process::Abort;
 use tlb_images::Images;
@@ -41,14 +41,14 @@ fn count_hits_from(images: &mut Images, processor: u32, first: u32, end: u32) ->
 }
 
 /// The images of so many processors, of which the first has the tiles of so many pages, the last one used last.
-fn images_of(alloc: Global, processors: u32, pages: u32) -> Result<Images, NoMemory>
+fn images_of(rt: &impl Abort, alloc: Global, processors: u32, pages: u32) -> Images
     requires some { 0 < processors }
     requires few { processors ≤ 17 }
-    ensures { IfOk result (λ images. length images ≡ processors) }
+    ensures { length result ≡ processors }
 {
-    let mut images = Images::create(alloc, processors)?;
+    let mut images = Images::create(alloc, processors).expect(rt, NO_MEMORY);
     count_hits_from(&mut images, 0, 0, pages);
-    Ok(images)
+    images
 }
 
 /// How many of these pages hit, one after another.
@@ -101,7 +101,7 @@ fn replaces_five(images: &mut Images) -> bool
 
 #[test]
 fn a_use_makes_a_tile_the_youngest(rt: HostRuntime) {
-    let mut images = images_of(rt.alloc(), 1, 128).expect(&rt, NO_MEMORY);
+    let mut images = images_of(&rt, rt.alloc(), 1, 128);
     assert!(rt; count_hits(&mut images, 0, &[0, 127, 64, 2, 64]) == 5);
     assert!(rt; replaces_five(&mut images));
     assert!(rt; count_hits(&mut images, 0, &[64, 2, 127, 0, 7, 126, 204, 200]) == 8);
@@ -116,7 +116,7 @@ fn keep_clean_below(images: &mut Images, page: u32)
 
 #[test]
 fn what_passes_the_test_is_kept(rt: HostRuntime) {
-    let mut images = images_of(rt.alloc(), 1, 10).expect(&rt, NO_MEMORY);
+    let mut images = images_of(&rt, rt.alloc(), 1, 10);
     keep_clean_below(&mut images, 7);
     assert!(rt;
         count_before(&images, 0, 10) == 4 && count_hits(&mut images, 0, &[0, 2, 4, 6]) == 4
@@ -139,13 +139,13 @@ fn eight_pages() -> Tile {
 }
 
 /// An image of the pages 0 to 7 and 16 to 23, each by itself, and of one tile of the eight between them.
-fn images_round_eight(alloc: Global) -> Result<Images, NoMemory>
-    ensures { IfOk result (λ images. length images ≡ 1) }
+fn images_round_eight(rt: &impl Abort, alloc: Global) -> Images
+    ensures { length result ≡ 1 }
 {
-    let mut images = images_of(alloc, 1, 8)?;
+    let mut images = images_of(rt, alloc, 1, 8);
     images.touch(0, eight_pages());
     count_hits_from(&mut images, 0, 16, 24);
-    Ok(images)
+    images
 }
 
 /// Keeps of the tiles that begin in a range those that aren't dirty.
@@ -187,7 +187,7 @@ fn keeps_by_ranges(images: &mut Images, pages: &[u32], rows: &[Kept]) -> bool
 
 #[test]
 fn what_begins_in_a_range_and_fails_the_test_goes(rt: HostRuntime) {
-    let mut images = images_round_eight(rt.alloc()).expect(&rt, NO_MEMORY);
+    let mut images = images_round_eight(&rt, rt.alloc());
     assert!(rt; keeps_by_ranges(&mut images, &SINGLES, &RANGES));
     assert!(rt; count_hits(&mut images, 0, &[0, 2, 4, 6, 16, 18, 20, 22]) == 8);
 }
@@ -208,7 +208,7 @@ static REMAINDERS: [Kept; 7] = [
 
 #[test]
 fn pages_with_one_remainder_are_told_apart(rt: HostRuntime) {
-    let mut images = images_of(rt.alloc(), 1, 0).expect(&rt, NO_MEMORY);
+    let mut images = images_of(&rt, rt.alloc(), 1, 0);
     assert!(rt;
         count_hits(&mut images, 0, &ALIKE) == 0 && count_in(&images, 0, &[65541, 98303]) == 0
     );
@@ -249,7 +249,7 @@ fn loses_one_page(images: &mut Images) -> bool
 
 #[test]
 fn each_processor_has_its_own_image(rt: HostRuntime) {
-    let mut images = images_of(rt.alloc(), 3, 0).expect(&rt, NO_MEMORY);
+    let mut images = images_of(&rt, rt.alloc(), 3, 0);
     assert!(rt; finds_its_own(&mut images) && loses_one_page(&mut images));
     keep_clean_below(&mut images, 8);
     assert!(rt; count_before(&images, 0, 10) == 0 && count_before(&images, 1, 10) == 0);
@@ -257,7 +257,7 @@ fn each_processor_has_its_own_image(rt: HostRuntime) {
 
 #[test]
 fn a_tile_hits_from_its_second_use_on(rt: HostRuntime) {
-    let mut images = images_of(rt.alloc(), 1, 0).expect(&rt, NO_MEMORY);
+    let mut images = images_of(&rt, rt.alloc(), 1, 0);
     assert!(rt; count_in(&images, 0, &[5]) == 0 && !hits(&mut images, 0, 5));
     assert!(rt; count_hits(&mut images, 0, &[5, 5]) == 2 && count_before(&images, 0, 10) == 1);
 }
@@ -309,7 +309,7 @@ fn count_hits_of_others(images: &mut Images, tile: Tile) -> usize
 
 #[test]
 fn a_tile_hits_as_a_whole(rt: HostRuntime) {
-    let mut images = images_of(rt.alloc(), 1, 8).expect(&rt, NO_MEMORY);
+    let mut images = images_of(&rt, rt.alloc(), 1, 8);
     assert!(rt; count_in(&images, 0, &[0, 3]) == 2 && count_others(&images, page_tile(0)) == 0);
     assert!(rt;
         count_hits_of_others(&mut images, page_tile(0)) == 0
@@ -333,7 +333,7 @@ fn lacks_the_oldest(images: &mut Images) -> bool
 
 #[test]
 fn the_129th_tile_replaces_the_oldest(rt: HostRuntime) {
-    let mut images = images_of(rt.alloc(), 2, 128).expect(&rt, NO_MEMORY);
+    let mut images = images_of(&rt, rt.alloc(), 2, 128);
     assert!(rt; !hits(&mut images, 1, 0) && !hits(&mut images, 0, 128));
     assert!(rt; lacks_the_oldest(&mut images));
     assert!(rt; count_before(&images, 0, 130) == 128 && count_before(&images, 1, 130) == 1);

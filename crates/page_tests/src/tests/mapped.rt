@@ -88,14 +88,27 @@ impl Beside {
         *self.list.get(page as usize)?
     }
 
-    /// Gives an extent's pages these entries in the list.
-    fn note<F: Fn(u32) -> Option<Entry>>(&mut self, extent: &Extent, given: F)
-        requires { F.IsAlwaysCallable given }
-    {
+    /// Gives a page this entry in the list, or none.
+    fn set(&mut self, page: u32, entry: &Option<Entry>) {
+        if let Some(at) = self.list.get_mut(page as usize) {
+            *at = *entry;
+        }
+    }
+
+    /// Gives an extent's pages this entry in the list, or none.
+    fn note(&mut self, extent: Extent, entry: &Option<Entry>) {
         for page in extent.first..extent.first.wrapping_add(extent.size.pages()) {
-            if let Some(at) = self.list.get_mut(page as usize) {
-                *at = given(page);
-            }
+            self.set(page, entry);
+        }
+    }
+
+    /// Gives the pages of an entry its parts in the list.
+    fn note_parts(&mut self, whole: &Entry)
+        requires { 0 < whole.now.extent.size }
+    {
+        let extent = &whole.extent;
+        for page in extent.first..extent.first.wrapping_add(extent.size.pages()) {
+            self.set(page, &Some(part(whole, page)));
         }
     }
 
@@ -110,7 +123,7 @@ impl Beside {
         if pages <= FRAMES - self.mapped && self.map.next(first, first + pages, steps).is_none() {
             self.map.put(&entry, steps);
             self.mapped += pages;
-            self.note(&entry.extent, |_| Some(entry));
+            self.note(entry.extent, &Some(entry));
         }
     }
 
@@ -129,7 +142,7 @@ impl Beside {
             let mapping = mapping(kind, before.extent.first);
             let entry = Entry { mapping, ..before };
             self.map.replace(&entry, steps);
-            self.note(&entry.extent, |_| Some(entry));
+            self.note(entry.extent, &Some(entry));
         }
     }
 
@@ -138,7 +151,7 @@ impl Beside {
         if let Some(entry) = self.entry(page, steps) {
             self.map.remove(&entry, steps);
             self.mapped -= entry.extent.size.pages();
-            self.note(&entry.extent, |_| None);
+            self.note(entry.extent, &None);
         }
     }
 
@@ -150,7 +163,7 @@ impl Beside {
         };
         if whole.extent.size.level() > 0 && whole.mapping.frame < 32_768 {
             self.map.split(&whole, steps);
-            self.note(&whole.extent, |page| Some(part(&whole, page)));
+            self.note_parts(&whole);
         }
     }
 
@@ -160,21 +173,42 @@ impl Beside {
         for level in 1..4 {
             if let Some(whole) = self.map.whole(size(level), page, steps) {
                 self.map.join(&whole, steps);
-                self.note(&whole.extent, |_| Some(whole));
+                self.note(whole.extent, &Some(whole));
             }
         }
+    }
+
+    /// Whether the pages of an entry have its parts in the list.
+    fn has_parts(&self, whole: &Entry) -> bool
+        requires { 0 < whole.now.extent.size }
+    {
+        let extent = &whole.extent;
+        for page in extent.first..extent.first.wrapping_add(extent.size.pages()) {
+            if self.at(page) != Some(part(whole, page)) {
+                return false;
+            }
+        }
+        true
+    }
+
+    /// The entry of the lowest page from one on and before an end that has one in the list.
+    fn next(&self, from: u32, end: u32) -> Option<Entry> {
+        for page in from..end {
+            let entry = self.at(page);
+            if entry.is_some() {
+                return entry;
+            }
+        }
+        None
     }
 
     /// The entry of the extent of a size round a page that its parts form in the list, where they do.
     fn whole(&self, size: Size, page: u32) -> Option<Entry>
         requires { 0 < size }
     {
-        let first = start(size, page);
-        let whole = Entry::round(size, page, self.at(first)?.mapping);
-        let end = first.wrapping_add(size.pages());
-        let are_parts = (first..end).all(|page| self.at(page) == Some(part(&whole, page)));
+        let whole = Entry::round(size, page, self.at(start(size, page))?.mapping);
         let frame = whole.mapping.frame;
-        (are_parts && start(size, frame) == frame).then_some(whole)
+        (self.has_parts(&whole) && start(size, frame) == frame).then_some(whole)
     }
 
     /// How many entries the list has of each size.
@@ -275,7 +309,7 @@ fn goes_through<L: Ledger>(rt: &impl Abort, both: &mut Beside, blank: Blank)
         both.compares(rt, page, steps);
         let end = near(&mut random);
         assert!(rt;
-            both.map.next(page, end, steps) == (page..end).find_map(|page| both.at(page)),
+            both.map.next(page, end, steps) == both.next(page, end),
             "from {page} to {end}"
         );
     }

@@ -67,12 +67,10 @@ fn is_free(base: &Base, frame: u32) -> bool
 fn eligible(pages: &[Option<Mapping>], size: Size, page: u32) -> Option<Tile> {
     let length = size.pages().max(1);
     let head = (*pages.get(page as usize)?)?;
-    if page % length != 0 || head.frame % length != 0 {
+    if page % length != 0 || head.frame % length != 0 || !continue_it(pages, page, length, head) {
         return None;
     }
-    let continues = |i: u32| pages.get(page.wrapping_add(i) as usize)
-        == Some(&Some(after(head, i)));
-    (0..length).all(continues).then_some(Tile {
+    Some(Tile {
         extent: Extent { size, first: page },
         frame: head.frame,
         rights: head.rights,
@@ -88,13 +86,28 @@ fn after(head: Mapping, pages: u32) -> Mapping {
     }
 }
 
+/// Whether so many pages, from one of this mapping on, continue it.
+fn continue_it(pages: &[Option<Mapping>], page: u32, length: u32, head: Mapping) -> bool {
+    for i in 0..length {
+        if pages.get(page.wrapping_add(i) as usize) != Some(&Some(after(head, i))) {
+            return false;
+        }
+    }
+    true
+}
+
 /// The largest tile of these sizes that can begin at a page.
 fn tile_from(pages: &[Option<Mapping>], sizes: Sizes, page: u32) -> Option<Tile> {
-    (0..4u8)
-        .rev()
-        .map(size)
-        .filter(|size| sizes.has(*size))
-        .find_map(|size| eligible(pages, size, page))
+    for smaller in 0..4u8 {
+        let size = size(3 - smaller);
+        if sizes.has(size) {
+            let tile = eligible(pages, size, page);
+            if tile.is_some() {
+                return tile;
+            }
+        }
+    }
+    None
 }
 
 /// The tiles of all pages by these sizes by a scan, which skips the pages of a tile that was found.
@@ -126,21 +139,45 @@ fn tile_after(
     tile_from(pages, sizes, page)
 }
 
+/// The tile of a page, in a list of the tiles of all pages.
+fn tile_at(tiles: &[Option<Tile>], page: u32) -> Option<Tile> {
+    *tiles.get(page as usize)?
+}
+
 /// The level of a tile, and 0 for none.
-fn level(tile: &Option<Tile>) -> u8 {
-    tile.map_or(0, |tile| tile.extent.size.level())
+fn level(tile: Option<Tile>) -> u8 {
+    match tile {
+        Some(tile) => tile.extent.size.level(),
+        None => 0,
+    }
 }
 
 /// Whether a page is the first one of its tile.
-fn begins(tile: &Option<Tile>, page: usize) -> bool {
-    tile.is_some_and(|tile| tile.extent.first as usize == page)
+fn begins(tile: Option<Tile>, page: u32) -> bool {
+    match tile {
+        Some(tile) => tile.extent.first == page,
+        None => false,
+    }
+}
+
+/// Whether a tile of the second list begins at a page, and it lay in no tile of the first one.
+fn comes_at(before: &[Option<Tile>], after: &[Option<Tile>], page: u32) -> bool {
+    match tile_at(after, page) {
+        Some(tile) => tile.extent.first == page
+            && level(tile_at(before, page)) < tile.extent.size.level(),
+        None => false,
+    }
 }
 
 /// How many tiles of the second list lay in no tile of the first one.
-fn came(before: &[Option<Tile>], after: &[Option<Tile>]) -> usize {
-    let tiles = before.iter().zip(after).enumerate();
-    let new = tiles.filter(|(page, (old, new))| begins(new, *page) && level(old) < level(new));
-    new.count()
+fn came(before: &[Option<Tile>], after: &[Option<Tile>]) -> u32 {
+    let mut count = 0u32;
+    for page in 0..PAGES {
+        if comes_at(before, after, page) {
+            count = count.wrapping_add(1);
+        }
+    }
+    count
 }
 
 impl Beside {
@@ -215,41 +252,74 @@ impl Beside {
 
     /// Whether a page has this tile in the base, which tells of one that begins at the page that it is a tile.
     fn has(&self, page: u32, tile: Option<Tile>) -> bool {
-        self.base.tile_of(page, self.sizes) == tile
-            && tile.is_none_or(|tile| tile.extent.first != page
-                || self.base.is_tile(&tile, self.sizes))
+        if self.base.tile_of(page, self.sizes) != tile {
+            return false;
+        }
+        match tile {
+            Some(tile) if tile.extent.first == page => self.base.is_tile(&tile, self.sizes),
+            _ => true,
+        }
     }
 
     /// Whether the base and the list have the same tiles.
     fn is_alike(&self, tiles: &[Option<Tile>]) -> bool {
-        (0..).zip(tiles).all(|(page, tile)| self.has(page, *tile))
+        for page in 0..PAGES {
+            if !self.has(page, tile_at(tiles, page)) {
+                return false;
+            }
+        }
+        true
     }
 }
 
 /// How many tiles there are of each size.
-fn counts(tiles: &[Option<Tile>]) -> [usize; 4] {
-    [0, 1, 2, 3].map(|level| count_of(tiles, level))
+fn counts(tiles: &[Option<Tile>]) -> [u32; 4] {
+    [
+        count_of(tiles, 0),
+        count_of(tiles, 1),
+        count_of(tiles, 2),
+        count_of(tiles, 3),
+    ]
+}
+
+/// Whether a tile of a level begins at a page.
+fn is_of(tiles: &[Option<Tile>], page: u32, of: u8) -> bool {
+    match tile_at(tiles, page) {
+        Some(tile) => tile.extent.first == page && tile.extent.size.level() == of,
+        None => false,
+    }
 }
 
 /// How many tiles there are of a level.
-fn count_of(tiles: &[Option<Tile>], of: u8) -> usize {
-    let pages = tiles.iter().enumerate();
-    let of_level = pages.filter(|(page, tile)| begins(tile, *page) && level(tile) == of);
-    of_level.count()
+fn count_of(tiles: &[Option<Tile>], of: u8) -> u32 {
+    let mut count = 0u32;
+    for page in 0..PAGES {
+        if is_of(tiles, page, of) {
+            count = count.wrapping_add(1);
+        }
+    }
+    count
 }
 
-/// Whether a tile has a page from this one on.
-fn reaches(tile: &Option<Tile>, page: usize) -> bool {
-    tile.is_some_and(|tile| tile.extent.first.wrapping_add(tile.extent.size.pages()) as usize
-        > page)
+/// Whether a tile above size 0 begins at a page, and has one from the first on.
+fn reaches(tiles: &[Option<Tile>], page: u32, first: u32) -> bool {
+    match tile_at(tiles, page) {
+        Some(tile) => tile.extent.first == page
+            && tile.extent.size.level() > 0
+            && page.wrapping_add(tile.extent.size.pages()) > first,
+        None => false,
+    }
 }
 
 /// How many tiles above size 0 have a page from the first on and before the end.
-fn large_meeting(tiles: &[Option<Tile>], first: usize, end: usize) -> usize {
-    let pages = tiles.iter().enumerate().take(end);
-    let large = pages.filter(|(page, tile)| begins(tile, *page) && level(tile) > 0);
-    let meeting = large.filter(|(_, tile)| reaches(tile, first));
-    meeting.count()
+fn large_meeting(tiles: &[Option<Tile>], first: u32, end: u32) -> u32 {
+    let mut count = 0u32;
+    for page in 0..end {
+        if reaches(tiles, page, first) {
+            count = count.wrapping_add(1);
+        }
+    }
+    count
 }
 
 /// The mapping of a page in the frame of its number, after the first 512 pages in those from 1,024 on.
@@ -291,37 +361,70 @@ fn are_listed(changes: &Changes, before: &[Option<Tile>], after: &[Option<Tile>]
 
 /// Whether these are the moves from the first tiles to the second, and each tile that begins outside of what they touched is one still.
 fn are_moves(moves: &Moves, before: &[Option<Tile>], after: &[Option<Tile>]) -> bool {
-    moves.promotions as usize == came(before, after)
-        && moves.demotions as usize == came(after, before)
+    moves.promotions == came(before, after)
+        && moves.demotions == came(after, before)
         && keeps_outside(moves, before, after)
 }
 
 /// Whether each tile that begins outside of what was touched is a tile still.
 fn keeps_outside(moves: &Moves, before: &[Option<Tile>], after: &[Option<Tile>]) -> bool {
-    let mut gone = before.iter().zip(after).filter(|(old, new)| old != new);
-    gone.all(|(old, _)| old.is_none_or(|tile| begins_in(moves.touched, &tile)))
+    for page in 0..PAGES {
+        if let Some(tile) = other_at(before, after, page) {
+            if !begins_in(moves.touched, &tile) {
+                return false;
+            }
+        }
+    }
+    true
+}
+
+/// The tile that a page has in the first list, where it has another in the second, or none.
+fn other_at(first: &[Option<Tile>], second: &[Option<Tile>], page: u32) -> Option<Tile> {
+    let tile = tile_at(first, page);
+    if tile == tile_at(second, page) {
+        return None;
+    }
+    tile
 }
 
 /// Whether the list has each of the second tiles that is none of the first, once, and no other, and so their pages.
 fn are_new(list: &TileList, before: &[Option<Tile>], after: &[Option<Tile>]) -> bool {
-    let tiles = before.iter().zip(after).enumerate();
-    let mut new = tiles.filter(|(page, (old, new))| begins(new, *page) && old != new);
     list.len() == count_new(before, after)
-        && new.all(|(_, (_, new))| new.is_some_and(|tile| list.has(&tile)))
+        && has_new(list, before, after)
         && has_pages(list, before, after)
+}
+
+/// Whether the list has each of the second tiles that is none of the first.
+fn has_new(list: &TileList, before: &[Option<Tile>], after: &[Option<Tile>]) -> bool {
+    for page in 0..PAGES {
+        if let Some(tile) = other_at(after, before, page) {
+            if tile.extent.first == page && !list.has(&tile) {
+                return false;
+            }
+        }
+    }
+    true
 }
 
 /// Whether the pages of the list's tiles are those whose second tile is another one than the first.
 fn has_pages(list: &TileList, before: &[Option<Tile>], after: &[Option<Tile>]) -> bool {
-    let mut pages = (0..).zip(before.iter().zip(after));
-    pages.all(|(page, (old, new))| list.has_page(page) == (new.is_some() && old != new))
+    for page in 0..PAGES {
+        if list.has_page(page) != other_at(after, before, page).is_some() {
+            return false;
+        }
+    }
+    true
 }
 
 /// How many of the second tiles are none of the first.
 fn count_new(before: &[Option<Tile>], after: &[Option<Tile>]) -> usize {
-    let tiles = before.iter().zip(after).enumerate();
-    let new = tiles.filter(|(page, (old, new))| begins(new, *page) && old != new);
-    new.count()
+    let mut count = 0usize;
+    for page in 0..PAGES {
+        if begins(other_at(after, before, page), page) {
+            count = count.wrapping_add(1);
+        }
+    }
+    count
 }
 
 /// Whether a tile begins in a range.
@@ -346,9 +449,9 @@ fn goes_alike(
 /// Whether the base has as many tiles as a scan finds, of each size and below page 900.
 fn counts_alike(both: &Beside, alloc: Global) -> Result<bool, NoMemory> {
     let tiles = tiles(alloc, &both.pages, both.sizes)?;
-    let told = both.base.counts(both.sizes).map(|count| count as usize);
-    let large = both.base.tiles_meeting(100, 600, both.sizes) as usize;
-    Ok(told == counts(&tiles) && large == large_meeting(&tiles, 100, 700))
+    let large = both.base.tiles_meeting(100, 600, both.sizes);
+    let counted = both.base.counts(both.sizes) == counts(&tiles);
+    Ok(counted && large == large_meeting(&tiles, 100, 700))
 }
 
 /// Whether the base has the tiles that a scan finds.
@@ -410,6 +513,13 @@ fn fill_half(rt: &impl Abort, both: &mut Beside) {
     }
 }
 
+/// The base with the first 512 pages filled, to be compared by all sizes.
+fn half_filled(rt: &impl Abort, alloc: Global) -> Beside {
+    let mut both = Beside::create(alloc, Sizes::all()).expect(rt, NO_MEMORY);
+    fill_half(rt, &mut both);
+    both
+}
+
 /// How many tiles there are of each size before a page is dirty and then, and the demotions between.
 fn make_dirty(both: &mut Beside) -> ([u32; 4], u32, [u32; 4]) {
     let before = both.base.counts(Sizes::all());
@@ -439,8 +549,7 @@ fn make_read_only(both: &mut Beside) -> (u32, u32) {
 
 #[test]
 fn a_change_touches_the_larger_of_its_tiles(rt: HostRuntime) {
-    let mut both = Beside::create(rt.alloc(), Sizes::all()).expect(&rt, NO_MEMORY);
-    fill_half(&rt, &mut both);
+    let mut both = half_filled(&rt, rt.alloc());
     assert!(rt; touched_by_one(&mut both) == [(0, 0), (600, 1), (0, 512), (101, 1), (64, 8)]);
     assert!(rt; touched_by_rights(&mut both) == [(0, 0), (0, 0), (0, 512)]);
 }
@@ -496,15 +605,13 @@ fn told_of_one(both: &mut Beside) -> [(usize, usize); 5] {
 
 #[test]
 fn a_large_tile_comes_apart_and_together(rt: HostRuntime) {
-    let mut both = Beside::create(rt.alloc(), Sizes::all()).expect(&rt, NO_MEMORY);
-    fill_half(&rt, &mut both);
+    let mut both = half_filled(&rt, rt.alloc());
     assert!(rt; told_of_one(&mut both) == [(1, 22), (0, 0), (22, 1), (1, 21), (21, 1)]);
 }
 
 #[test]
 fn the_last_page_of_an_extent_makes_it_a_tile(rt: HostRuntime) {
-    let mut both = Beside::create(rt.alloc(), Sizes::all()).expect(&rt, NO_MEMORY);
-    fill_half(&rt, &mut both);
+    let mut both = half_filled(&rt, rt.alloc());
     assert!(rt; make_dirty(&mut both) == ([0, 0, 0, 1], 1, [8, 7, 7, 0]));
     assert!(rt; meeting(&both.base) == [14, 2, 1, 0]);
     assert!(rt; make_read_only(&mut both) == (0, 1));
