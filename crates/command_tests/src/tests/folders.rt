@@ -111,6 +111,16 @@ fn store_in<R: Abort + AllocGlobal + Files<File = File>>(
     FileStore::create(rt, rt.alloc(), folder, number).expect(rt, "no memory")
 }
 
+/// Asserts that a new store over its file does all of these steps.
+fn assert_does<R: Abort + AllocGlobal + Files<File = File>>(
+    rt: &R,
+    folder: &str,
+    number: u32,
+    steps: &[Step],
+) {
+    assert!(rt; does_all(&mut store_in(rt, folder, number), steps));
+}
+
 /// A file that takes and gives at most 1,000 bytes a call, and has no room past a byte.
 #[derive(Drop)]
 struct Narrow {
@@ -136,9 +146,9 @@ impl FileExt for Narrow {
 #[test]
 fn a_file_gives_back_what_was_written(rt: HostRuntime) -> Result<(), Fail> {
     make_folder(&rt, "kept")?;
-    assert!(rt; does_all(&mut store_in(&rt, "kept", 3), &KEPT));
+    assert_does(&rt, "kept", 3, &KEPT);
     // A second store over the same file.
-    assert!(rt; does_all(&mut store_in(&rt, "kept", 3), &KEPT));
+    assert_does(&rt, "kept", 3, &KEPT);
     Ok(())
 }
 
@@ -181,7 +191,7 @@ static UNOPENED: [Step; 4] = [
 
 #[test]
 fn without_its_folder_each_write_fails(rt: HostRuntime) {
-    assert!(rt; does_all(&mut store_in(&rt, "no-folder", 0), &UNOPENED));
+    assert_does(&rt, "no-folder", 0, &UNOPENED);
 }
 
 /// The bytes of two pages, of which the first was never written.
@@ -194,14 +204,20 @@ fn bytes_of(number: u64) -> [u8; 16_384] {
     bytes
 }
 
+/// Asserts that a file has these bytes, and makes it empty.
+fn empty<R: Abort + AllocGlobal + Files>(rt: &R, file: &str, bytes: &[u8]) -> io::Result<()> {
+    let found = fs::read(rt, file)?;
+    assert!(rt; found.as_slice() == bytes);
+    fs::write(rt, file, b"")
+}
+
 #[test]
 fn a_page_stands_at_its_place_in_the_file(rt: HostRuntime) -> Result<(), Fail> {
     make_folder(&rt, "placed")?;
     let mut store = store_in(&rt, "placed", 15);
     assert!(rt; does(&mut store, Step::Writes(1, 9)));
-    assert!(rt; fs::read(&rt, "placed/space-15")?.as_slice() == bytes_of(9).as_slice());
     // Another makes the file empty.
-    fs::write(&rt, "placed/space-15", b"")?;
+    empty(&rt, "placed/space-15", &bytes_of(9))?;
     assert!(rt; does(&mut store, Step::FailsToRead(1, 1)));
     Ok(())
 }
