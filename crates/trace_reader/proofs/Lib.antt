@@ -7,3 +7,4 @@ pub mod SourceBytes
 pub mod CutTexts
 pub mod Fillings
 pub mod UniqueTexts
+pub mod Calls

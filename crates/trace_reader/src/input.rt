@@ -15,7 +15,6 @@ const PIECE: usize = 4096;
 
 /// All that the source has left. More bytes than a trace's text may have are refused as soon as
 /// they come.
-#[tactic(auto, using(crate::proofs::SourceBytes::longer))]
 fn read_text<T: Source>(alloc: Global, source: &mut T) -> Result<Vec<u8>, TraceFault>
     ensures ok { IfOk result (λ text. IfSome (T.left source.old)
         (λ bytes. (bytes ≡ text.items) × (T.left source.new ≡ Some []))) }

@@ -1,8 +1,8 @@
 //! Lines: the first one, a daemon's, and those of calls.
-ghost use Rattle.std.specs.Prelude.{◌≡◌, ◌<◌, ◌≤◌, ◌%◌, ◌∷◌, [], true, false, Some, IfSome, IfNone, IfOk, IfErr, OnOk, codes, decimal};
+ghost use Rattle.std.specs.Prelude.{◌≡◌, ◌<◌, ◌≤◌, ◌%◌, ◌∷◌, [], List, ℕ, true, false, Some, IfSome, IfNone, Ok, IfOk, IfErr, OnOk, codes, decimal};
 ghost use Rattle.std.specs.Str.{bytes_eq};
 ghost use Rattle.pager_model.specs.TraceText.{IsDaemon, IsLine, IsVersion, line_words, first_words, daemon_words};
-ghost use Rattle.trace_reader.specs.Forms.{Number, number_in, fits, leftmost, line_fault, first_forms, first_places, daemon_form, page, map_form, grow_form, protect_form, load_form, store_form, call_forms};
+ghost use Rattle.trace_reader.specs.Forms.{Place, Number, number_in, fits, leftmost, line_fault, first_forms, first_places, daemon_form, page, pages, map_form, grow_form, protect_form, load_form, store_form, call_forms};
 ghost use Rattle.trace_reader.specs.declared.line.Name.{Name};
 ghost use Rattle.trace_reader.specs.Heads.{IsInRange, IsRead, word_of_name};
 ghost use Rattle.trace_reader.specs.Refusals.{words_of};
@@ -77,7 +77,9 @@ fn first_words(words: &[&[u8]]) -> Result<Head, LineCause>
             head_of(version, frames, processors, spaces, Sizes::all())
         }
         [version, frames, processors, spaces, sizes] => {
-            let sizes = page_sizes(sizes).ok_or(LineCause::Form)?;
+            let Some(sizes) = page_sizes(sizes) else {
+                return Err(LineCause::Form);
+            };
             let version = small(version, 1, 2..3)?;
             head_of(version, frames, processors, spaces, sizes)
         }
@@ -211,32 +213,99 @@ fn name_of(word: &[u8]) -> Option<Name>
     ensures some { IfSome result (λ name. word.now ≡ word_of_name name) }
     ensures none { IfNone result ((name : Name) → bytes_eq word.now (word_of_name name) ≡ false) }
 {
-    match word {
-        b"map" => Some(Name::Map),
-        b"grow" => Some(Name::Grow),
-        b"unmap" => Some(Name::Unmap),
-        b"protect" => Some(Name::Protect),
-        b"load" => Some(Name::Load),
-        b"store" => Some(Name::Store),
-        b"sync" => Some(Name::Sync),
-        b"evict" => Some(Name::Evict),
-        _ => None,
+    if word == b"map".as_slice() {
+        Some(Name::Map)
+    } else if word == b"grow".as_slice() {
+        Some(Name::Grow)
+    } else if word == b"unmap".as_slice() {
+        Some(Name::Unmap)
+    } else if word == b"protect".as_slice() {
+        Some(Name::Protect)
+    } else if word == b"load".as_slice() {
+        Some(Name::Load)
+    } else if word == b"store".as_slice() {
+        Some(Name::Store)
+    } else if word == b"sync".as_slice() {
+        Some(Name::Sync)
+    } else if word == b"evict".as_slice() {
+        Some(Name::Evict)
+    } else {
+        None
     }
+}
+
+/// Who makes a call.
+struct Caller {
+    processor: u32,
+    space: u32,
+}
+
+/// The processor and its space that these words name.
+fn caller_of(head: &Head, processor: &[u8], space: &[u8]) -> Result<Caller, LineCause>
+    ensures range { IfOk result (λ who. (who.processor < head.now.processors) × (who.space < head.now.spaces)) }
+    ensures text { IfOk result (λ who. (processor.now ≡ decimal who.processor) × (space.now ≡ decimal who.space)) }
+    ensures exact { IfOk result (λ who. (number_in 1 0 head.now.processors processor.now ≡ Ok who.processor)
+        × (number_in 1 0 head.now.spaces space.now ≡ Ok who.space)) }
+    ensures err { IfErr result (λ cause. (places : List Place) (words : List (List ℕ))
+        → leftmost (Number 1 0 head.now.processors ∷ Number 1 0 head.now.spaces ∷ places)
+        (processor.now ∷ space.now ∷ words) ≡ Some cause) }
+{
+    let processor = small(processor, 1, 0..head.processors)?;
+    let space = small(space, 1, 0..head.spaces)?;
+    Ok(Caller { processor, space })
+}
+
+/// Where a call is made that names pages by the first of them and their number.
+struct Pages {
+    processor: u32,
+    space: u32,
+    page: u32,
+    length: u32,
+}
+
+/// Where such a call is made, by these words.
+fn pages_of(
+    head: &Head,
+    processor: &[u8],
+    space: &[u8],
+    first: &[u8],
+    count: &[u8],
+) -> Result<Pages, LineCause>
+    ensures range { IfOk result (λ at. (at.processor < head.now.processors) × (at.space < head.now.spaces)
+        × (at.page < PAGES) × (1 ≤ at.length) × (at.length ≤ PAGES)) }
+    ensures text { IfOk result (λ at. (processor.now ≡ decimal at.processor) × (space.now ≡ decimal at.space)
+        × (first.now ≡ decimal at.page) × (count.now ≡ decimal at.length)) }
+    ensures err { IfErr result
+        (λ cause. leftmost (Number 1 0 head.now.processors ∷ Number 1 0 head.now.spaces ∷ page ∷ pages ∷ [])
+        (processor.now ∷ space.now ∷ first.now ∷ count.now ∷ []) ≡ Some cause) }
+{
+    let Caller { processor, space } = caller_of(head, processor, space)?;
+    let page = small(first, 1, 0..PAGES)?;
+    let length = small(count, 1, 1..PAGES + 1)?;
+    Ok(Pages {
+        processor,
+        space,
+        page,
+        length,
+    })
 }
 
 /// The call `map` of this processor, with these arguments.
 fn map(head: &Head, processor: &[u8], arguments: &[&[u8]]) -> Result<Line, LineCause>
     ensures { IsRead head.now (map_form head.now.processors head.now.spaces ∷ []) (processor.now ∷ codes "map" ∷ seen arguments.now) result }
 {
-    let [space, page, length, kind_word, rights_word] = arguments else {
+    let [space, first, count, kind_word, rights_word] = arguments else {
         return Err(LineCause::Form);
     };
-    let kind = kind(kind_word).ok_or(LineCause::Form)?;
-    let rights = rights(rights_word).ok_or(LineCause::Form)?;
-    let processor = small(processor, 1, 0..head.processors)?;
-    let space = small(space, 1, 0..head.spaces)?;
-    let page = small(page, 1, 0..PAGES)?;
-    let length = small(length, 1, 1..PAGES + 1)?;
+    let (Some(kind), Some(rights)) = (kind(kind_word), rights(rights_word)) else {
+        return Err(LineCause::Form);
+    };
+    let Pages {
+        processor,
+        space,
+        page,
+        length,
+    } = pages_of(head, processor, space, first, count)?;
     let call = Call::Map {
         space,
         page,
@@ -251,14 +320,41 @@ fn map(head: &Head, processor: &[u8], arguments: &[&[u8]]) -> Result<Line, LineC
 fn grow(head: &Head, processor: &[u8], arguments: &[&[u8]]) -> Result<Line, LineCause>
     ensures { IsRead head.now (grow_form head.now.processors head.now.spaces ∷ []) (processor.now ∷ codes "grow" ∷ seen arguments.now) result }
 {
-    let [space, page, by] = arguments else {
+    let [space, first, count] = arguments else {
         return Err(LineCause::Form);
     };
-    let processor = small(processor, 1, 0..head.processors)?;
-    let space = small(space, 1, 0..head.spaces)?;
-    let page = small(page, 1, 0..PAGES)?;
-    let by = small(by, 1, 1..PAGES + 1)?;
+    let Pages {
+        processor,
+        space,
+        page,
+        length: by,
+    } = pages_of(head, processor, space, first, count)?;
     let call = Call::Grow { space, page, by };
+    Ok(Line { processor, call })
+}
+
+/// The call `protect` of this processor, with these arguments.
+fn protect(head: &Head, processor: &[u8], arguments: &[&[u8]]) -> Result<Line, LineCause>
+    ensures { IsRead head.now (protect_form head.now.processors head.now.spaces ∷ []) (processor.now ∷ codes "protect" ∷ seen arguments.now) result }
+{
+    let [space, first, count, rights_word] = arguments else {
+        return Err(LineCause::Form);
+    };
+    let Some(rights) = rights(rights_word) else {
+        return Err(LineCause::Form);
+    };
+    let Pages {
+        processor,
+        space,
+        page,
+        length,
+    } = pages_of(head, processor, space, first, count)?;
+    let call = Call::Protect {
+        space,
+        page,
+        length,
+        rights,
+    };
     Ok(Line { processor, call })
 }
 
@@ -281,35 +377,13 @@ fn one_page(head: &Head, processor: &[u8], arguments: &[&[u8]]) -> Result<OnePag
     let [space, page] = arguments else {
         return Err(LineCause::Form);
     };
-    let processor = small(processor, 1, 0..head.processors)?;
-    let space = small(space, 1, 0..head.spaces)?;
+    let Caller { processor, space } = caller_of(head, processor, space)?;
     let page = small(page, 1, 0..PAGES)?;
     Ok(OnePage {
         processor,
         space,
         page,
     })
-}
-
-/// The call `protect` of this processor, with these arguments.
-fn protect(head: &Head, processor: &[u8], arguments: &[&[u8]]) -> Result<Line, LineCause>
-    ensures { IsRead head.now (protect_form head.now.processors head.now.spaces ∷ []) (processor.now ∷ codes "protect" ∷ seen arguments.now) result }
-{
-    let [space, page, length, rights_word] = arguments else {
-        return Err(LineCause::Form);
-    };
-    let rights = rights(rights_word).ok_or(LineCause::Form)?;
-    let processor = small(processor, 1, 0..head.processors)?;
-    let space = small(space, 1, 0..head.spaces)?;
-    let page = small(page, 1, 0..PAGES)?;
-    let length = small(length, 1, 1..PAGES + 1)?;
-    let call = Call::Protect {
-        space,
-        page,
-        length,
-        rights,
-    };
-    Ok(Line { processor, call })
 }
 
 /// The call `load` of this processor, with these arguments.
@@ -319,8 +393,7 @@ fn load(head: &Head, processor: &[u8], arguments: &[&[u8]]) -> Result<Line, Line
     let [space, address] = arguments else {
         return Err(LineCause::Form);
     };
-    let processor = small(processor, 1, 0..head.processors)?;
-    let space = small(space, 1, 0..head.spaces)?;
+    let Caller { processor, space } = caller_of(head, processor, space)?;
     let address = number(address, 8, 0..ADDRESSES)?;
     let call = Call::Load { space, address };
     Ok(Line { processor, call })
@@ -333,8 +406,7 @@ fn store(head: &Head, processor: &[u8], arguments: &[&[u8]]) -> Result<Line, Lin
     let [space, address, word] = arguments else {
         return Err(LineCause::Form);
     };
-    let processor = small(processor, 1, 0..head.processors)?;
-    let space = small(space, 1, 0..head.spaces)?;
+    let Caller { processor, space } = caller_of(head, processor, space)?;
     let address = number(address, 8, 0..ADDRESSES)?;
     let word = any_number(word)?;
     let call = Call::Store {

@@ -136,11 +136,14 @@ pub fn kind(word: &[u8]) -> Option<Kind>
     ensures some { IfSome result (λ kind. may_stand any_kind word.now ≡ true) }
     ensures none { IfNone result (may_stand any_kind word.now ≡ false) }
 {
-    match word {
-        b"fixed" => Some(Kind::Fixed),
-        b"growing" => Some(Kind::Growing),
-        b"wired" => Some(Kind::Wired),
-        _ => None,
+    if word == b"fixed".as_slice() {
+        Some(Kind::Fixed)
+    } else if word == b"growing".as_slice() {
+        Some(Kind::Growing)
+    } else if word == b"wired".as_slice() {
+        Some(Kind::Wired)
+    } else {
+        None
     }
 }
 
@@ -150,11 +153,14 @@ pub fn rights(word: &[u8]) -> Option<Rights>
     ensures some { IfSome result (λ rights. may_stand any_rights word.now ≡ true) }
     ensures none { IfNone result (may_stand any_rights word.now ≡ false) }
 {
-    match word {
-        b"none" => Some(Rights::NoAccess),
-        b"read" => Some(Rights::Read),
-        b"write" => Some(Rights::Write),
-        _ => None,
+    if word == b"none".as_slice() {
+        Some(Rights::NoAccess)
+    } else if word == b"read".as_slice() {
+        Some(Rights::Read)
+    } else if word == b"write".as_slice() {
+        Some(Rights::Write)
+    } else {
+        None
     }
 }
 
@@ -164,15 +170,23 @@ pub fn page_sizes(word: &[u8]) -> Option<Sizes>
     ensures some { IfSome result (λ sizes. may_stand any_sizes word.now ≡ true) }
     ensures none { IfNone result (may_stand any_sizes word.now ≡ false) }
 {
-    match word {
-        b"0" => Some(Sizes::of(false, false, false)),
-        b"01" => Some(Sizes::of(true, false, false)),
-        b"02" => Some(Sizes::of(false, true, false)),
-        b"03" => Some(Sizes::of(false, false, true)),
-        b"012" => Some(Sizes::of(true, true, false)),
-        b"013" => Some(Sizes::of(true, false, true)),
-        b"023" => Some(Sizes::of(false, true, true)),
-        b"0123" => Some(Sizes::of(true, true, true)),
-        _ => None,
+    if word == b"0".as_slice() {
+        Some(Sizes::of(false, false, false))
+    } else if word == b"01".as_slice() {
+        Some(Sizes::of(true, false, false))
+    } else if word == b"02".as_slice() {
+        Some(Sizes::of(false, true, false))
+    } else if word == b"03".as_slice() {
+        Some(Sizes::of(false, false, true))
+    } else if word == b"012".as_slice() {
+        Some(Sizes::of(true, true, false))
+    } else if word == b"013".as_slice() {
+        Some(Sizes::of(true, false, true))
+    } else if word == b"023".as_slice() {
+        Some(Sizes::of(false, true, true))
+    } else if word == b"0123".as_slice() {
+        Some(Sizes::of(true, true, true))
+    } else {
+        None
     }
 }

@@ -1,19 +1,8 @@
-use Rattle.std.proofs.Common.{◌≡◌, ◌<◌, ◌≤◌, ℕ, List, [], ◌∷◌, length, slice_index_or, codes, refl, sym, ap, ◌∙◌, arith}
+use Rattle.std.proofs.Common.{◌≡◌, ℕ, List, [], ◌∷◌, codes, sym, ap, ◌∙◌}
 use Rattle.std.proofs.lemmas.Slice.Eq.{bytes_eq-Decides}
 use Rattle.trace_reader.specs.Words.{seen}
+use Rattle.trace_reader.proofs.Calls.{word_at, three}
 use Rattle.trace_reader.proofs.line.daemon_numbers.Goals as goal
-use denote.Ref.{Bor}
-
-abbrev word_at : List (Bor (List ℕ)) → ℕ → List ℕ
-word_at words i = (slice_index_or words i (record { ref_ptr = (0, 0); now = [] })).now
-
-three : (words : List (Bor (List ℕ))) → 3 ≤ length words → length words < 4
-    → seen words ≡ word_at words 0 ∷ word_at words 1 ∷ word_at words 2 ∷ []
-three [] some few = absurd (omega arith)
-three (a ∷ []) some few = absurd (omega arith)
-three (a ∷ b ∷ []) some few = absurd (omega arith)
-three (a ∷ b ∷ c ∷ []) some few = refl
-three (a ∷ b ∷ c ∷ d ∷ words) some few = absurd (omega arith)
 
 pub returns-in-len3-clause-some : goal.returns-in-len3-clause-some
 returns-in-len3-clause-some c =
