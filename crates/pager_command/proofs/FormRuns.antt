@@ -40,6 +40,13 @@ pub WasRun-over : {P : Type 0} (seen : P → Stored) (plan : Plan) (stores : Lis
 WasRun-over seen plan stores gathered enough run counts =
     record { enough = omega (arith, enough, length-map stores seen); run = run; counts = counts }
 
+-- and so one of some stores
+pub is_some_run : {P : Type 0} (seen : P → Stored) (plan : Plan) (stores : List P) (gathered : Gathered P) → plan.spaces ≤ length stores
+    → IsReplay plan (map seen stores) gathered.history.items (map seen gathered.stores.items)
+    → AreItsCounts plan (map seen stores) gathered.history.items gathered.summary
+    → (before : List Stored) × WasRun seen (replayed plan before gathered)
+is_some_run seen plan stores gathered enough run counts = (map seen stores, WasRun-over seen plan stores gathered enough run counts)
+
 -- there was no memory for a run of a text that was read
 stopped_for_memory : (form : Form) (left left' : Option (List ℕ)) (faults faults' stores : ℕ) (plan : Plan)
     → WasRead plan left left' → faults' ≡ faults → Admits form plan → plan.spaces ≤ stores

@@ -1,5 +1,5 @@
 -- Words are of one command, and of one form of it.
-use Rattle.std.proofs.Common.{◌≡◌, ℕ, ◌<◌, ◌^◌, List, [], decimal, get_or, sym, ap, refl, ◌∙◌, arith}
+use Rattle.std.proofs.Common.{◌≡◌, ℕ, ◌<◌, ◌^◌, List, [], decimal, get_or, sym, ap, subst, refl, ◌∙◌, arith}
 use Rattle.std.proofs.lemmas.Fmt.{decimal_injective}
 use Rattle.std.specs.Borrow.{Bor}
 use Rattle.report_text.specs.declared.report.Parts.{Parts}
@@ -7,7 +7,9 @@ use Rattle.report_text.specs.declared.report.Parts.TheVariants.{Answers, Answers
 use Rattle.pager_command.specs.declared.form.Form.{Form}
 use Rattle.pager_command.specs.declared.form.Form.TheVariants.{Order, Turns, Replay, Plan as Planned, Curve}
 use Rattle.pager_command.specs.declared.form.Making.{Making}
-use Rattle.pager_command.specs.Forms.{AreInRange, AreLargeWords, AreMakingWords, AreWords, IsForm, large_words, making_words, parts_words, words_of}
+use Rattle.pager_command.specs.declared.form.Command.{Command}
+use Rattle.pager_command.specs.declared.form.Command.TheVariants.{Make, Large}
+use Rattle.pager_command.specs.Forms.{AreInRange, AreLargeWords, AreMakingWords, AreOfCommand, AreWords, IsForm, large_words, making_words, parts_words, words_of}
 use Rattle.trace_make.specs.Made.{CanMake}
 
 one_parts : (p q : Parts) → parts_words p ≡ parts_words q → p ≡ q
@@ -100,6 +102,15 @@ pub making_is_not_large : (words : List (Bor (List ℕ))) (m : Making) (number s
 making_is_not_large words m number seed is large =
     let same : 109 ≡ 108 = ap first_letter (sym is.are ∙ large.are) in
     omega (arith, same)
+
+-- nor are the words of the command that makes a trace, or of the one that runs the large one, those of a form
+pub make_is_no_form : {command : Command} (words : List (Bor (List ℕ))) (m : Making) → command ≡ Make m → AreOfCommand words command
+    → IsForm words → ⊥
+make_is_no_form words m same of = making_is_no_form words m (subst (AreOfCommand words) same of)
+
+pub run_large_is_no_form : {command : Command} (words : List (Bor (List ℕ))) (number seed : ℕ) → command ≡ Large number seed
+    → AreOfCommand words command → IsForm words → ⊥
+run_large_is_no_form words number seed same of = large_is_no_form words number seed (subst (AreOfCommand words) same of)
 
 -- digits are of one number
 one_number : (m n : ℕ) → m < 2 ^ 32 → n < 2 ^ 32 → decimal m ≡ decimal n → m ≡ n

@@ -6,7 +6,9 @@ use Rattle.std.specs.Str.{bytes_eq}
 use Rattle.std.specs.Cmp.Lexicographic.{bytes_decides}
 use Rattle.std.proofs.lemmas.List.{get_or-map, take_all}
 use Rattle.pager_command.specs.declared.form.Making.{Making}
-use Rattle.pager_command.specs.Forms.{AreMakingWords, are_of, making_words}
+use Rattle.pager_command.specs.declared.form.Form.{Form}
+use Rattle.pager_command.specs.declared.form.Form.TheVariants.{Order, Turns, Replay, Plan as Planned, Curve}
+use Rattle.pager_command.specs.Forms.{AreBehind, AreWords, IsForm, are_of, making_words, words_of}
 
 -- a list of one word is this word exactly where the word's bytes are equal
 pub one_word : (words : List (Bor (List ℕ))) (d : Bor (List ℕ)) (text : List ℕ) (b : Bool)
@@ -17,28 +19,6 @@ one_word (w ∷ []) d text b some few is =
     let decides = bytes_decides w.now text in
     (λ yes_is. ap (λ l. l ∷ []) (decides.0 (sym is ∙ yes_is)), λ same. is ∙ decides.1 (let e : w.now ∷ [] ≡ text ∷ [] = same in cc))
 one_word (w ∷ x ∷ words) d text b some few is = absurd (omega arith)
-
--- words that begin with this one, and go on with the rest
-pub first_word : (words : List (Bor (List ℕ))) (d : Bor (List ℕ)) (text : List ℕ) (b : Bool) (rest : List (List ℕ))
-    → 1 ≤ length words → b ≡ bytes_eq (get_or words 0 d).now text → IsTrue b
-    → are_of (take (length words - 1) (drop 1 words)) ≡ rest → are_of words ≡ text ∷ rest
-first_word [] d text b rest some is holds same = absurd (omega arith)
-first_word (w ∷ ws) d text b rest some is holds same =
-    let all : take (length (w ∷ ws) - 1) ws ≡ ws = take_all (length (w ∷ ws) - 1) ws (omega arith) in
-    ap (λ (l : List ℕ). l ∷ are_of ws) ((bytes_decides w.now text).0 (sym is ∙ holds))
-    ∙ ap (λ (ls : List (List ℕ)). text ∷ ls) (ap are_of (sym all) ∙ same)
-
--- words that begin with these two
-pub two_words : (words : List (Bor (List ℕ))) (d e : Bor (List ℕ)) (first second : List ℕ) (b : Bool) (rest : List (List ℕ))
-    → 2 ≤ length words → b ≡ bytes_eq (get_or words 0 d).now first → IsTrue b → (get_or words 1 e).now ≡ second
-    → are_of (take (length words - 2) (drop 2 words)) ≡ rest → are_of words ≡ first ∷ second ∷ rest
-two_words [] d e first second b rest some is holds same then = absurd (omega arith)
-two_words (w ∷ []) d e first second b rest some is holds same then = absurd (omega arith)
-two_words (w ∷ x ∷ ws) d e first second b rest some is holds same then =
-    let all : take (length (w ∷ x ∷ ws) - 2) ws ≡ ws = take_all (length (w ∷ x ∷ ws) - 2) ws (omega arith) in
-    ap (λ (l : List ℕ). l ∷ x.now ∷ are_of ws) ((bytes_decides w.now first).0 (sym is ∙ holds))
-    ∙ ap (λ (l : List ℕ). first ∷ l ∷ are_of ws) same
-    ∙ ap (λ (ls : List (List ℕ)). first ∷ second ∷ ls) (ap are_of (sym all) ∙ then)
 
 -- one word alone
 pub just_one_word : (words : List (Bor (List ℕ))) (d : Bor (List ℕ)) → 1 ≤ length words → length words < 2
@@ -94,9 +74,45 @@ making_of_six (u ∷ v ∷ w ∷ x ∷ y ∷ z ∷ []) d m b some few is holds a
     (let equal = (bytes_decides u.now (codes "make")).0 (sym is ∙ holds) in cc)
 making_of_six (u ∷ v ∷ w ∷ x ∷ y ∷ z ∷ t ∷ ws) d m b some few is holds at1 at2 at3 at4 at5 = absurd (omega arith)
 
--- the last of the words that ask for a trace to be made
-pub frames_word : (words : List (Bor (List ℕ))) (d : Bor (List ℕ)) (m : Making)
-    → 6 ≤ length words → AreMakingWords words m → (get_or words 5 d).now ≡ decimal m.frames
-frames_word words d m some is =
-    sym (get_or-map (λ (w : Bor (List ℕ)). w.now) words 5 d [] (omega (arith, some)))
-    ∙ ap (λ (ws : List (List ℕ)). get_or ws 5 []) is.are
+-- the word at a place
+pub word_at : (words : List (Bor (List ℕ))) (d : Bor (List ℕ)) (all : List (List ℕ)) (i : ℕ) → i < length words → are_of words ≡ all
+    → (get_or words i d).now ≡ get_or all i []
+word_at words d all i some is =
+    sym (get_or-map (λ (w : Bor (List ℕ)). w.now) words i d [] some) ∙ ap (λ (ws : List (List ℕ)). get_or ws i []) is
+
+-- a first word, and the words behind it
+pub split_first : (words : List (Bor (List ℕ))) (d : Bor (List ℕ)) (first : List ℕ) → 1 ≤ length words → (get_or words 0 d).now ≡ first
+    → are_of words ≡ first ∷ are_of (take (length words - 1) (drop 1 words))
+split_first [] d first some is = absurd (omega arith)
+split_first (w ∷ ws) d first some is =
+    let all : take (length (w ∷ ws) - 1) ws ≡ ws = take_all (length (w ∷ ws) - 1) ws (omega arith) in
+    ap (λ (l : List ℕ). l ∷ are_of ws) is ∙ ap (λ (ls : List (List ℕ)). first ∷ ls) (ap are_of (sym all))
+
+-- words are of a form where those behind their first one are
+pub form_behind : (o : Option Form) (words : List (Bor (List ℕ))) (d : Bor (List ℕ)) (first : List ℕ)
+    → 1 ≤ length words → (get_or words 0 d).now ≡ first
+    → IfSome o (AreBehind first (take (length words - 1) (drop 1 words))) → IfSome o (AreWords words)
+form_behind None words d first some is found = tt
+form_behind (Some form) words d first some is found =
+    record { are = split_first words d first some is ∙ found.0; numbers = found.1 }
+
+pub no_form_behind : (o : Option Form) (words : List (Bor (List ℕ))) (d : Bor (List ℕ)) (first : List ℕ)
+    → 1 ≤ length words → (get_or words 0 d).now ≡ first
+    → IfNone o ((form : Form) → AreBehind first (take (length words - 1) (drop 1 words)) form → ⊥) → IfNone o (IsForm words → ⊥)
+no_form_behind None words d first some is none = λ form.
+    none form.0 (sym (split_first words d first some is) ∙ form.1.are, form.1.numbers)
+no_form_behind (Some form) words d first some is none = tt
+
+-- the words of a form begin with one of five
+pub none_of_five : (words : List (Bor (List ℕ))) (d : Bor (List ℕ)) → 1 ≤ length words
+    → (get_or words 0 d).now ≢ codes "order" → (get_or words 0 d).now ≢ codes "turns" → (get_or words 0 d).now ≢ codes "replay"
+    → (get_or words 0 d).now ≢ codes "plan" → (get_or words 0 d).now ≢ codes "curve" → (form : Form) → AreWords words form → ⊥
+none_of_five words d some order turns replay plan curve (Order parts) is =
+    order (word_at words d (words_of (Order parts)) 0 (omega (arith, some)) is.are)
+none_of_five words d some order turns replay plan curve (Turns seed parts) is =
+    turns (word_at words d (words_of (Turns seed parts)) 0 (omega (arith, some)) is.are)
+none_of_five words d some order turns replay plan curve (Replay parts) is =
+    replay (word_at words d (words_of (Replay parts)) 0 (omega (arith, some)) is.are)
+none_of_five words d some order turns replay plan curve (Planned size) is =
+    plan (word_at words d (words_of (Planned size)) 0 (omega (arith, some)) is.are)
+none_of_five words d some order turns replay plan curve Curve is = curve (word_at words d (words_of Curve) 0 (omega (arith, some)) is.are)

@@ -64,6 +64,10 @@ pub record AreWords (words : List (Bor (List ℕ))) (form : Form) : Type 0 where
   pub are : are_of words ≡ words_of form
   pub numbers : AreInRange form
 
+-- the words behind this first one are a form's
+abbrev pub AreBehind : (first : List ℕ) → List (Bor (List ℕ)) → Form → Type 0
+AreBehind first words form = (first ∷ are_of words ≡ words_of form) × AreInRange form
+
 -- the words are of some form
 abbrev pub IsForm : List (Bor (List ℕ)) → Type 0
 IsForm words = (form : Form) × AreWords words form

@@ -1,8 +1,9 @@
 //! The forms of the program's words.
 
-ghost use Rattle.std.specs.Prelude.{◌≡◌, ◌≢◌, ℕ, ◌^◌, ◌<◌, ◌≤◌, [], ◌∷◌, ◌↔◌, IsTrue, IfSome, IfNone, decimal};
+ghost use Rattle.std.specs.Prelude.{◌≡◌, ◌≢◌, ℕ, ◌^◌, ◌<◌, ◌≤◌, [], ◌∷◌, ◌↔◌, IsTrue, IfSome, IfNone, codes, decimal};
 ghost use Rattle.report_text.specs.declared.report.Parts.{Parts as Printed};
-ghost use Rattle.pager_command.specs.Forms.{AreLargeWords, AreMakingWords, AreOfCommand, AreWords, IsCommand, IsForm, IsLarge, IsMaking, IsForOneProcessor, are_of, parts_words};
+ghost use Rattle.pager_command.specs.declared.form.Form.{Form as Asked};
+ghost use Rattle.pager_command.specs.Forms.{AreBehind, AreLargeWords, AreMakingWords, AreOfCommand, AreWords, IsCommand, IsForm, IsLarge, IsMaking, IsForOneProcessor, are_of, parts_words};
 ghost use Rattle.trace_make.specs.Made.{CanMake};
 
 use itoa::Buffer;
@@ -122,21 +123,70 @@ fn form_of(words: &[&str]) -> Option<Form>
     ensures some { IfSome result (AreWords words.now) }
     ensures none { IfNone result (IsForm words.now → ⊥) }
 {
+    let [word, rest @ ..] = words else {
+        return None;
+    };
+    match *word {
+        "order" => order_asked(rest),
+        "turns" => turns_asked(rest),
+        "replay" => replay_asked(rest),
+        "plan" => plan_asked(rest),
+        "curve" => curve_asked(rest),
+        _ => None,
+    }
+}
+
+/// The form that the words after `order` are of, where they are of one.
+fn order_asked(words: &[&str]) -> Option<Form>
+    ensures some { IfSome result (AreBehind (codes "order") words.now) }
+    ensures none { IfNone result ((form : Asked) → AreBehind (codes "order") words.now form → ⊥) }
+{
+    Some(Form::Order {
+        parts: parts_asked(words)?,
+    })
+}
+
+/// The form that the words after `turns` are of, where they are of one.
+fn turns_asked(words: &[&str]) -> Option<Form>
+    ensures some { IfSome result (AreBehind (codes "turns") words.now) }
+    ensures none { IfNone result ((form : Asked) → AreBehind (codes "turns") words.now form → ⊥) }
+{
+    let [seed, rest @ ..] = words else {
+        return None;
+    };
+    Some(Form::Turns {
+        seed: number_of(seed)?,
+        parts: parts_asked(rest)?,
+    })
+}
+
+/// The form that the words after `replay` are of, where they are of one.
+fn replay_asked(words: &[&str]) -> Option<Form>
+    ensures some { IfSome result (AreBehind (codes "replay") words.now) }
+    ensures none { IfNone result ((form : Asked) → AreBehind (codes "replay") words.now form → ⊥) }
+{
+    Some(Form::Replay {
+        parts: parts_asked(words)?,
+    })
+}
+
+/// The form that the words after `plan` are of, where they are of one.
+fn plan_asked(words: &[&str]) -> Option<Form>
+    ensures some { IfSome result (AreBehind (codes "plan") words.now) }
+    ensures none { IfNone result ((form : Asked) → AreBehind (codes "plan") words.now form → ⊥) }
+{
+    Some(Form::Plan {
+        size: size_asked(words)?,
+    })
+}
+
+/// The form that the words after `curve` are of, where there are none.
+fn curve_asked(words: &[&str]) -> Option<Form>
+    ensures some { IfSome result (AreBehind (codes "curve") words.now) }
+    ensures none { IfNone result ((form : Asked) → AreBehind (codes "curve") words.now form → ⊥) }
+{
     match words {
-        [word, rest @ ..] if *word == "order" => Some(Form::Order {
-            parts: parts_asked(rest)?,
-        }),
-        [word, seed, rest @ ..] if *word == "turns" => Some(Form::Turns {
-            seed: number_of(seed)?,
-            parts: parts_asked(rest)?,
-        }),
-        [word, rest @ ..] if *word == "replay" => Some(Form::Replay {
-            parts: parts_asked(rest)?,
-        }),
-        [word, rest @ ..] if *word == "plan" => Some(Form::Plan {
-            size: size_asked(rest)?,
-        }),
-        [word] if *word == "curve" => Some(Form::Curve),
+        [] => Some(Form::Curve),
         _ => None,
     }
 }

@@ -1,51 +1,59 @@
-use Rattle.std.proofs.Common.{rules, codes, decimal, [], ◌∷◌}
-use Rattle.pager_command.specs.Forms.{parts_words}
-use Rattle.pager_command.proofs.Words.{first_word, one_word, two_words}
+use Rattle.std.proofs.Common.{codes, []}
+use Rattle.pager_command.proofs.Words.{form_behind, no_form_behind, none_of_five}
 use Rattle.pager_command.proofs.form.form_of.Goals as goal
 
-pub returns-in_ok-parts_asked-in-len1-up-clause-some : goal.returns-in_ok-parts_asked-in-len1-up-clause-some
-returns-in_ok-parts_asked-in-len1-up-clause-some c =
-    record {
-      are = first_word c.args.words.now (record { ref_ptr = (0, 0); now = [] }) (codes "order") c.eq.result
-          (parts_words c.in_ok-parts_asked-in-len1-up.field-0) c.in-len1-up.len_at_least c.eq.ensures c.if-eq.true
-          c.in_ok-parts_asked-in-len1-up.ensures.some;
-      numbers = tt;
-    }
+pub returns-in-order-clause-some : goal.returns-in-order-clause-some
+returns-in-order-clause-some c =
+    form_behind c.order_asked.result c.args.words.now (record { ref_ptr = (0, 0); now = [] }) (codes "order")
+    c.in-len1-up.len_at_least c.in-order.is c.order_asked.ensures.some
 
-pub returns-in_ok-parts_asked-in-len2-up-clause-some : goal.returns-in_ok-parts_asked-in-len2-up-clause-some
-returns-in_ok-parts_asked-in-len2-up-clause-some c =
-    record {
-      are = two_words c.args.words.now (record { ref_ptr = (0, 0); now = [] }) (record { ref_ptr = (0, 0); now = [] }) (codes "turns")
-          (decimal c.in_ok-number_of-in-len2-up.field-0) c.eq-2.result
-          (parts_words c.in_ok-parts_asked-in-len2-up.field-0) c.in-len2-up.len_at_least c.eq-2.ensures c.if-eq-2.true
-          c.in_ok-number_of-in-len2-up.ensures.some c.in_ok-parts_asked-in-len2-up.ensures.some;
-      numbers = search rules;
-    }
+pub returns-in-order-clause-none : goal.returns-in-order-clause-none
+returns-in-order-clause-none c =
+    no_form_behind c.order_asked.result c.args.words.now (record { ref_ptr = (0, 0); now = [] }) (codes "order")
+    c.in-len1-up.len_at_least c.in-order.is c.order_asked.ensures.none
 
-pub returns-in_ok-parts_asked-in-len1-up-2-clause-some : goal.returns-in_ok-parts_asked-in-len1-up-2-clause-some
-returns-in_ok-parts_asked-in-len1-up-2-clause-some c =
-    record {
-      are = first_word c.args.words.now (record { ref_ptr = (0, 0); now = [] }) (codes "replay") c.eq-3.result
-          (parts_words c.in_ok-parts_asked-in-len1-up-2.field-0) c.in-len1-up.len_at_least c.eq-3.ensures c.if-eq-3.true
-          c.in_ok-parts_asked-in-len1-up-2.ensures.some;
-      numbers = tt;
-    }
+pub returns-in-turns-clause-some : goal.returns-in-turns-clause-some
+returns-in-turns-clause-some c =
+    form_behind c.turns_asked.result c.args.words.now (record { ref_ptr = (0, 0); now = [] }) (codes "turns")
+    c.in-len1-up.len_at_least c.in-turns.is c.turns_asked.ensures.some
 
-pub returns-in_ok-size_asked-in-len1-up-3-clause-some : goal.returns-in_ok-size_asked-in-len1-up-3-clause-some
-returns-in_ok-size_asked-in-len1-up-3-clause-some c =
-    let size = c.in_ok-size_asked-in-len1-up-3.field-0 in
-    let found = c.in_ok-size_asked-in-len1-up-3.ensures.some in
-    record {
-      are = first_word c.args.words.now (record { ref_ptr = (0, 0); now = [] }) (codes "plan") c.eq-4.result
-          (decimal size ∷ []) c.in-len1-up.len_at_least c.eq-4.ensures c.if-eq-4.true found.0;
-      numbers = (found.1, found.2);
-    }
+pub returns-in-turns-clause-none : goal.returns-in-turns-clause-none
+returns-in-turns-clause-none c =
+    no_form_behind c.turns_asked.result c.args.words.now (record { ref_ptr = (0, 0); now = [] }) (codes "turns")
+    c.in-len1-up.len_at_least c.in-turns.is c.turns_asked.ensures.none
 
-pub returns-in-len1-clause-some : goal.returns-in-len1-clause-some
-returns-in-len1-clause-some c =
-    record {
-      are = (one_word c.args.words.now (record { ref_ptr = (0, 0); now = [] })
-          (codes "curve") c.eq-then-words-lt2-2.result c.in-len1.len_at_least c.in-len1.len_below c.eq-then-words-lt2-2.ensures).0
-          c.if-eq-5.true;
-      numbers = tt;
-    }
+pub returns-in-replay-clause-some : goal.returns-in-replay-clause-some
+returns-in-replay-clause-some c =
+    form_behind c.replay_asked.result c.args.words.now (record { ref_ptr = (0, 0); now = [] }) (codes "replay")
+    c.in-len1-up.len_at_least c.in-replay.is c.replay_asked.ensures.some
+
+pub returns-in-replay-clause-none : goal.returns-in-replay-clause-none
+returns-in-replay-clause-none c =
+    no_form_behind c.replay_asked.result c.args.words.now (record { ref_ptr = (0, 0); now = [] }) (codes "replay")
+    c.in-len1-up.len_at_least c.in-replay.is c.replay_asked.ensures.none
+
+pub returns-in-plan-clause-some : goal.returns-in-plan-clause-some
+returns-in-plan-clause-some c =
+    form_behind c.plan_asked.result c.args.words.now (record { ref_ptr = (0, 0); now = [] }) (codes "plan")
+    c.in-len1-up.len_at_least c.in-plan.is c.plan_asked.ensures.some
+
+pub returns-in-plan-clause-none : goal.returns-in-plan-clause-none
+returns-in-plan-clause-none c =
+    no_form_behind c.plan_asked.result c.args.words.now (record { ref_ptr = (0, 0); now = [] }) (codes "plan")
+    c.in-len1-up.len_at_least c.in-plan.is c.plan_asked.ensures.none
+
+pub returns-in-curve-clause-some : goal.returns-in-curve-clause-some
+returns-in-curve-clause-some c =
+    form_behind c.curve_asked.result c.args.words.now (record { ref_ptr = (0, 0); now = [] }) (codes "curve")
+    c.in-len1-up.len_at_least c.in-curve.is c.curve_asked.ensures.some
+
+pub returns-in-curve-clause-none : goal.returns-in-curve-clause-none
+returns-in-curve-clause-none c =
+    no_form_behind c.curve_asked.result c.args.words.now (record { ref_ptr = (0, 0); now = [] }) (codes "curve")
+    c.in-len1-up.len_at_least c.in-curve.is c.curve_asked.ensures.none
+
+pub returns-in_default-word-clause-none : goal.returns-in_default-word-clause-none
+returns-in_default-word-clause-none c = λ form.
+    let other = c.in_default-word in
+    none_of_five c.args.words.now (record { ref_ptr = (0, 0); now = [] }) c.in-len1-up.len_at_least
+    other.not-order other.not-turns other.not-replay other.not-plan other.not-curve form.0 form.1

@@ -2,9 +2,43 @@ use Rattle.std.proofs.Common.{◌≡◌, true, false, rules, [], sym, subst, ◌
 use Rattle.pager_command.specs.declared.form.Making.{Making}
 use Rattle.pager_command.specs.Forms.{are_of, making_words}
 use Rattle.pager_command.proofs.OneForm.{below_32_bits, same_making}
-use Rattle.pager_command.proofs.Words.{frames_word, making_of_six}
+use Rattle.pager_command.proofs.Words.{making_of_six, word_at}
 use Rattle.trace_make.specs.Made.{CanMake}
 use Rattle.pager_command.proofs.form.making_of.Goals as goal
+
+pub returns-in_err-number_of-in-len6-clause-none : goal.returns-in_err-number_of-in-len6-clause-none
+returns-in_err-number_of-in-len6-clause-none c =
+    rw c.from_residual.ensures
+    (λ m.
+    c.in_err-number_of-in-len6.ensures.none m.0.number m.1.number
+    (word_at c.args.words.now (record { ref_ptr = (0, 0); now = [] }) (making_words m.0) 1 (omega (arith, c.in-len6.len_at_least)) m.1.are))
+
+pub returns-in_err-small_number_of-in-len6-clause-none : goal.returns-in_err-small_number_of-in-len6-clause-none
+returns-in_err-small_number_of-in-len6-clause-none c =
+    rw c.from_residual-in_err-small_number_of-in-len6.ensures
+    (λ m.
+    let made = m.0 in
+    let below = below_32_bits made.calls made.processors made.spaces made.frames m.1.can in
+    c.in_err-small_number_of-in-len6.ensures.none m.0.calls below.0
+    (word_at c.args.words.now (record { ref_ptr = (0, 0); now = [] }) (making_words m.0) 2 (omega (arith, c.in-len6.len_at_least)) m.1.are))
+
+pub returns-in_err-small_number_of-in-len6-2-clause-none : goal.returns-in_err-small_number_of-in-len6-2-clause-none
+returns-in_err-small_number_of-in-len6-2-clause-none c =
+    rw c.from_residual-in_err-small_number_of-in-len6-2.ensures
+    (λ m.
+    let made = m.0 in
+    let below = below_32_bits made.calls made.processors made.spaces made.frames m.1.can in
+    c.in_err-small_number_of-in-len6-2.ensures.none m.0.processors below.1
+    (word_at c.args.words.now (record { ref_ptr = (0, 0); now = [] }) (making_words m.0) 3 (omega (arith, c.in-len6.len_at_least)) m.1.are))
+
+pub returns-in_err-small_number_of-in-len6-3-clause-none : goal.returns-in_err-small_number_of-in-len6-3-clause-none
+returns-in_err-small_number_of-in-len6-3-clause-none c =
+    rw c.from_residual-in_err-small_number_of-in-len6-3.ensures
+    (λ m.
+    let made = m.0 in
+    let below = below_32_bits made.calls made.processors made.spaces made.frames m.1.can in
+    c.in_err-small_number_of-in-len6-3.ensures.none m.0.spaces below.2
+    (word_at c.args.words.now (record { ref_ptr = (0, 0); now = [] }) (making_words m.0) 4 (omega (arith, c.in-len6.len_at_least)) m.1.are))
 
 pub returns-in_err-small_number_of-in-len6-4-clause-none : goal.returns-in_err-small_number_of-in-len6-4-clause-none
 returns-in_err-small_number_of-in-len6-4-clause-none c =
@@ -12,8 +46,8 @@ returns-in_err-small_number_of-in-len6-4-clause-none c =
     (λ m.
     let made = m.0 in
     let below = below_32_bits made.calls made.processors made.spaces made.frames m.1.can in
-    c.in_err-small_number_of-in-len6-4.ensures.none made.frames below.3
-    (frames_word c.args.words.now (record { ref_ptr = (0, 0); now = [] }) made c.in-len6.len_at_least m.1))
+    c.in_err-small_number_of-in-len6-4.ensures.none m.0.frames below.3
+    (word_at c.args.words.now (record { ref_ptr = (0, 0); now = [] }) (making_words m.0) 5 (omega (arith, c.in-len6.len_at_least)) m.1.are))
 
 pub returns-then-not-is_possible-clause-none : goal.returns-then-not-is_possible-clause-none
 returns-then-not-is_possible-clause-none c = λ m.
@@ -56,3 +90,18 @@ returns-else-not-is_possible-clause-some c =
       number = omega arith;
       can = c.is_possible.ensures.0 yes;
     }
+
+pub returns-in_err-number_of-in-len6-clause-some : goal.returns-in_err-number_of-in-len6-clause-some
+returns-in_err-number_of-in-len6-clause-some c = rw c.from_residual.ensures tt
+
+pub returns-in_err-small_number_of-in-len6-clause-some : goal.returns-in_err-small_number_of-in-len6-clause-some
+returns-in_err-small_number_of-in-len6-clause-some c = rw c.from_residual-in_err-small_number_of-in-len6.ensures tt
+
+pub returns-in_err-small_number_of-in-len6-2-clause-some : goal.returns-in_err-small_number_of-in-len6-2-clause-some
+returns-in_err-small_number_of-in-len6-2-clause-some c = rw c.from_residual-in_err-small_number_of-in-len6-2.ensures tt
+
+pub returns-in_err-small_number_of-in-len6-3-clause-some : goal.returns-in_err-small_number_of-in-len6-3-clause-some
+returns-in_err-small_number_of-in-len6-3-clause-some c = rw c.from_residual-in_err-small_number_of-in-len6-3.ensures tt
+
+pub returns-in_err-small_number_of-in-len6-4-clause-some : goal.returns-in_err-small_number_of-in-len6-4-clause-some
+returns-in_err-small_number_of-in-len6-4-clause-some c = rw c.from_residual-in_err-small_number_of-in-len6-4.ensures tt

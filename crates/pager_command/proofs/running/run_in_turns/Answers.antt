@@ -1,6 +1,6 @@
 use Rattle.std.proofs.Common.{◌≤◌, length, map, refl, rules}
 use Rattle.pager_command.specs.Views.{ends, views}
-use Rattle.pager_command.proofs.FormRuns.{RunsBy-ended, RunsBy-stopped, RunsBy-unmade, WasRun-over}
+use Rattle.pager_command.proofs.FormRuns.{RunsBy-ended, RunsBy-stopped, RunsBy-unmade, WasRun-over, is_some_run}
 use Rattle.pager_command.proofs.running.run_in_turns.Goals as goal
 
 pub returns-in-Err : goal.returns-in-Err
@@ -45,3 +45,9 @@ returns-in-Ok-replay_in_turns g c =
     })
     c.in-Ok.trace c.in-Ok-replay_in_turns.gathered read.read read.no_fault enough read.admitted ran.ordered was
     (c.write_run.ensures (map g.S.Store.seen c.args.stores.items) was)
+
+pub write_run-requires-clause-run : goal.write_run-requires-clause-run
+write_run-requires-clause-run g c κs _ =
+    let ran = c.in-Ok-replay_in_turns.ensures in
+    let enough : c.in-Ok.trace.spaces ≤ length c.args.stores.items = search rules in
+    is_some_run g.S.Store.seen c.in-Ok.trace c.args.stores.items c.in-Ok-replay_in_turns.gathered enough ran.run ran.counts
