@@ -59,3 +59,13 @@ fn level_of(word: &str) -> u8 {
 fn count(word: &str) -> u32 {
     number(word).unwrap_or(0)
 }
+
+/// Whether all words are this one.
+fn are_all(words: &[u64], word: u64) -> bool {
+    for &other in words {
+        if other != word {
+            return false;
+        }
+    }
+    true
+}

@@ -110,8 +110,13 @@ impl Beside {
 
     /// Whether it has as many free frames as the flags say.
     fn counts_alike(&self) -> bool {
-        let free = self.flags.iter().filter(|free| **free).count();
-        self.free.count() as usize == free
+        let mut count = 0u32;
+        for &free in self.flags.iter() {
+            if free {
+                count = count.wrapping_add(1);
+            }
+        }
+        self.free.count() == count
     }
 
     /// Whether so many takings of a size give the extents from frame 0 on in order.
@@ -177,7 +182,10 @@ impl Beside {
         let wanted = number(wanted);
         match call {
             "take" => self.take(size) == wanted,
-            "give" => wanted.is_some_and(|first| self.give(size, first)),
+            "give" => match wanted {
+                Some(first) => self.give(size, first),
+                None => false,
+            },
             "has" => self.has(size) == wanted.is_some(),
             _ => Some(self.free.count()) == wanted,
         }

@@ -99,6 +99,15 @@ struct Row {
     frame: u32,
 }
 
+/// Whether a row is older than the other, or of its stamp and of a lower frame, or there is no other.
+fn is_before(row: Row, other: Option<Row>) -> bool {
+    match other {
+        Some(other) => row.stamp < other.stamp
+            || row.stamp == other.stamp && row.frame < other.frame,
+        None => true,
+    }
+}
+
 /// The lists beside a plain list of their members, in no order.
 #[derive(Drop)]
 struct Beside {
@@ -129,8 +138,13 @@ impl Beside {
 
     /// The oldest row of a size in the plain list.
     fn oldest(&self, level: u8) -> Option<Row> {
-        let of_size = self.rows.iter().filter(|row| row.level == level);
-        of_size.min_by_key(|row| (row.stamp, row.frame)).copied()
+        let mut oldest: Option<Row> = None;
+        for &row in self.rows.iter() {
+            if row.level == level && is_before(row, oldest) {
+                oldest = Some(row);
+            }
+        }
+        oldest
     }
 
     /// A frame to take out: that of the row of the drawn number, or the drawn one, which most likely has no member.
@@ -144,7 +158,10 @@ impl Beside {
 
     /// Whether both have the same oldest member of a size.
     fn is_alike(&self, level: u8) -> bool {
-        self.lists.oldest(level) == self.oldest(level).map(|row| row.frame)
+        match self.oldest(level) {
+            Some(row) => self.lists.oldest(level) == Some(row.frame),
+            None => self.lists.oldest(level).is_none(),
+        }
     }
 }
 
@@ -263,12 +280,13 @@ fn the_oldest_of_a_size_comes_first(rt: HostRuntime) {
 /// Whether new lists over so many frames are empty.
 fn are_empty(rt: &impl Abort, alloc: Global, frames: u32) -> bool {
     let lists = Lists::create(alloc, frames).expect(rt, NO_MEMORY);
-    let oldest = [
-        lists.oldest(size(0)),
-        lists.oldest(size(1)),
-        lists.oldest(size(2)),
-    ];
-    oldest == [None; 3]
+    has_none(&lists)
+}
+
+fn has_none(lists: &Lists) -> bool {
+    lists.oldest(size(0)).is_none()
+        && lists.oldest(size(1)).is_none()
+        && lists.oldest(size(2)).is_none()
 }
 
 #[test]

@@ -225,12 +225,17 @@ const PLACES: &str = "\
 4294967295 - 1048576
 ";
 
+/// The first page of the region that has a page.
+fn first_of(regions: &Regions, page: u32) -> Option<u32> {
+    let region = regions.find(page)?;
+    Some(region.first)
+}
+
 /// Whether a page has its region and the next start as its row says.
 fn is_placed(regions: &Regions, row: &str) -> bool {
     let [page, first, next, ..] = words(row);
     let page = count(page);
-    let found = regions.find(page).map(|region| region.first);
-    found == number(first) && regions.next_start(page) == count(next)
+    first_of(regions, page) == number(first) && regions.next_start(page) == count(next)
 }
 
 #[test]

@@ -67,7 +67,8 @@ fn populate(rt: &impl Abort, kept: &mut Reservations, id: u32, page: u32, stamp:
 /// The level of the yield.
 fn yields(rt: &impl Abort, kept: &Reservations, id: u32) -> Option<u8> {
     assert!(rt; kept.get(id).is_some());
-    kept.yields(id).map(|size| size.level())
+    let size = kept.yields(id)?;
+    Some(size.level())
 }
 
 fn split(rt: &impl Abort, kept: &mut Reservations, id: u32) -> [Part; 8] {
@@ -104,8 +105,13 @@ fn nth_page(order: Order, level: u8, n: u32) -> u32 {
 /// The yield after so many pages: that of the last row that begins at most there. Each row has a number of pages and the
 /// yield from then on.
 fn yield_after(rows: &[(u32, Option<u8>)], pages: u32) -> Option<u8> {
-    let row = rows.iter().rev().find(|(from, _)| *from <= pages)?;
-    row.1
+    let mut last = None;
+    for &(from, level) in rows {
+        if from <= pages {
+            last = level;
+        }
+    }
+    last
 }
 
 /// A level, an order in which its pages are filled, and the yields then.
@@ -208,9 +214,10 @@ fn is_kept(
 /// Splits the 64 pages, and asserts what becomes of each part.
 fn split_all(rt: &impl Abort, kept: &mut Reservations) {
     let parts = split(rt, kept, 64);
-    for (part, &(frame, yield_of_kept)) in parts.iter().zip(PARTS.iter()) {
+    for i in 0..8usize {
+        let (frame, yield_of_kept) = PARTS[i];
         let whole = reservation(1, frame.wrapping_add(64), frame, 9);
-        let told = told(part) == (1, frame, yield_of_kept.is_none());
+        let told = told(&parts[i]) == (1, frame, yield_of_kept.is_none());
         assert!(rt;
             told && is_kept(rt, kept, whole, yield_of_kept),
             "frame {frame}"
@@ -267,8 +274,8 @@ fn dissolve(rt: &impl Abort, kept: &mut Reservations, id: u32, page: u32) -> boo
 
 /// Whether all parts but these two are empty.
 fn are_empty_but(parts: &[Part; 8], kept: [u32; 2]) -> bool {
-    for (i, part) in (0..).zip(parts) {
-        if part.empty == kept.contains(&i) {
+    for i in 0..8u32 {
+        if parts[i as usize].empty == kept.contains(&i) {
             return false;
         }
     }
@@ -319,8 +326,10 @@ fn add_all(rt: &impl Abort, kept: &mut Reservations, rows: &str)
 
 /// Whether the reservation at a frame is this one, where it has a level.
 fn is_at(kept: &Reservations, frame: u32, level: &str, first: u32, stamp: u64) -> bool {
-    let wanted = reservation(level_of(level), first, frame, stamp);
-    kept.get(frame) == number(level).map(|_| wanted)
+    if number(level).is_none() {
+        return kept.get(frame).is_none();
+    }
+    kept.get(frame) == Some(reservation(level_of(level), first, frame, stamp))
 }
 
 /// Whether a step goes as it says.

@@ -1,5 +1,5 @@
 //! Rooms for words: what they hold, and that each has its own.
-use super::NO_MEMORY;
+use super::{NO_MEMORY, are_all};
 use pager_model::Generator;
 use std::process::Abort;
 use word_rooms::{Room, rooms};
@@ -14,9 +14,18 @@ const COUNTS: [usize; 5] = [0, 1, 64, 65, 130];
 fn rooms_begin_empty(rt: HostRuntime) {
     for count in COUNTS {
         let rooms = rooms(rt.alloc(), count).expect(&rt, NO_MEMORY);
-        let empty = rooms.iter().all(|room| room.is_empty());
+        let empty = are_empty(rooms.as_slice());
         assert!(rt; rooms.len() == count && empty, "{count} rooms");
     }
+}
+
+fn are_empty(rooms: &[Room]) -> bool {
+    for room in rooms {
+        if !room.is_empty() {
+            return false;
+        }
+    }
+    true
 }
 
 /// Fills a room, and writes this word at each place.
@@ -29,7 +38,10 @@ fn write(room: &mut Room, word: u64) {
 fn word_of(room: &Room) -> Option<u64> {
     let words = room.as_slice();
     let word = *words.first()?;
-    (words.len() == 1024 && words.iter().all(|other| *other == word)).then_some(word)
+    if words.len() != 1024 || !are_all(words, word) {
+        return None;
+    }
+    Some(word)
 }
 
 /// Whether a room that is written is empty when it was cleared, and zero when it is filled again.
@@ -47,18 +59,28 @@ fn rooms_are_filled_and_cleared(rt: HostRuntime) {
     assert!(rt; rooms.iter_mut().all(starts_anew));
 }
 
+/// Takes the room at a place away, or the last one where there is none at the place.
+fn take(rooms: &mut Vec<Room>, place: usize) -> Option<Room> {
+    if place < rooms.len() {
+        Some(rooms.swap_remove(place))
+    } else {
+        rooms.pop()
+    }
+}
+
+/// The word of a room that is taken away. None if it has other words than were written.
+fn take_word(rooms: &mut Vec<Room>, place: usize) -> Option<u64> {
+    let room = take(rooms, place)?;
+    word_of(&room)
+}
+
 /// Takes the rooms away from places that are drawn, and sums up their words. None if one has other words than were written.
-fn take_all(mut rooms: Vec<Room>) -> Option<u64> {
+fn take_all(rooms: &mut Vec<Room>) -> Option<u64> {
     let mut random = Generator::of(3);
     let mut sum = 0u64;
     for _ in 0..rooms.len() {
         let place = random.draw(DRAWN) as usize;
-        let room = if place < rooms.len() {
-            rooms.swap_remove(place)
-        } else {
-            rooms.pop()?
-        };
-        sum = sum.wrapping_add(word_of(&room)?);
+        sum = sum.wrapping_add(take_word(rooms, place)?);
     }
     Some(sum)
 }
@@ -69,5 +91,5 @@ fn rooms_go_in_any_order(rt: HostRuntime) {
     for (room, word) in rooms.iter_mut().zip(0..) {
         write(room, word);
     }
-    assert!(rt; take_all(rooms) == Some(8385));
+    assert!(rt; take_all(&mut rooms) == Some(8385));
 }

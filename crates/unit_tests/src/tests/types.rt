@@ -1,12 +1,12 @@
 //! Frames, page sizes and sets of sizes.
-use super::{NO_MEMORY, level_of, size, words};
+use super::{NO_MEMORY, are_all, level_of, size, words};
 use pager_model::{Frame, Size, Sizes, frames_of};
 use std::process::Abort;
 
 /// Whether a frame has this number, and 1,024 words that are zero.
 fn is_fresh(frame: &Frame, number: usize) -> bool {
     let words = frame.words();
-    frame.number() as usize == number && words.len() == 1024 && words.iter().all(|word| *word == 0)
+    frame.number() as usize == number && words.len() == 1024 && are_all(words, 0)
 }
 
 /// Whether all frames are so, with the numbers from 0 on.
@@ -79,7 +79,13 @@ fn levels_at(sizes: Sizes, level: u8) -> (bool, u8, Option<u8>) {
     let has = sizes.has(size);
     let below = if has { sizes.below(size) } else { None };
     let within = sizes.within(size).level();
-    (has, within, below.map(|smaller| smaller.level()))
+    (has, within, level_in(below))
+}
+
+/// The level of a size, where there is one.
+fn level_in(size: Option<Size>) -> Option<u8> {
+    let size = size?;
+    Some(size.level())
 }
 
 /// Whether a set of sizes has the levels of its row.

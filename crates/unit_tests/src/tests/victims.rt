@@ -42,15 +42,24 @@ fn are_older(plain: &[Option<Used>], age: u64) -> bool
 /// The frame of least age among those that aren't wired, without the claimed ones or with them.
 fn oldest(plain: &[Option<Used>], with_claimed: bool) -> Option<u32> {
     let mut oldest: Option<(u32, u64)> = None;
-    for (frame, note) in (0..).zip(plain) {
-        if let Some(used) = note {
+    for frame in 0..FRAMES {
+        if let Some(used) = note_of(plain, frame) {
             let counts = !used.wired && (with_claimed || used.claim.is_none());
-            if counts && oldest.is_none_or(|(_, least)| used.age < least) {
+            if counts && is_less(used.age, oldest) {
                 oldest = Some((frame, used.age));
             }
         }
     }
-    oldest.map(|(frame, _)| frame)
+    let (frame, _) = oldest?;
+    Some(frame)
+}
+
+/// Whether an age is less than that of the frame, or there is no frame.
+fn is_less(age: u64, frame: Option<(u32, u64)>) -> bool {
+    match frame {
+        Some((_, least)) => age < least,
+        None => true,
+    }
 }
 
 /// What is noted of the frame.
@@ -62,18 +71,25 @@ fn note_of(plain: &[Option<Used>], frame: u32) -> Option<Used>
 
 /// The frame that the processor claims.
 fn claimed_by(plain: &[Option<Used>], processor: u32) -> Option<u32> {
-    let claims = |note: &Option<Used>| note.is_some_and(|used| used.claim == Some(processor));
-    let frame = plain.iter().position(claims)?;
-    u32::try_from(frame).ok()
+    for frame in 0..FRAMES {
+        if let Some(used) = note_of(plain, frame) {
+            if used.claim == Some(processor) {
+                return Some(frame);
+            }
+        }
+    }
+    None
 }
 
 /// How many frames are used, how many of them are wired, and how many claimed.
 fn counts(plain: &[Option<Used>]) -> (u32, u32, u32) {
     let (mut used, mut wired, mut claimed) = (0u32, 0u32, 0u32);
-    for note in plain.iter().flatten() {
-        used = used.wrapping_add(1);
-        wired = wired.wrapping_add(u32::from(note.wired));
-        claimed = claimed.wrapping_add(u32::from(note.claim.is_some()));
+    for note in plain {
+        if let Some(note) = note {
+            used = used.wrapping_add(1);
+            wired = wired.wrapping_add(u32::from(note.wired));
+            claimed = claimed.wrapping_add(u32::from(note.claim.is_some()));
+        }
     }
     (used, wired, claimed)
 }
