@@ -1,28 +1,72 @@
-//! The frames that pages get, in worked rows and over drawn calls beside a slow pool over plain lists.
-mod both;
-mod calls;
-mod drawn;
-mod full;
-mod plain;
-mod rows;
-mod sizes;
-mod tested;
+//! Each crate's tests in a module: worked rows, and drawn calls beside a slow plain copy.
+ghost use Rattle.std.specs.Prelude.{◌≡◌, min};
 
-use pager_model::Want;
+mod blocks;
+mod members;
+mod numbers;
+mod pool;
+mod populations;
+mod preferences;
+mod regions;
+mod reserved;
+mod rooms;
+mod types;
+mod victims;
 
-/// How many frames a pool has that is compared with the plain one.
-const FRAMES: u32 = 512;
+use pager_model::Size;
+use std::str::SplitWhitespace;
 
-/// How many processors it has.
-const PROCESSORS: u32 = 4;
+/// What is said where there is no memory for a test.
+const NO_MEMORY: &str = "no memory";
 
-/// All page sizes, by how many base pages each has. Lists of sizes are in descending order, and have that of 1.
-const ALL_SIZES: &[u32] = &[512, 64, 8, 1];
+/// The size of a level, and above level 3 the largest.
+fn size(level: u8) -> Size
+    ensures { result ≡ min level 3 }
+{
+    Size::at_level(level.min(3))
+}
 
-/// A region of 1,024 pages.
-const PLAIN: Want = Want {
-    low: 0,
-    high: 1024,
-    cap: 1024,
-    wired: false,
-};
+/// The next word of a row, and an empty one behind the last.
+fn word<'a>(words: &mut SplitWhitespace<'a>) -> &'a str {
+    words.next().unwrap_or("")
+}
+
+/// The first eight words of a table's row, and empty ones behind its last.
+fn words(row: &str) -> [&str; 8] {
+    let mut words = row.split_whitespace();
+    [
+        word(&mut words),
+        word(&mut words),
+        word(&mut words),
+        word(&mut words),
+        word(&mut words),
+        word(&mut words),
+        word(&mut words),
+        word(&mut words),
+    ]
+}
+
+/// The number that a word names. None for a dash.
+fn number(word: &str) -> Option<u32> {
+    word.parse::<u32>().ok()
+}
+
+/// The level that a word names, or 0.
+fn level_of(word: &str) -> u8 {
+    word.parse::<u8>().unwrap_or(0)
+}
+
+/// The number that a word names, or 0.
+fn count(word: &str) -> u32 {
+    number(word).unwrap_or(0)
+}
+
+/// Whether all words are this one.
+fn are_all(words: &[u64], word: u64) -> bool {
+    for &other in words {
+        if other != word {
+            return false;
+        }
+    }
+    true
+}

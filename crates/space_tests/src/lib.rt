@@ -1,4 +1,4 @@
-//! Tests of a space by its public calls, over stores in memory that may fail.
+//! Tests of what a space keeps of its pages and of the space, and of what a history leads to in it, by their public calls.
 #![tactic(auto)]
 
 #[cfg(test)]

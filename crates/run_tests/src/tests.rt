@@ -1,0 +1,4 @@
+//! Runs by the crate that makes them.
+mod command;
+mod machine;
+mod replay;

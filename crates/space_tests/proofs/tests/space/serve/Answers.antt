@@ -1,0 +1,98 @@
+use Rattle.std.proofs.Common.{◌≡◌, ℕ, length, sym, ap, ◌∙◌, arith, inl, inr}
+use Rattle.std.proofs.lemmas.Bool.{cases_eq}
+use Rattle.std.proofs.lemmas.Option.{none-some, same_Some}
+use Rattle.space_core.specs.Standing.{Kept, StandsFor, frame_at}
+use Rattle.pager_model.proofs.SpaceEntries.{base-unnamed}
+use Rattle.space_tests.proofs.SpareFrames.{popped, rest_spare, still_spare, kept_others}
+use Rattle.space_tests.proofs.tests.space.serve.Goals as goal
+
+pub place-requires-clause-known : goal.place-requires-clause-known
+place-requires-clause-known c κs =
+    let last = popped _ _ _ c.requires.spare.lowest c.in-Some.ensures.items in
+    omega (arith, last, c.requires.spare.few, ap (λ (k : Kept). k.frames) c.in-NeedsFrame.ensures.same)
+
+pub place-requires-clause-other : goal.place-requires-clause-other
+place-requires-clause-other c κs p has =
+    let last = popped _ _ _ c.requires.spare.lowest c.in-Some.ensures.items in
+    let was = ap (λ (k : Kept). frame_at k p) (sym c.in-NeedsFrame.ensures.same) ∙ has in
+    omega (arith, last, c.requires.spare.apart p _ was)
+
+pub returns-in-Answered-clause-spare : goal.returns-in-Answered-clause-spare
+returns-in-Answered-clause-spare c =
+    let spare = c.requires.spare in
+    let answered = c.in-Answered.ensures in
+    let stands = answered.answers.stands spare.state spare.stands 0 in
+    still_spare _ _ _ _ answered.resting stands answered.same_frames answered.same_processors
+    (λ p number has. sym (spare.stands.base p) ∙ sym (base-unnamed spare.state.base c.args.call.now p) ∙ stands.base p ∙ has) spare
+
+pub returns-in-Ok-clause-spare : goal.returns-in-Ok-clause-spare
+returns-in-Ok-clause-spare c =
+    let spare = c.requires.spare in
+    let last = popped _ _ _ spare.lowest c.in-Some.ensures.items in
+    let begun = c.in-NeedsFrame.ensures.same in
+    let stands : StandsFor c.begin.new.self spare.state = rw begun spare.stands in
+    let placed = c.place.ensures.stands spare.state 0 c.in-NeedsFrame.want stands in
+    let read = c.in-Ok.ensures.read in
+    let same : (p : ℕ) → frame_at c.finish.new.self p ≡ frame_at c.place.new.self p = λ p. c.finish.ensures.same.frame p
+    ∙ read.same.frame p in
+    record {
+      resting = c.finish.ensures.resting;
+      processors = omega (
+        arith,
+        spare.processors,
+        c.finish.ensures.same.same.processors,
+        read.same.same.processors,
+        c.place.ensures.same.processors,
+        ap (λ (k : Kept). length k.images) begun,
+      );
+      state = _;
+      stands = c.finish.ensures.answers.stands _ (read.stands _ placed) 0;
+      lowest = last.lowest;
+      few = omega (
+        arith,
+        last,
+        spare.few,
+        c.finish.ensures.same.same.frames,
+        read.same.same.frames,
+        c.place.ensures.same.frames,
+        ap (λ (k : Kept). k.frames) begun,
+      );
+      apart = λ p number has. elim (cases_eq p c.in-NeedsFrame.page) [
+        | inl e ↦ omega (arith, last, same_Some _ _ (sym (same p ∙ ap (frame_at c.place.new.self) e ∙ c.place.ensures.resident) ∙ has))
+        | inr n ↦ omega (
+          arith,
+          last,
+          spare.apart p number
+              (sym (same p ∙ c.place.ensures.same_others p n ∙ ap (λ (k : Kept). frame_at k p) begun) ∙ has),
+        )
+      ];
+    }
+
+pub returns-in-Err-clause-spare : goal.returns-in-Err-clause-spare
+returns-in-Err-clause-spare c =
+    let spare = c.requires.spare in
+    let last = popped _ _ _ spare.lowest c.in-Some.ensures.items in
+    let begun = c.in-NeedsFrame.ensures.same in
+    let stands : StandsFor c.begin.new.self spare.state = rw begun spare.stands in
+    let placed = c.place.ensures.stands spare.state 0 c.in-NeedsFrame.want stands in
+    let failed = c.in-Err.ensures.failed in
+    let gave = c.remove.ensures.gave in
+    still_spare c.args.space.now _ _ _ c.remove.ensures.resting (c.remove.ensures.stands _ (failed.stands _ placed 0) 0)
+    (gave.same.frames ∙ failed.same.same.frames ∙ c.place.ensures.same.frames ∙ ap (λ (k : Kept). k.frames) begun)
+    (gave.same.processors ∙ failed.same.same.processors ∙ c.place.ensures.same.processors ∙ ap (λ (k : Kept). length k.images) begun)
+    (λ p number has. elim (cases_eq p c.in-NeedsFrame.page) [
+      | inl e ↦ absurd (none-some number (sym gave.gone ∙ ap (frame_at c.remove.new.self) (sym e) ∙ has))
+      | inr n ↦ sym (gave.same_others p n ∙ failed.same.frame p ∙ c.place.ensures.same_others p n ∙ ap (λ (k : Kept). frame_at k p) begun)
+          ∙ has
+    ])
+    (rest_spare _ _ _ _ last spare)
+
+pub returns-in-NeedsEvict-clause-spare : goal.returns-in-NeedsEvict-clause-spare
+returns-in-NeedsEvict-clause-spare c =
+    let spare = c.requires.spare in
+    let begun = c.in-NeedsEvict.ensures in
+    let evicted = c.evict-frame.ensures in
+    still_spare c.args.space.now _ _ _ evicted.resting (evicted.stands _ (begun.stands spare.state spare.stands) 0 0)
+    (evicted.gave.same.frames ∙ begun.same.same.frames) (evicted.gave.same.processors ∙ begun.same.same.processors)
+    (λ p number has. sym (begun.same.frame p) ∙ kept_others _ _ _ _ evicted.gave p number has)
+    spare

@@ -1,5 +1,0 @@
-//! Tests of the types, of the parts of the pool of frames and of the table of regions, by their public calls.
-#![tactic(auto)]
-
-#[cfg(test)]
-mod tests;
