@@ -11,11 +11,21 @@ fn block_start(order: u32, frame: usize) -> usize {
     frame.wrapping_shr(order).wrapping_shl(order)
 }
 
+/// Whether all are free.
+fn are_free(flags: &[bool]) -> bool {
+    for free in flags {
+        if !*free {
+            return false;
+        }
+    }
+    true
+}
+
 /// Whether the frames of the block of this order round a frame are all free. A frame past the last one isn't.
 fn block_free(flags: &[bool], order: u32, frame: usize) -> bool {
     let first = block_start(order, frame);
     match flags.get(first..first.wrapping_add(1usize.wrapping_shl(order))) {
-        Some(block) => block.iter().all(|free| *free),
+        Some(block) => are_free(block),
         None => false,
     }
 }
@@ -29,15 +39,24 @@ fn is_maximal(flags: &[bool], order: u32, first: usize) -> bool {
 
 /// The first frame of the lowest maximal free block of this order.
 fn lowest_block(flags: &[bool], order: u32) -> Option<usize> {
-    (0..flags.len()).find(|first| is_maximal(flags, order, *first))
+    for first in 0..flags.len() {
+        if is_maximal(flags, order, first) {
+            return Some(first);
+        }
+    }
+    None
 }
 
 /// The first frame of the chosen extent of this size: the lowest frames of the lowest maximal block of the least order that has
 /// one and holds the size.
 pub fn choice(flags: &[bool], size: Size) -> Option<u32> {
     let least = 3 * u32::from(size.level());
-    let first = (least..10).find_map(|order| lowest_block(flags, order))?;
-    u32::try_from(first).ok()
+    for order in least..10 {
+        if let Some(first) = lowest_block(flags, order) {
+            return u32::try_from(first).ok();
+        }
+    }
+    None
 }
 
 /// Sets each flag to `value`.
