@@ -14,7 +14,7 @@ use std::sync::ledger::Ledger;
 /// A bit for each number below 64 times the number of words.
 ///
 /// Contracts see it as a list that says of each number whether its bit is set.
-#[derive(Debug, Drop)]
+#[derive(Drop)]
 pub(crate) struct Level {
     store: Store,
 }

@@ -21,7 +21,7 @@ use std::sync::ledger::Ledger;
 /// A set of numbers below a bound.
 ///
 /// Contracts see it as a list that says of each number below the bound whether it is in.
-#[derive(Debug, Drop)]
+#[derive(Drop)]
 pub struct BitSet {
     bits: Level,
     words: Level,

@@ -7,7 +7,7 @@ use std::alloc::{AllocError, Global};
 use std::sync::ledger::Ledger;
 
 /// Words of 64 bits.
-#[derive(Debug, Drop)]
+#[derive(Drop)]
 pub(crate) struct Store {
     words: Vec<u64>,
 }

@@ -26,7 +26,7 @@ use std::sync::ledger::{Blank, Ledger};
 ///
 /// Contracts see it as a list that says of each frame whether it is free. A step of a call is a look at one word of the set, or a
 /// write of one.
-#[derive(Debug, Drop)]
+#[derive(Drop)]
 pub struct Free {
     nodes: BitSet,
     frames: u32,

@@ -11,7 +11,7 @@ use pager_model::NoMemory;
 use std::alloc::Global;
 
 /// An extent by its number among those of its size, and what emptying it costs.
-#[derive(Clone, Copy, Debug)]
+#[derive(Clone, Copy)]
 pub(crate) struct Candidate {
     pub(crate) number: u32,
     pub(crate) cost: u32,

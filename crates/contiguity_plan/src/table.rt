@@ -22,7 +22,7 @@ use run_history::History;
 use std::alloc::Global;
 
 /// The page that uses a frame, whether its region is wired, and which processor claims the frame.
-#[derive(Clone, Copy, Debug)]
+#[derive(Clone, Copy)]
 pub(crate) struct Use {
     pub(crate) page: PageOf,
     pub(crate) wired: bool,

@@ -23,7 +23,7 @@ use store::Store;
 /// Rows, each of an extent and a value, by their extents.
 ///
 /// Contracts see the row of each extent (`row`), and which extents have smaller ones with rows in them (`is_split`).
-#[derive(Debug, Drop)]
+#[derive(Drop)]
 pub struct ExtentTree<V> {
     store: Store<V>,
 }

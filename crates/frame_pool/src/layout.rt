@@ -45,7 +45,7 @@ impl Model for Layout {
 }
 
 /// An extent of frames for a new reservation, and how many reservations were broken for it.
-#[derive(Clone, Copy, Debug)]
+#[derive(Clone, Copy)]
 pub(crate) struct Found {
     size: Size,
     first: u32,
@@ -53,7 +53,7 @@ pub(crate) struct Found {
 }
 
 /// The frame of a page's place, and how many reservations were broken for it.
-#[derive(Clone, Copy, Debug)]
+#[derive(Clone, Copy)]
 pub(crate) struct Place {
     pub(crate) frame: u32,
     pub(crate) broken: u64,

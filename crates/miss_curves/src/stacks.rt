@@ -22,7 +22,7 @@ use std::marker::Model;
 pub const CAPACITIES: usize = 1024;
 
 /// The misses at each capacity, the first at capacity 1: with the tiles of the run, and with base pages alone.
-#[derive(Debug, Drop)]
+#[derive(Drop)]
 pub struct Curves {
     pub tiles: Vec<u64>,
     pub pages: Vec<u64>,

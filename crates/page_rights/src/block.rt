@@ -6,7 +6,7 @@ ghost use Rattle.page_rights.specs.Rights.{leaf_of, plain};
 use pager_model::Rights;
 
 /// The rights of a block's pages. A block that has a leaf keeps it for good.
-#[derive(Clone, Copy, Debug)]
+#[derive(Clone, Copy)]
 pub enum Block {
     /// All its pages have the same.
     Uniform {

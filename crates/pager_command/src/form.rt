@@ -22,7 +22,7 @@ pub enum Command {
 }
 
 /// In which order the trace that is read is run, and what is printed: which parts of the run before the counts, a plan, or miss curves.
-#[derive(Clone, Copy, Debug, PartialEq, Eq)]
+#[derive(Clone, Copy, PartialEq, Eq)]
 pub enum Form {
     /// To run a trace in the order of its lines.
     Order { parts: Parts },

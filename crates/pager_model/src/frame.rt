@@ -29,7 +29,7 @@ impl<T: Drop> From<AllocFailed<T>> for NoMemory {
 static ZEROS: [u64; WORDS] = [0; WORDS];
 
 /// A frame of memory: a number and 1,024 words of 64 bits. It moves, and nothing copies it.
-#[derive(Debug, Drop)]
+#[derive(Drop)]
 pub struct Frame {
     number: u32,
     /// Its words, or none of them while each is zero. Its memory is there from the start, and a frame that is never written touches none of it.

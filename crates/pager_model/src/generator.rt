@@ -15,7 +15,7 @@ const INCREMENT: u64 = 1_442_695_040_888_963_407;
 const LOW_BITS: u32 = 33;
 
 /// Draws numbers from a seed, by Knuth's generator of MMIX.
-#[derive(Debug, Drop)]
+#[derive(Drop)]
 pub struct Generator {
     state: u64,
 }

@@ -6,7 +6,7 @@ use std::marker::Model;
 /// An index, or none, in four bytes. An `Option<u32>` takes eight, which tells where there is one for each frame.
 ///
 /// Contracts see it as the option.
-#[derive(Clone, Copy, Debug, PartialEq, Eq)]
+#[derive(Clone, Copy, PartialEq, Eq)]
 pub struct OptionalIndex {
     /// The index, or `u32::MAX` where there is none.
     kept: u32,

@@ -6,7 +6,7 @@ use crate::sizes::Sizes;
 use std::marker::Model;
 
 /// What a history is legal for.
-#[derive(Debug, Drop)]
+#[derive(Drop)]
 pub struct Setting {
     frames: u32,
     sizes: Sizes,

@@ -25,7 +25,7 @@ pub enum Job {
 /// their lines.
 ///
 /// Every trace has a text of the grammar, so what it holds is within the grammar's ranges.
-#[derive(Debug, Drop)]
+#[derive(Drop)]
 pub struct Trace {
     version: u32,
     frames: u32,

@@ -37,7 +37,7 @@ const ROOTS: u32 = 2048;
 /// Contracts see the id of each extent (`id_of`), whether each page is populated (`is_populated`), and how many pages are in placed
 /// extents (`placed_pages`). There is room for three nodes of the tree for each page that may be placed, since each node is of an extent
 /// with such a page. `create` takes it, and nodes are written as they are first used.
-#[derive(Debug, Drop)]
+#[derive(Drop)]
 pub struct PopulationMap {
     spaces: u32,
     tree: ExtentTree<Mark>,

@@ -11,7 +11,7 @@ use std::mem::size_of;
 
 /// The id that an extent is placed with, if it is, and a bit for each of its eight parts: whether the part has a populated page, and
 /// whether all its pages are populated.
-#[derive(Clone, Copy, Debug, PartialEq, Eq)]
+#[derive(Clone, Copy, PartialEq, Eq)]
 pub struct Mark {
     pub(crate) id: OptionalIndex,
     pub(crate) some: u8,

@@ -12,7 +12,7 @@ use pager_model::{Size, Steps};
 use std::sync::ledger::Ledger;
 
 /// The marks of the extents of 8, of 64 and of 512 pages over a page.
-#[derive(Clone, Copy, Debug)]
+#[derive(Clone, Copy)]
 pub(crate) struct Way {
     pub(crate) small: Mark,
     pub(crate) middle: Mark,

@@ -19,7 +19,7 @@ use std::marker::Model;
 const MOST: usize = 64;
 
 /// The regions of a space: at most 64, in the order of their first pages, no two with a common page.
-#[derive(Debug, Drop)]
+#[derive(Drop)]
 pub struct Regions {
     items: ArrayVec<Region, MOST>,
 }

@@ -19,7 +19,7 @@ use std::alloc::Global;
 use std::marker::Model;
 
 /// A reservation in a list.
-#[derive(Debug, PartialEq, Eq, Drop)]
+#[derive(PartialEq, Eq, Drop)]
 struct Member {
     stamp: u64,
     frame: u32,
@@ -105,7 +105,7 @@ fn renew_last(list: &mut Vec<Member>, listing: &mut Listing, size: Size, new: Me
 }
 
 /// The lists of the sizes below the largest.
-#[derive(Debug, Drop)]
+#[derive(Drop)]
 pub struct Lists {
     frames: u32,
     /// For each frame what list has the reservation that begins at it, where one has.

@@ -5,7 +5,7 @@ use std::marker::Model;
 use std::mem::size_of;
 
 /// The list that has a reservation, and the stamp by which it stands there.
-#[derive(Clone, Copy, Debug)]
+#[derive(Clone, Copy)]
 pub(crate) struct Listed {
     pub(crate) size: Size,
     pub(crate) stamp: u64,
@@ -15,7 +15,7 @@ pub(crate) struct Listed {
 /// an entry for each frame.
 ///
 /// Contracts see it as the option.
-#[derive(Clone, Copy, Debug)]
+#[derive(Clone, Copy)]
 pub(crate) struct Listing {
     stamp: u64,
     /// The level of the list's size, since `NONE`, a constant, can't make a `Size`.

@@ -28,7 +28,7 @@ use std::alloc::Global;
 use std::marker::Model;
 
 /// The reservations over a number of frames, with all the memory that they ever need.
-#[derive(Debug, Drop)]
+#[derive(Drop)]
 pub struct Reservations {
     /// For each frame the reservation that begins at it.
     records: Vec<Record>,

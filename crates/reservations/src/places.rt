@@ -14,7 +14,7 @@ use std::marker::Model;
 /// Which frames are used places, with the number of used places in each extent of 8, 64 and 512 frames.
 ///
 /// Contracts see it as the list that says of each frame whether it is one.
-#[derive(Debug, Drop)]
+#[derive(Drop)]
 pub(crate) struct UsedPlaces {
     used: Vec<bool>,
     small: Vec<u16>,

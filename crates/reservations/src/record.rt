@@ -8,7 +8,7 @@ use std::mem::size_of;
 /// each frame.
 ///
 /// Contracts see it as the option.
-#[derive(Clone, Copy, Debug)]
+#[derive(Clone, Copy)]
 pub(crate) struct Record {
     stamp: u64,
     space: u32,

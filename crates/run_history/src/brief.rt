@@ -11,7 +11,7 @@ use pager_model::{Answered, Call, Entry, Need, Reply, Size, Want, What};
 use std::mem::size_of;
 
 /// An entry in few bytes: its processor, its space, and what it says of them.
-#[derive(Clone, Copy, Debug)]
+#[derive(Clone, Copy)]
 pub(crate) struct Brief {
     pub(crate) processor: u32,
     pub(crate) space: u32,
@@ -22,7 +22,7 @@ pub(crate) struct Brief {
 const _: () = prove!(size_of::<Brief>() == 32);
 
 /// What an entry says: the fields of its kind alone. Which parts it names follows from the kind, and a call is on the space that it names.
-#[derive(Clone, Copy, Debug)]
+#[derive(Clone, Copy)]
 pub(crate) enum Said {
     /// A store of a word was done, or a load was answered by it.
     Accessed {

@@ -26,7 +26,7 @@ pub struct Accesses {
 /// The entries of a history, in their order.
 ///
 /// Contracts see them with their places, and how many there may be in all.
-#[derive(Debug, Drop)]
+#[derive(Drop)]
 pub struct History {
     /// The first entries, as they were handed in.
     listed: Vec<Numbered>,

@@ -45,7 +45,7 @@ pub enum Begun {
 }
 
 /// What there is at the page of a load or a store.
-#[derive(Clone, Copy, Debug)]
+#[derive(Clone, Copy)]
 pub(crate) enum Found {
     /// The access is refused, for this.
     Refused(Reply),

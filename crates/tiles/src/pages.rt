@@ -16,7 +16,7 @@ use std::marker::{Brand, Model};
 use std::sync::ledger::{Blank, Ledger};
 
 /// The tile of a page before a change of it, and after.
-#[derive(Clone, Copy, Debug, PartialEq, Eq)]
+#[derive(Clone, Copy, PartialEq, Eq)]
 pub(crate) struct Turn {
     pub(crate) before: Option<Tile>,
     pub(crate) after: Option<Tile>,

@@ -15,7 +15,7 @@ use std::marker::Model;
 const ROOM: usize = 22;
 
 /// A place of a list, which contracts see as its tile.
-#[derive(Clone, Copy, Debug)]
+#[derive(Clone, Copy)]
 struct Place {
     tile: Tile,
 }
@@ -76,7 +76,7 @@ pub(crate) fn part_from(size: Size, first: u32, whole: &Tile) -> Tile
 }
 
 /// At most 22 tiles.
-#[derive(Debug, Drop)]
+#[derive(Drop)]
 pub struct TileList {
     places: ArrayVec<Place, ROOM>,
 }

@@ -52,7 +52,7 @@ fn turn(tiles: &mut [Tile], place: usize)
 }
 
 /// At most 128 tiles, the last used first, and none twice.
-#[derive(Debug, Drop)]
+#[derive(Drop)]
 pub struct Image {
     tiles: Vec<Tile>,
 }

@@ -20,7 +20,7 @@ const REMAINDERS: u32 = 32768;
 ///
 /// How many of their tiles begin at pages of each remainder is counted. So most pages and ranges that no tile begins at are known without a look
 /// at any image, and a change of the pages costs no more with many processors than with one.
-#[derive(Debug, Drop)]
+#[derive(Drop)]
 pub struct Images {
     images: Vec<Image>,
     begun: Vec<u16>,

@@ -9,7 +9,7 @@ use std::alloc::Global;
 use std::marker::Model;
 
 /// What comes after a frame or the end, and what before.
-#[derive(Clone, Copy, Debug)]
+#[derive(Clone, Copy)]
 pub(crate) struct Link {
     next: u32,
     prev: u32,
@@ -18,7 +18,7 @@ pub(crate) struct Link {
 /// Frames in order of age, each linked to the next and to the one before.
 ///
 /// The links don't have the ages: contracts say for which ages they are in order.
-#[derive(Debug, Drop)]
+#[derive(Drop)]
 pub(crate) struct AgeOrder {
     /// For each frame, and the end, the one after it and the one before.
     links: Vec<Link>,

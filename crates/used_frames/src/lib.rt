@@ -24,7 +24,7 @@ use std::marker::Model;
 /// What is noted of the used frames, with all the memory that it ever needs.
 ///
 /// Contracts see the list by frame of what is noted, and the number of processors.
-#[derive(Debug, Drop)]
+#[derive(Drop)]
 pub struct UsedFrames {
     notes: Notes,
     /// The used frames that aren't wired.

@@ -9,7 +9,7 @@ use std::mem::size_of;
 /// What is noted of a frame, where it is used: in half of the bytes that an `Option<Used>` takes.
 ///
 /// Contracts see the option.
-#[derive(Clone, Copy, Debug)]
+#[derive(Clone, Copy)]
 pub(crate) struct Note {
     age: u64,
     /// The processor that claims the frame, and 0 where none does.

@@ -12,7 +12,7 @@ use std::marker::Model;
 /// For each frame what is noted of it, where it is used, and how many frames are used, wired and claimed.
 ///
 /// Contracts see the list by frame of what is noted.
-#[derive(Debug, Drop)]
+#[derive(Drop)]
 pub(crate) struct Notes {
     places: Vec<Note>,
     used: u32,
