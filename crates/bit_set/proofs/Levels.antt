@@ -4,6 +4,7 @@ use Rattle.std.proofs.Math.ListN.{set, length-set}
 use Rattle.std.specs.Bool.{OnTrue, OnFalse}
 use Rattle.std.specs.Option.{is_some}
 use Rattle.std.proofs.lemmas.Bool.{cases_lt, cases_eq, false≢true, false_from_ne_true, OnFalse_at, OnTrue_at, cases_Bool}
+use Rattle.std.proofs.lemmas.List.{get_or_past}
 use Rattle.pager_model.proofs.Lists.{get_or-alike}
 use Rattle.bit_set.specs.Bits.{HasInWord, LacksWord, IsNextInWord, IsFirstFrom}
 use Rattle.bit_set.specs.Summaries.{Sums, AreLevels}
@@ -51,6 +52,28 @@ Sums-none low high = record {
 pub no_next : (set : List Bool) (n : ℕ) (next : Option ℕ) → is_some next ≡ false → IsNextInWord set n next → IsNextInWord set n None
 no_next set n None empty found = found
 no_next set n (Some m) empty found = absurd (false≢true (sym empty))
+
+-- the next one in the word is the first one
+pub first_within : (set : List Bool) (n : ℕ) (next : Option ℕ) → is_some next ≡ true → IsNextInWord set n next → IsFirstFrom set n next
+first_within set n None some found = absurd (false≢true some)
+first_within set n (Some m) some found = (found.0, found.2, found.3)
+
+-- of a set of one word no number past the word is in
+pub none_in_one_word : (set : List Bool) (n : ℕ) → length set ≤ 64 → IsNextInWord set n None → IsFirstFrom set n None
+none_in_one_word set n one_word none k from =
+    elim (cases_lt k (length set)) [
+      | inl less ↦ none k from (omega (arith, one_word, less, from))
+      | inr past ↦ get_or_past set k false past
+    ]
+
+-- where no later word has one either, there is none
+pub none_above : (below above : List Bool) (n : ℕ) → Sums below above → IsNextInWord below n None → IsFirstFrom above (n / 64 + 1) None
+    → IsFirstFrom below n None
+none_above below above n sums here later k from =
+    elim (cases_eq (k / 64) (n / 64)) [
+      | inl same ↦ here k from same
+      | inr other ↦ false_from_ne_true _ (λ is. false≢true (sym (later (k / 64) (omega arith)) ∙ sums.up k is))
+    ]
 
 -- and else the first one of the first later word that has one
 pub first_above : (below above : List Bool) (n word : ℕ) (next : Option ℕ) → Sums below above → IsNextInWord below n None

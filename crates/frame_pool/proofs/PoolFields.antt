@@ -124,17 +124,16 @@ pub IsPool-unclaimed : (frames : List (Option Framed)) (l : Layout) (claimers : 
     → IsPool frames l claimers (counted (claimed st at None))
 IsPool-unclaimed frames l claimers st at pool = IsPool-reclaimed frames l claimers st at None pool (IsSound-unclaimed _ _ st at pool.sound)
 
+-- a processor that holds a frame is one of those that there are
+pub held_known : (st : FrameState) (c : ℕ) → IsSome (held_by st c) → c < length st.held
+held_known st c holds = elim (cases_lt c (length st.held)) [
+  | inl within ↦ within
+  | inr past ↦ absurd (false≢true (subst IsSome (get_or_past st.held c None past) holds))
+]
+
 -- what is read where a processor holds a frame is the frame
-pub held_read : (st : FrameState) (c frame : ℕ) (read : Option ℕ) → IsSome (held_by st c) → read ≡ get_or st.held c read → read ≡ Some frame
-    → held_by st c ≡ Some frame
-held_read st c frame read holds is found = sym (get_or_read st.held c read known is None) ∙ found
-  where
-    known : c < length st.held
-    known = elim (cases_lt c (length st.held)) [
-      | inl within ↦ within
-      | inr past ↦
-          absurd (false≢true (subst IsSome (get_or_past st.held c None past) holds))
-    ]
+pub read_held : (st : FrameState) (c : ℕ) (read : Option ℕ) → IsSome (held_by st c) → read ≡ get_or st.held c read → held_by st c ≡ read
+read_held st c read holds is = sym (get_or_read st.held c read (held_known st c holds) is None)
 
 -- a held frame is put back
 pub IsPool-dropped : (frames : List (Option Framed)) (l : Layout) (claimers : ℕ) (st : FrameState) (c frame : ℕ)
@@ -298,7 +297,7 @@ module _ (p : Inside) (space page frame : ℕ) (pool : IsPool p.frames.items p.l
   giver_has : has_frame frame (Some giver) ≡ true
   giver_has = ap (λ f. has_frame f (Some giver)) place.frame ∙ has_frame_for space page giver place.covers_page
 
-  giver_used : is_used p.layout.used frame ≡ true
+  pub giver_used : is_used p.layout.used frame ≡ true
   giver_used = ap (λ k. is_used k.used frame) (sym (layout_of-pool p pool)) ∙ place.used
 
   -- so something is noted of it

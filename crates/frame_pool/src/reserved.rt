@@ -53,11 +53,12 @@ impl Reserved {
         requires { frames ≤ most_frames }
         ensures { IfOk result (λ r. r ≡ none_reserved sizes frames) }
     {
+        // What has most to drop is made last, so that no way out drops it.
         Ok(Reserved {
             sizes,
-            reservations: Reservations::create(alloc, frames)?,
             lists: Lists::create(alloc, frames)?,
             map: PopulationMap::create(alloc, MOST_SPACES, frames)?,
+            reservations: Reservations::create(alloc, frames)?,
         })
     }
 

@@ -8,3 +8,4 @@ pub mod JoinedViews
 pub mod DealtSeats
 pub mod MergedEntries
 pub mod WholeHistory
+pub mod TakenPasses

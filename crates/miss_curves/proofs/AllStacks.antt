@@ -1,10 +1,10 @@
 -- The stacks of all spaces after an entry, and the sums of what they tell.
-use Rattle.std.proofs.Common.{◌≡◌, ◌≢◌, ℕ, zero, suc, ◌+◌, ◌<◌, ◌≤◌, true, false, List, [], ◌∷◌, ◌++◌, length, get_or, set, take, Some, None, inl, inr, refl, sym, ap, ◌∙◌, subst, take_all, arith}
+use Rattle.std.proofs.Common.{◌≡◌, ◌≢◌, ℕ, zero, suc, ◌+◌, ◌-◌, ◌^◌, ◌<◌, ◌≤◌, true, false, List, [], ◌∷◌, ◌++◌, length, get_or, set, take, Some, None, inl, inr, refl, sym, ap, ◌∙◌, subst, take_all, arith}
 use Rattle.std.specs.List.{All, sum_by, range_with_len}
 use Rattle.std.proofs.lemmas.Bool.{cases_eq, eq-eqb, ne_eqb}
 use Rattle.std.proofs.lemmas.List.{get_or-set_same, get_or-set_other, length-set}
 use Rattle.std.proofs.lemmas.List.Elements.{All-get_or, All-set}
-use Rattle.std.proofs.lemmas.List.Sums.{fold-append, sum_by-le, sum_by-set, sum_by_more, sum_by_push}
+use Rattle.std.proofs.lemmas.List.Sums.{fold-append, sum_by-le, sum_by-set, sum_by_more, sum_by_more_le, sum_by_push}
 use Rattle.pager_model.specs.declared.entry.Entry.{Entry}
 use Rattle.pager_model.specs.Entries.{names_space, space_part}
 use Rattle.pager_model.specs.Legal.{space_at}
@@ -14,7 +14,7 @@ use Rattle.pager_model.specs.SpaceStates.{SpaceState, space_after}
 use Rattle.pager_model.proofs.Histories.{filter-push_in, filter-push_out, space_at-named, space_at-other}
 use Rattle.pager_model.proofs.Ranges.{range_with_len-more}
 use Rattle.miss_curves.specs.Curves.{Follower, base_alone, follow, begun, followed, misses_by}
-use Rattle.miss_curves.specs.Rows.{AreStacks, Rows, StandAfter, StandEach}
+use Rattle.miss_curves.specs.Rows.{AreRows, AreStacks, Rows, StandAfter, StandEach}
 use Rattle.miss_curves.specs.Stacks.{Kept, IsBlank, Stands, missed_at}
 
 -- One entry more.
@@ -118,7 +118,7 @@ StandEach-blank z g stacks same blank = record {
 }
 
 -- stacks of one entry more
-pub AreStacks-set : (n entries : ℕ) (stacks : List Kept) (i : ℕ) (d new : Kept) → i < length stacks
+AreStacks-set : (n entries : ℕ) (stacks : List Kept) (i : ℕ) (d new : Kept) → i < length stacks
     → length new.places ≡ length (get_or stacks i d).places → new.uses ≤ (get_or stacks i d).uses + 1
     → AreStacks n entries stacks → AreStacks n (entries + 1) (set stacks i new)
 AreStacks-set n entries stacks i d new within places uses are = record {
@@ -139,6 +139,32 @@ AreStacks-blank n stacks same blank = record {
 -- stacks of no more entries than another number
 pub AreStacks-more : (n most entries : ℕ) (stacks : List Kept) → entries ≤ most → AreStacks n entries stacks → AreStacks n most stacks
 AreStacks-more n most entries stacks few are = record { spaces = are.spaces; places = are.places; uses = omega (arith, are.uses) }
+
+-- a stack of them has no more uses than there were entries
+pub uses-within : (n entries : ℕ) (stacks : List Kept) (i : ℕ) (stack : Kept) → i < length stacks → stack ≡ get_or stacks i stack
+    → AreStacks n entries stacks → stack.uses ≤ entries
+uses-within n entries stacks i stack within is are =
+    omega (arith, ap (λ (k : Kept). k.uses) is, sum_by_more_le (λ (k : Kept). k.uses) stacks i stack within, are.uses)
+
+-- a stack after another entry has as many places, and a use more at most
+abbrev IsStackAfter : Kept → Kept → Type 0
+IsStackAfter old new = (length new.places ≡ length old.places) × (new.uses ≤ old.uses + 1)
+
+-- rows of one entry more
+pub AreRows-followed : (rows : Rows) (s : ℕ) (tile page new_tile new_page : Kept) → AreRows rows → rows.entries < 2 ^ 64 - 1
+    → s < length rows.tiles → tile ≡ get_or rows.tiles s tile → page ≡ get_or rows.pages s page → IsStackAfter tile new_tile
+    → IsStackAfter page new_page
+    → AreRows (record { tiles = set rows.tiles s new_tile; pages = set rows.pages s new_page; entries = rows.entries + 1 })
+AreRows-followed rows s tile page new_tile new_page are room within is_tile is_page tiles pages =
+    let long = length-set rows.tiles s new_tile in
+    record {
+      counted = omega arith;
+      few = rw long are.few;
+      tiles = rw long (AreStacks-set (length rows.tiles) rows.entries rows.tiles s tile new_tile within
+          (tiles.0 ∙ ap (λ (k : Kept). length k.places) is_tile) (omega (arith, tiles.1, ap (λ (k : Kept). k.uses) is_tile)) are.tiles);
+      pages = rw long (AreStacks-set (length rows.tiles) rows.entries rows.pages s page new_page (omega (arith, within, are.pages.spaces))
+          (pages.0 ∙ ap (λ (k : Kept). length k.places) is_page) (omega (arith, pages.1, ap (λ (k : Kept). k.uses) is_page)) are.pages);
+    }
 
 -- Sums.
 

@@ -1,9 +1,9 @@
 -- The counts of the spaces at the end of a run.
-use Rattle.std.proofs.Common.{◌≡◌, ℕ, zero, suc, ◌+◌, ◌*◌, ◌^◌, ◌<◌, ◌≤◌, ◌&&◌, ◌==◌, not, List, [], ◌∷◌, length, take, fold, slice_get, Option, Some, refl, ap, sym, ◌∙◌, arith}
+use Rattle.std.proofs.Common.{◌≡◌, ℕ, zero, suc, ◌+◌, ◌*◌, ◌^◌, ◌<◌, ◌≤◌, ◌&&◌, ◌==◌, not, List, [], ◌∷◌, length, take, fold, get_or, slice_get, Option, Some, refl, ap, sym, ◌∙◌, arith}
 use Rattle.std.specs.List.{range_with_len, sum_by}
 use Rattle.std.proofs.lemmas.List.Filters.{length-filter_both}
 use Rattle.std.proofs.lemmas.List.FromFn.{length-range_with_len}
-use Rattle.std.proofs.lemmas.List.Sums.{sum_by-cons, sum_by-take-le}
+use Rattle.std.proofs.lemmas.List.Sums.{sum_by-cons, sum_by-take-le, sum_by_more, sum_by_more_le}
 use Rattle.std.proofs.Math.Nat.{suc-mul}
 use Rattle.pager_model.specs.declared.entry.Entry.{Entry}
 use Rattle.pager_model.specs.declared.tile.Mapping.{Mapping}
@@ -33,6 +33,20 @@ sum_by-places f g a (x ∷ xs) are =
     let rest = sum_by-places f g (a + 1) xs (λ s y at. are (suc s) y at ∙ ap g (let e : a + suc s ≡ a + 1 + s = omega arith in e)) in
     sum_by-cons f x xs ∙ ap (λ n. n + sum_by f xs) first ∙ ap (λ n. g a + n) rest
     ∙ sym (sum_by-cons g a (range_with_len (a + 1) (length xs)))
+
+-- the sum of the first terms with the next one is that of one term more
+pub sum-next : {X : Type 0} (f : X → ℕ) (xs : List X) (i : ℕ) (x : X) (sum term : ℕ) → i < length xs → x ≡ get_or xs i x
+    → sum ≡ sum_by f (take i xs) → term ≡ f x → sum + term ≡ sum_by f (take (i + 1) xs)
+sum-next f xs i x sum term below at sum_is term_is =
+    let more = sum_by_more f xs i x below in
+    omega (arith, more, ap f at, sum_is, term_is)
+
+-- and at most the sum of all
+pub sum-within : {X : Type 0} (f : X → ℕ) (xs : List X) (i : ℕ) (x : X) (sum term : ℕ) → i < length xs → x ≡ get_or xs i x
+    → sum ≡ sum_by f (take i xs) → term ≡ f x → sum + term ≤ sum_by f xs
+sum-within f xs i x sum term below at sum_is term_is =
+    let within = sum_by_more_le f xs i x below in
+    omega (arith, within, ap f at, sum_is, term_is)
 
 -- so many terms, each at most so much
 sum_by-most : {X : Type 0} (f : X → ℕ) (most : ℕ) (xs : List X) → ((x : X) → f x ≤ most) → sum_by f xs ≤ length xs * most

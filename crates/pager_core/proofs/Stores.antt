@@ -59,6 +59,19 @@ length-given_back seen others turned spaces are =
 pub turned_back : {P : Type 0} (seen : P → Stored) (xs ys : List P) → ys ≡ reverse xs → map seen (reverse ys) ≡ map seen xs
 turned_back seen xs ys turned = ap (λ l. map seen (reverse l)) turned ∙ ap (map seen) (reverse-reverse xs)
 
+-- the store of the last space comes behind those that were given back
+pub given_back-more : {P : Type 0} (seen : P → Stored) (stores more : List P) (store : P) (spaces fewer : List Kept) (space : Kept)
+    → spaces ≡ fewer ++ space ∷ [] → more ≡ stores ++ store ∷ [] → seen store ≡ space.store
+    → map seen more ++ reverse (map (λ (k : Kept). k.store) fewer) ≡ map seen stores ++ reverse (map (λ (k : Kept). k.store) spaces)
+given_back-more seen stores more store spaces fewer space are are_more is =
+    let had : List Stored = map seen stores in
+    let own : List Stored = map (λ (k : Kept). k.store) fewer in
+    ap (λ l. map seen l ++ reverse own) are_more ∙ ap (λ l. l ++ reverse own) (map_push seen stores store)
+    ∙ append_assoc had (seen store ∷ []) (reverse own) ∙ ap (λ x. had ++ x ∷ reverse own) is
+    ∙ sym (ap (λ l. had ++ l) (reverse-append own (space.store ∷ [])))
+    ∙ sym (ap (λ l. had ++ reverse l) (map_push (λ (k : Kept). k.store) fewer space))
+    ∙ sym (ap (λ l. had ++ reverse (map (λ (k : Kept). k.store) l)) are)
+
 -- of the stores that are left, last first, the next goes to a space that comes behind the others
 pub in_order-more : {P : Type 0} (seen : P → Stored) (left fewer : List P) (store : P) (spaces : List Kept) (space : Kept)
     → left ≡ fewer ++ store ∷ [] → space.store ≡ seen store

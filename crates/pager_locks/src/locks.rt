@@ -147,7 +147,7 @@ fn fly_at<N: Named, P: Place, S: Store + Send + Drop, R: Wait>(
     flight: &mut Flight,
     pass: Pass,
 ) -> Pass
-    requires there { is_some locked.now ≡ true }
+    requires there { P.number < length N.journal.setting.told → is_some locked.now ≡ true }
     requires journal { journal.now.name ≡ N.journal }
     requires flying { (from : Departure) × IsFlying N.journal from flight.old pass }
     requires under { space_under (row_of flight.old).needs ≡ Some P.number }
@@ -187,7 +187,8 @@ fn put_back<N: Named, P: Place, S: Store + Send + Drop>(
     requires parts { AreParts N.journal P.number spaces.old.items authors.old.items }
     requires room { (length N.journal.setting.told ≤ vec_capacity spaces.old) × (length N.journal.setting.told ≤ vec_capacity authors.old) }
     ensures parts { AreParts N.journal (P.number + 1) spaces.new.items authors.new.items }
-    ensures room { (vec_capacity spaces.new ≡ vec_capacity spaces.old) × (vec_capacity authors.new ≡ vec_capacity authors.old) }
+    ensures room { (length N.journal.setting.told ≤ vec_capacity spaces.new) × (length N.journal.setting.told ≤ vec_capacity authors.new) }
+    ensures same_room { (vec_capacity spaces.new ≡ vec_capacity spaces.old) × (vec_capacity authors.new ≡ vec_capacity authors.old) }
 {
     if let Some(locked) = locked {
         let (space, author) = locked.into_inner().into_parts();

@@ -1,10 +1,8 @@
 -- What becomes of a table of pages when a page gets a frame, loses it, has its words written, or is marked dirty or clean, and when a
 -- range gets rights.
-use Rattle.std.proofs.Common.{◌≡◌, ◌≢◌, ℕ, ◌<◌, ◌≤◌, true, false, ◌==◌, ◌&&◌, if◌then◌else◌, List, Bool, Option, Some, None, length, replicate, slice_index_or, slice_set, option_map, refl, sym, ap, inl, inr, ◌∙◌, arith, subst, IfSome, IfNone}
+use Rattle.std.proofs.Common.{◌≡◌, ◌≢◌, ℕ, ◌<◌, ◌≤◌, true, false, ◌==◌, ◌&&◌, if◌then◌else◌, List, Bool, Option, Some, None, length, replicate, slice_index_or, slice_set, option_map, refl, sym, ap, ap₂, inl, inr, ◌∙◌, arith, subst, IfSome, IfNone}
 use Rattle.std.specs.Option.{option_and_then, IfSome, IfNone}
 use Rattle.std.proofs.lemmas.Bool.{cases_eq, cond-true, cond-false, eq-eqb, ne_eqb}
-use Rattle.std.proofs.lemmas.Bool.Decides.{nat_tests}
-use Rattle.std.proofs.lemmas.Grind.{common_steps}
 use Rattle.pager_model.specs.Regions.{in_range}
 use Rattle.std.proofs.lemmas.List.{get_or-set_other, get_or-set_same, length-set, get_or_read, length-replicate}
 use Rattle.std.proofs.lemmas.Option.{none-some, same_Some}
@@ -380,9 +378,15 @@ module _ (t : Table) (paged : IsPaged t) (page k : ℕ) (f : Framed) (has : fram
         word = λ p i. elim (cases_eq p page) [
           | inl e ↦
               let old : word_in t page i ≡ slice_index_or g.words i 0 = word_in-found t page i k has ∙ ap (λ x. word_in_frame x i) was in
-              rw e (rewritten_has i ∙ ap (λ (ws : List ℕ). slice_index_or ws i 0) set
-              ∙ grind (arith, common_steps, nat_tests, cases_eq i index))
-          | inr n ↦ refills.word p i n ∙ grind (arith, nat_tests)
+              rw e (rewritten_has i ∙ ap (λ (ws : List ℕ). slice_index_or ws i 0) set ∙ elim (cases_eq i index) [
+                | inl at ↦
+                    ap (λ (j : ℕ). slice_index_or (slice_set g.words index w) j 0) at ∙ get_or-set_same g.words index w 0 in_page
+                    ∙ sym (ap₂ (λ (a b : Bool). if a && b then w else word_in t page i) (eq-eqb page page refl) (eq-eqb i index at))
+                | inr off ↦
+                    get_or-set_other g.words index i w 0 off ∙ sym old
+                    ∙ sym (ap₂ (λ (a b : Bool). if a && b then w else word_in t page i) (eq-eqb page page refl) (ne_eqb i index off))
+              ])
+          | inr n ↦ refills.word p i n ∙ sym (ap (λ (b : Bool). if b && (i == index) then w else word_in t p i) (ne_eqb p page n))
         ];
       }
 

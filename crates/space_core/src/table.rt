@@ -211,10 +211,10 @@ impl PageTable {
         ensures rose { OnErr result (Rises (S.seen store.old).faults (S.seen store.new).faults) }
         ensures never_falls { (S.seen store.old).faults ≤ (S.seen store.new).faults }
     {
+        let copied = store.read(page, &mut *self.copy)?;
         let Some(frame) = &mut self.frames[number as usize] else {
             unreachable!()
         };
-        let copied = store.read(page, &mut *self.copy)?;
         set_copied(frame, copied, &*self.copy);
         Ok(())
     }
@@ -312,7 +312,7 @@ fn empty_places(alloc: Global, count: u32) -> Result<Vec<Option<Frame>>, NoMemor
 {
     let mut places = Vec::with_capacity(alloc, count as usize)?;
     for _ in 0..count {
-        places.push(None)?;
+        places.push_reserved(None);
     }
     Ok(places)
 }

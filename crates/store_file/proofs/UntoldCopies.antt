@@ -1,7 +1,9 @@
 -- A store that tells none of its copies and keeps every page.
-use Rattle.std.proofs.Common.{◌≡◌, ℕ, true, List, Option, refl}
-use Rattle.std.proofs.lemmas.Bool.{false≢true}
+use Rattle.std.proofs.Common.{◌≡◌, ℕ, true, List, Option, inl, inr, refl, arith}
+use Rattle.std.proofs.lemmas.Bool.{cases_lt, false≢true}
+use Rattle.pager_model.specs.SpaceStates.{Rises, last_count}
 use Rattle.pager_model.specs.Stored.{keeps_at, SameCopies, SetsCopy}
+use Rattle.store_core.specs.MemoryState.{one_more}
 use Rattle.store_file.specs.FileState.{untold}
 
 -- whatever it does, its copies are the same, since it tells none
@@ -19,3 +21,7 @@ sets_copy page copy faults more =
 pub keeps_page : (page faults : ℕ) → keeps_at (untold faults) page ≡ true
 unfolding keeps_at
 keeps_page page faults = refl
+
+-- one fault more
+pub rises : (faults : ℕ) → Rises faults (one_more faults)
+rises faults = elim (cases_lt faults last_count) [ inl low ↦ inl (omega arith) | inr high ↦ inr (omega arith) ]

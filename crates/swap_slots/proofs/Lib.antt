@@ -1,3 +1,4 @@
+pub mod FailingCalls
 pub mod SlotLists
 pub mod SlotTables
 pub mod SlotCopies

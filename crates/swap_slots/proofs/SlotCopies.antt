@@ -1,5 +1,5 @@
 -- The copies of a slot store as those of a backing store.
-use Rattle.std.proofs.Common.{◌≡◌, ◌≢◌, ℕ, zero, suc, ◌+◌, Bool, true, false, cond, ◌&&◌, ◌==◌, nat_lt, nat_le, min, List, [], ◌∷◌, get_or, Option, Some, None, IfSome, inl, inr, refl, sym, ap, ◌∙◌, subst, arith, eq-eqb}
+use Rattle.std.proofs.Common.{◌≡◌, ◌≢◌, ℕ, zero, suc, ◌+◌, ◌-◌, ◌^◌, ◌≤◌, Bool, true, false, cond, ◌&&◌, ◌==◌, nat_lt, nat_le, min, List, [], ◌∷◌, get_or, Option, Some, None, IfSome, inl, inr, refl, sym, ap, ◌∙◌, subst, arith, eq-eqb}
 use Rattle.std.specs.List.{list_any, list_all, range_with_len}
 use Rattle.std.proofs.lemmas.Bool.{cases_lt, ne_eqb, false≢true}
 use Rattle.std.proofs.lemmas.Bool.Decides.{nat_tests}
@@ -189,6 +189,13 @@ tells_zero s told = both s.device.tells (list_all is_zero s.slots.pages) refl re
 -- ---- its faults
 
 -- where the device's count rises, so does that of the store
+pub never_falls : (device refused device_after refused_after : ℕ) → device ≤ device_after → refused ≤ refused_after
+    → min (device + refused) last_count ≤ min (device_after + refused_after) last_count
+never_falls device refused device_after refused_after device_more refused_more = omega arith
+
+pub capped : (device refused : ℕ) → min (device + refused) last_count ≤ 2 ^ 64 - 1
+capped device refused = omega arith
+
 pub rises_device : (old new : SlotState) → new.refused ≡ old.refused → Rises old.device.faults new.device.faults
     → Rises (min (old.device.faults + old.refused) last_count) (min (new.device.faults + new.refused) last_count)
 rises_device old new same (inl above) = elim (cases_lt (new.device.faults + new.refused) last_count) [

@@ -11,7 +11,7 @@ use Rattle.bit_set.specs.Bits.{IsFirstFrom}
 use Rattle.swap_slots.specs.declared.table.PageCopy.{PageCopy}
 use Rattle.swap_slots.specs.declared.table.PageCopy.TheVariants.{Zero, Lost, Slot}
 use Rattle.swap_slots.specs.FreeSlots.{with_slot, AreSlots}
-use Rattle.swap_slots.specs.Slots.{Slots, copy_of, slot_in, is_in, is_free, HaveOwnSlots, IsLowestFree, IsSlotFor, SetsPage}
+use Rattle.swap_slots.specs.Slots.{Slots, copy_of, slot_in, is_in, is_free, HaveOwnSlots, IsLowestFree, IsSlotFor, SetsPage, LacksSlot}
 use Rattle.swap_slots.proofs.SlotLists.{list_any-set_failing, list_any-none, grown, get_or-grown, list_any-grown, in_grown, in_list}
 
 abbrev pub slots : ℕ → List PageCopy → Slots
@@ -276,3 +276,9 @@ count_by-taken p n taken =
       sum_by-append (λ x. bit (p x)) (range_with_len 0 n) (n ∷ []),
       none,
     )
+
+-- a page with a slot to go to doesn't lack one
+pub slot_lacked : (slots : Slots) (page s : ℕ) → IsSlotFor slots page s → LacksSlot slots page → ⊥
+slot_lacked slots page s at lacks =
+    let lowest : IsLowestFree slots s = subst (λ o. MatchOption o (IsLowestFree slots s) (λ own. s ≡ own)) lacks.unplaced at in
+    false≢true (sym (lacks.full s) ∙ lowest.0)

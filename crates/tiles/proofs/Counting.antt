@@ -1,8 +1,7 @@
 -- How many pages of a space pass a test.
-use Rattle.std.proofs.Common.{◌≡◌, ◌≢◌, ℕ, zero, suc, ◌+◌, ◌<◌, ◌≤◌, Bool, true, false, cond, eqb, ◌&&◌, inl, inr, refl, sym, ap, ◌∙◌, arith}
+use Rattle.std.proofs.Common.{◌≡◌, ◌≢◌, ℕ, zero, suc, ◌+◌, ◌<◌, ◌≤◌, Bool, false, cond, eqb, ◌&&◌, inl, inr, refl, sym, ap, ◌∙◌, arith}
 use Rattle.std.specs.List.{range_with_len, count_by}
-use Rattle.std.proofs.lemmas.Bool.{cases_eq}
-use Rattle.std.proofs.lemmas.Bool.Decides.{nat_tests}
+use Rattle.std.proofs.lemmas.Bool.{cases_eq, eq-eqb, ne_eqb}
 use Rattle.pager_model.specs.Tiles.{count_pages}
 use Rattle.pager_model.proofs.CountLemmas as general
 use Rattle.pager_model.proofs.CountLemmas.{weight, count-agree}
@@ -71,7 +70,7 @@ count-at : (a : ℕ) (flag : Bool) (from many : ℕ) → from ≤ a → a < from
 count-at a flag from zero low high = absurd (omega arith)
 count-at a flag from (suc many) low high = elim (cases_eq from a) [
   | inl here ↦
-      let first : (eqb from a && flag) ≡ flag = let t : eqb from a ≡ true = grind (arith, nat_tests) in ap (λ b. b && flag) t in
+      let first : (eqb from a && flag) ≡ flag = ap (λ b. b && flag) (eq-eqb from a here) in
       omega (
         arith,
         count-suc (λ q. eqb q a && flag) from many,
@@ -87,7 +86,7 @@ count-at a flag from (suc many) low high = elim (cases_eq from a) [
 ]
   where
     other : (n : ℕ) → n ≢ a → (eqb n a && flag) ≡ false
-    other n apart = let t : eqb n a ≡ false = grind (arith, nat_tests) in ap (λ b. b && flag) t
+    other n apart = ap (λ b. b && flag) (ne_eqb n a apart)
 
 pub count_pages_at : (a : ℕ) (flag : Bool) → a < 1048576 → count_pages (λ q. eqb q a && flag) ≡ cond flag 1 0
 count_pages_at a flag within = at 1048576 refl

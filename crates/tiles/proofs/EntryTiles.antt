@@ -1,7 +1,7 @@
 -- The entry of each page is its tile, and stays it with each change of the entries.
 use Rattle.std.proofs.Common.{◌≡◌, ◌≢◌, ℕ, zero, suc, ◌+◌, ◌-◌, ◌/◌, ◌%◌, ◌^◌, ◌<◌, ◌≤◌, ◌==◌, if◌then◌else◌, Option, Some, None, false, option_map, inl, inr, refl, sym, ap, subst, ◌∙◌, arith}
 use Rattle.std.proofs.Math.Nat.{mul-mod_left}
-use Rattle.std.proofs.lemmas.Bool.{cases_Bool, cases_eq, cases_lt, eq-eqb, ne_eqb, eqb-true, false≢true}
+use Rattle.std.proofs.lemmas.Bool.{cases_Bool, cases_eq, cases_lt, cond-true, eq-eqb, ne_eqb, eqb-true, false≢true}
 use Rattle.std.proofs.lemmas.Option.{none-some, same_Some}
 use Rattle.page_map.specs.declared.entry.Entry.{Entry}
 use Rattle.page_map.specs.Entries.{AreEntries, AreParts, Maps, entry_at, entry_with, extent_round, mapping_of, pages_in, part_of, tile_of_entry, mapping_at as said_at}
@@ -518,3 +518,10 @@ put_says m n size page mapping base maps =
     one_says m m n (extent_round size page) page (Some (entry_with size page mapping)) (Some mapping) base first
     (ap (λ i. Some (moved_by i mapping)) {x = page - extent_start size page} {y = 0} (omega arith) ∙ ap Some (not_moved mapping))
     (alike_all m) maps
+
+-- an entry that is put, or put in the place of another, is the page's
+pub put_there : (m n : Resident) (size page : ℕ) (mapping : Mapping)
+    → Maps (extent_round size page) (λ (p : ℕ). Some (entry_with size page mapping)) m n
+    → entry_at n page ≡ Some (entry_with size page mapping)
+put_there m n size page mapping maps =
+    maps.at page ∙ cond-true _ _ _ (eq-eqb (page / 8 ^ size) (extent_start size page / 8 ^ size) (sym (first_of_extent size page)))

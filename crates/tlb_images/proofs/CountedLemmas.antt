@@ -1,12 +1,12 @@
 -- The counts of tiles by remainder, as tiles come and go.
-use Rattle.std.proofs.Common.{◌≡◌, ℕ, ◌+◌, ◌-◌, ◌%◌, ◌<◌, ◌≤◌, true, false, if◌then◌else◌, take, drop, List, [], ◌∷◌, ◌++◌, length, map, not, get_or, set, filter, refl, sym, ap, ◌∙◌, replicate, length-set, length-take, length-drop, get_or-take, get_or-drop, arith}
+use Rattle.std.proofs.Common.{◌≡◌, ℕ, ◌+◌, ◌-◌, ◌%◌, ◌<◌, ◌≤◌, true, false, if◌then◌else◌, cond, take, drop, List, [], ◌∷◌, ◌++◌, length, map, not, get_or, set, filter, refl, sym, ap, ◌∙◌, replicate, length-set, length-take, length-drop, get_or-take, get_or-drop, arith}
 use Rattle.std.specs.List.{All, list_any}
 use Rattle.std.proofs.lemmas.Bool.{eq-eqb, false_from_ne_true}
 use Rattle.std.proofs.lemmas.List.Elements.{All-weaker, All-set, All-replicate}
 use Rattle.std.proofs.lemmas.List.{length-replicate}
 use Rattle.std.proofs.lemmas.List.Edits.{map_over_more}
 use Rattle.std.proofs.lemmas.List.Folds.{list_any_none, sum_by-replicate}
-use Rattle.std.proofs.lemmas.List.Sums.{count_by-le-length, get_or-le-sum_by, sum_by-le, sum_by-set}
+use Rattle.std.proofs.lemmas.List.Sums.{count_by-le-length, get_or-le-sum_by, sum_by-le, sum_by-set, sum_by_more}
 use Rattle.pager_model.specs.declared.tile.Tile.{Tile}
 use Rattle.pager_model.specs.declared.page_range.PageRange.{PageRange}
 use Rattle.pager_model.specs.Images.{image_room, touched}
@@ -99,3 +99,9 @@ mapped-more f old images i image new below is at to = rw to (map_over_more f old
 
 pub touched-short : (t : Tile) (ts : List Tile) → length (touched t ts) ≤ image_room
 touched-short t ts = omega (arith, length-take image_room (t ∷ filter (λ u. not (same_tile t u)) ts))
+
+-- one tile more
+pub class_more : (r : ℕ) (tiles : List Tile) (i : ℕ) (t : Tile) → i < length tiles → t ≡ get_or tiles i t
+    → class_count r (take (i + 1) tiles) ≡ class_count r (take i tiles) + class_count r (t ∷ [])
+class_more r tiles i t within is =
+    omega (arith, sum_by_more (λ u. cond (is_of_class r u) 1 0) tiles i t within, ap (λ u. class_count r (u ∷ [])) is)

@@ -1,5 +1,6 @@
 -- What has come from a source.
-use Rattle.std.proofs.Common.{◌≡◌, ℕ, ◌+◌, ◌<◌, ◌≤◌, List, ◌++◌, length, Option, Some, None, IfSome, subst, ap, arith, length-append}
+use Rattle.std.proofs.Common.{◌≡◌, ℕ, ◌+◌, ◌<◌, ◌≤◌, List, ◌++◌, length, take, drop, Option, Some, None, IfSome, subst, sym, ap, ◌∙◌, append_assoc, arith, length-append}
+use Rattle.std.proofs.lemmas.List.{take-append-drop}
 use Rattle.trace_reader.specs.declared.fault.TraceFault.TheVariants.{TooLong}
 use Rattle.trace_reader.specs.Refusals.{refusal_of}
 use Rattle.trace_reader.proofs.Refusals.{too_long}
@@ -8,6 +9,18 @@ use Rattle.trace_reader.proofs.Refusals.{too_long}
 abbrev pub Took : Option (List ℕ) → Option (List ℕ) → List ℕ → Type 0
 Took None now text = Unit {0}
 Took (Some bytes) now text = (rest : List ℕ) × (now ≡ Some rest) × (bytes ≡ text ++ rest)
+
+-- a read took n bytes more
+pub took_more : (old now next : Option (List ℕ)) (text piece : List ℕ) (n : ℕ) → Took old now text
+    → IfSome now (λ bytes. take n piece ≡ take n bytes) → IfSome now (λ bytes. next ≡ Some (drop n bytes))
+    → Took old next (text ++ take n piece)
+took_more None now next text piece n took gave rest = tt
+took_more (Some bytes) now next text piece n took gave rest =
+    let left = took.0 in
+    let same : take n piece ≡ take n left = subst (λ (o : Option (List ℕ)). IfSome o (λ l. take n piece ≡ take n l)) took.1 gave in
+    let behind : next ≡ Some (drop n left) = subst (λ (o : Option (List ℕ)). IfSome o (λ l. next ≡ Some (drop n l))) took.1 rest in
+    let parts : left ≡ take n piece ++ drop n left = sym (ap (λ l. l ++ drop n left) same ∙ take-append-drop n left) in
+    (drop n left, behind, took.2 ∙ ap (λ l. text ++ l) parts ∙ sym (append_assoc text (take n piece) (drop n left)))
 
 -- where so many more come, the text is too long
 pub longer : (old now : Option (List ℕ)) (text : List ℕ) (n : ℕ) → Took old now text → IfSome now (λ bytes. n ≤ length bytes)

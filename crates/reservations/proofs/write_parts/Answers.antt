@@ -1,8 +1,11 @@
-use Rattle.std.proofs.Common.{◌≡◌, ◌-◌, ◌^◌, arith, ap, sym, subst, ◌∙◌, set, length, inl, inr}
+use Rattle.std.proofs.Common.{◌≡◌, ℕ, ◌+◌, ◌-◌, ◌*◌, ◌^◌, Bool, List, Option, arith, ap, sym, subst, ◌∙◌, set, length, inl, inr}
+use Rattle.std.proofs.lemmas.Bool.{cases_lt}
+use Rattle.pager_model.specs.declared.reservation.Reservation.{Reservation}
 use Rattle.pager_model.specs.Records.{is_used, part_of, kept_part}
 use Rattle.pager_model.specs.RecordPlaces.{IsPlaced}
-use Rattle.pager_model.proofs.ExtentLemmas.{eight_pos, eight_small, part_of_eight, aligned_end}
-use Rattle.reservations.proofs.SplitLemmas.{kept_cases, split_up_to-more, ArePlaced-part, AreNoted-part}
+use Rattle.pager_model.proofs.ExtentLemmas.{eight_parts, eight_pos, eight_small, part_of_eight, aligned_end}
+use Rattle.reservations.specs.Kept.{AreNoted}
+use Rattle.reservations.proofs.SplitLemmas.{kept_cases, split_up_to, split_up_to-more, ArePlaced-part, AreNoted-part}
 use Rattle.reservations.proofs.write_parts.Goals as goal
 
 pub overflow_mul-first : goal.overflow_mul-first
@@ -58,3 +61,25 @@ loop-i-preserved c =
       noted = rw noted (AreNoted-part c.loop-i.records used r i c.requires.splits c.loop-i-test.true whole_placed _ _ was.placed was.noted
           filled);
     }
+
+closed_gap : (records : List (Option Reservation)) (ids : List (Option ℕ)) (used : List Bool) (at : ℕ)
+    → AreNoted records ids used at at → AreNoted records ids used 0 0
+closed_gap records ids used at noted = record {
+  exact = λ f id _. noted.exact f id (cases_lt f at);
+  idle = λ f _. noted.idle f (cases_lt f at);
+  gap = λ f id low high _. absurd (omega arith);
+}
+
+pub returns-clause-records : goal.returns-clause-records
+returns-clause-records c =
+    let all : c.loop-i.i ≡ 8 = omega arith in
+    c.loop-i.invariant.split ∙ ap (λ (n : ℕ). split_up_to n (is_used c.args.used.now) c.args.whole.now c.args.records.now) all
+
+pub returns-clause-noted : goal.returns-clause-noted
+returns-clause-noted c =
+    let r = c.args.whole.now in
+    let all : c.loop-i.i ≡ 8 = omega arith in
+    let wide : r.frame + 8 * 8 ^ (r.size - 1) ≡ r.frame + 8 ^ r.size = ap (λ (n : ℕ). r.frame + n) (sym (eight_parts r.size c.requires.splits)) in
+    let ends : r.frame + c.loop-i.i * 8 ^ (r.size - 1) ≡ r.frame + 8 ^ r.size = ap (λ (n : ℕ). r.frame + n * 8 ^ (r.size - 1)) all ∙ wide in
+    closed_gap c.loop-i.records c.loop-i.ids c.args.used.now (r.frame + 8 ^ r.size)
+    (subst (λ (n : ℕ). AreNoted c.loop-i.records c.loop-i.ids c.args.used.now n (r.frame + 8 ^ r.size)) ends c.loop-i.invariant.noted)

@@ -1,4 +1,5 @@
-use Rattle.std.proofs.Common.{◌-◌, ◌*◌, ◌^◌, false, Some, None, ap, sym, ◌∙◌, arith}
+use Rattle.std.proofs.Common.{◌-◌, ◌*◌, ◌^◌, false, Some, None, length, refl, ap, sym, ◌∙◌, arith}
+use Rattle.std.proofs.lemmas.List.{length-set}
 use Rattle.pager_model.specs.FreeBlocks.{choice, with_range}
 use Rattle.bit_set.specs.Bits.{IsFirstFrom}
 use Rattle.buddy_extents.specs.Blocks.{first_node, free_in}
@@ -15,11 +16,36 @@ returns-in_err-node-clause-chosen g c =
     (omega arith) none)
     ∙ ap (λ free. choice free c.args.size) c.self.view_is)
 
+pub returns-in_err-node-clause-taken : goal.returns-in_err-node-clause-taken
+returns-in_err-node-clause-taken g c = rw c.from_residual.ensures refl
+
+pub returns-in_err-node-clause-cost : goal.returns-in_err-node-clause-cost
+returns-in_err-node-clause-cost g c = omega (arith, c.in_err-node.ensures.cost)
+
+pub first_frame-first-requires-clause-order : goal.first_frame-first-requires-clause-order
+first_frame-first-requires-clause-order g c = c.order_of-whole.ensures.order
+
+pub first_frame-first-requires-clause-from : goal.first_frame-first-requires-clause-from
+first_frame-first-requires-clause-from g c = c.order_of-whole.ensures.from
+
+pub first_frame-first-requires-clause-to : goal.first_frame-first-requires-clause-to
+first_frame-first-requires-clause-to g c = c.order_of-whole.ensures.to
+
+pub cut-requires-clause-frame : goal.cut-requires-clause-frame
+cut-requires-clause-frame g c = c.first_frame-first.ensures.known
+
 pub cut-requires-clause-order : goal.cut-requires-clause-order
 cut-requires-clause-order g c =
     let order = c.order_of_size-order.result in
     order_from order c.order_of-whole.result c.in_ok-node.node (omega arith) c.order_of-whole.ensures.order
     (omega (arith, c.first_node.ensures, c.in_ok-node.ensures.first.0)) c.order_of-whole.ensures.to
+
+pub cut-requires-clause-most : goal.cut-requires-clause-most
+cut-requires-clause-most g c = c.order_of-whole.ensures.order
+
+pub cut-requires-clause-nodes : goal.cut-requires-clause-nodes
+cut-requires-clause-nodes g c =
+    ap length c.remove.ensures.set ∙ (length-set c.self.inside.nodes c.in_ok-node.node false ∙ c.self.invariant.blocks.size)
 
 pub overflow_sub-self : goal.overflow_sub-self
 overflow_sub-self g c =
@@ -51,3 +77,7 @@ returns-clause-taken g c =
     ∙ (ap (λ first. with_range (free_in c.self.inside.nodes c.self.inside.frames) first (8 ^ c.args.size) false)
     (sym c.first_frame-first.ensures.first)
     ∙ ap (λ free. with_range free c.first_frame-first.result (8 ^ c.args.size) false) c.self.view_is)
+
+pub returns-clause-cost : goal.returns-clause-cost
+returns-clause-cost g c =
+    omega (arith, c.in_ok-node.ensures.cost, c.remove.ensures.cost, c.cut.ensures.cost, c.order_of-whole.ensures.order)

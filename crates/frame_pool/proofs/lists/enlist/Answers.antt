@@ -1,5 +1,7 @@
-use Rattle.std.proofs.Common.{◌≡◌, Some, sym, ◌∙◌, arith}
+use Rattle.std.proofs.Common.{◌≡◌, Some, refl, sym, ap, subst, ◌∙◌, arith}
+use Rattle.std.specs.Option.{IsSome}
 use Rattle.std.proofs.lemmas.Option.{none-some, same_Some}
+use Rattle.reservation_lists.specs.Kept.{KeptLists}
 use Rattle.reservations.specs.Kept.{reservation_at}
 use Rattle.frame_pool.proofs.ListsByFrame.{found_record_and, AreListed-enlisted, AreListed-not_enlisted}
 use Rattle.frame_pool.proofs.lists.enlist.Goals as goal
@@ -35,3 +37,19 @@ returns-in_default-clause-listed c = λ records none known are.
     (AreListed-not_enlisted c.args.sizes c.args.lists.now.lists st.used records c.args.id found.0
     (record { none = none; known = known; listed = are })
     (λ k yields. absurd (none-some k (sym c.in_default.is ∙ told ∙ yields))))
+
+pub insert-requires-clause-known : goal.insert-requires-clause-known
+insert-requires-clause-known c = c.requires.known
+
+pub yields_in-requires : goal.yields_in-requires
+yields_in-requires c =
+    let found = found_record_and (reservation_at c.args.reservations.now c.args.id) (λ r. r.frame ≡ c.args.id) c.requires.there in
+    subst IsSome (sym found.1) refl
+
+pub unwrap-reservation-requires : goal.unwrap-reservation-requires
+unwrap-reservation-requires c =
+    let found = found_record_and (reservation_at c.args.reservations.now c.args.id) (λ r. r.frame ≡ c.args.id) c.requires.there in
+    subst IsSome (sym (c.get.ensures.record ∙ found.1)) refl
+
+pub returns-then-level-lt3-clause-room : goal.returns-then-level-lt3-clause-room
+returns-then-level-lt3-clause-room c = ap (λ (k : KeptLists). k.frames) c.insert.ensures

@@ -1,4 +1,5 @@
-use Rattle.std.proofs.Common.{◌≡◌, ◌+◌, ◌≤◌, ◌++◌, [], ◌∷◌, map, take, sym, ap, subst, ◌∙◌, arith}
+use Rattle.std.proofs.Common.{◌≡◌, ℕ, ◌+◌, ◌≤◌, ◌++◌, List, [], ◌∷◌, length, map, take, sym, ap, subst, ◌∙◌, arith}
+use Rattle.std.proofs.Math.ListN.{length-map}
 use Rattle.std.proofs.lemmas.List.{map_push, take_more, take_all}
 use Rattle.pager_model.specs.Settings.{Given}
 use Rattle.pager_model.specs.SpaceStates.{last_count}
@@ -26,6 +27,31 @@ loop-store-preserved g c =
           (λ is. c.told.ensures.zero (c.told.ensures.told ∙ is)),
       Each-push (λ s. s.faults ≤ last_count) old _ (g.S.Store.seen store) more c.loop-store.invariant.3 c.faults.ensures.capped,
     )
+
+-- what was read of each is as many as the stores
+as_many : {P X : Type 0} (seen : P → Stored) (f : Stored → X) (stores : List P) (n : ℕ) (read : List X) → length stores ≤ n
+    → read ≡ map f (map seen (take n stores)) → length read ≡ length stores
+as_many seen f stores n read all is =
+    ap length is ∙ length-map (map seen (take n stores)) f ∙ length-map (take n stores) seen ∙ ap length (take_all n stores all)
+
+pub of-requires-clause-spaces : goal.of-requires-clause-spaces
+of-requires-clause-spaces g c =
+    let many = as_many g.S.Store.seen (λ (s : Stored). s.told) c.args.stores.now c.loop-store.store-index c.loop-store.told.items
+    (omega (arith, c.loop-store-test.false)) c.loop-store.invariant.0 in
+    (omega (arith, many, c.requires.spaces.0), omega (arith, many, c.requires.spaces.1))
+
+pub of-requires-clause-counts : goal.of-requires-clause-counts
+of-requires-clause-counts g c =
+    let told = as_many g.S.Store.seen (λ (s : Stored). s.told) c.args.stores.now c.loop-store.store-index c.loop-store.told.items
+    (omega (arith, c.loop-store-test.false)) c.loop-store.invariant.0 in
+    let faults = as_many g.S.Store.seen (λ (s : Stored). s.faults) c.args.stores.now c.loop-store.store-index c.loop-store.faults.items
+    (omega (arith, c.loop-store-test.false)) c.loop-store.invariant.1 in
+    omega (arith, told, faults, c.loop-store.told.ok.0, c.loop-store.faults.ok.0)
+
+pub of-requires-clause-processors : goal.of-requires-clause-processors
+of-requires-clause-processors g c =
+    let same = ap length (c.in_ok-marks.ensures.items_if_clones_equal (λ x y same. same)) in
+    (omega (arith, same, c.requires.processors.0), omega (arith, same, c.requires.processors.1))
 
 -- it read all of them
 read : (g : Over) (c : goal.After-with_sizes g) → map g.S.Store.seen (take c.loop-store.store-index c.args.stores.now)

@@ -20,6 +20,33 @@ done : (g : Over) (c : After-split g) → WasSplit c.evict_all.new.tree c.split.
 done g c = split_extent c.evict_all.new.tree c.split.new.self c.args.size c.args.first c.marks_from-marks.result c.args.ids.now
     (splits g c) c.split.ensures.rows c.split.ensures.splits
 
+pub evict_all-requires-clause-marks : goal.evict_all-requires-clause-marks
+evict_all-requires-clause-marks g c = c.requires.marks
+
+pub evict_all-requires-clause-page : goal.evict_all-requires-clause-page
+evict_all-requires-clause-page g c = c.requires.page
+
+pub evict_all-requires-clause-known : goal.evict_all-requires-clause-known
+evict_all-requires-clause-known g c = c.requires.known
+
+pub evict_all-requires-clause-aligned : goal.evict_all-requires-clause-aligned
+evict_all-requires-clause-aligned g c = c.requires.aligned
+
+pub evict_all-requires-clause-placed : goal.evict_all-requires-clause-placed
+evict_all-requires-clause-placed g c = c.requires.placed
+
+pub evict_all-requires-clause-room : goal.evict_all-requires-clause-room
+evict_all-requires-clause-room g c = c.requires.room
+
+pub marks_from-marks-requires : goal.marks_from-marks-requires
+marks_from-marks-requires g c = c.requires.ids
+
+pub split-requires-clause-size : goal.split-requires-clause-size
+split-requires-clause-size g c = c.requires.size
+
+pub split-requires-clause-page : goal.split-requires-clause-page
+split-requires-clause-page g c = omega (arith, c.requires.page, c.evict_all.ensures.room.roots)
+
 pub split-requires-clause-room : goal.split-requires-clause-room
 split-requires-clause-room g c =
     let was = c.evict_all.ensures in

@@ -50,6 +50,12 @@ invariant_of-self c =
       omega (arith, records_long, c.self.invariant.1),
     )
 
+pub returns-clause-parts : goal.returns-clause-parts
+returns-clause-parts c =
+    let r = c.unwrap-whole.result in
+    let found : reservation_at c.args.self.now c.args.id ≡ Some r = sym c.get.ensures.record ∙ c.unwrap-whole.ensures in
+    rw (found, ← c.self.view_is) c.parts-parts.ensures
+
 pub returns-clause-records : goal.returns-clause-records
 returns-clause-records c =
     let r = c.unwrap-whole.result in

@@ -1,4 +1,4 @@
-use Rattle.std.proofs.Common.{◌≡◌, ℕ, suc, sym, ap, subst, ◌∙◌, arith}
+use Rattle.std.proofs.Common.{◌≡◌, ℕ, suc, ◌≤◌, sym, ap, subst, ◌∙◌, arith}
 use Rattle.page_map.specs.Entries.{extent_round}
 use Rattle.pager_model.specs.declared.extent.Extent.{Extent}
 use Rattle.tiles.specs.Kept.{AreTilesBut}
@@ -12,6 +12,16 @@ returns-in_default-clause-tiles g c =
     let larger : c.at_level-larger.result ≡ suc entry.extent.size = omega arith in
     no_join c.loop-entry.map c.args.page entry (omega arith) so_far.there so_far.tiles
     (λ w round parts. c.in_default.ensures.whole w (round ∙ ap (λ s. extent_round s c.args.page) (sym larger)) parts)
+
+pub returns-clause-tiles : goal.returns-clause-tiles
+returns-clause-tiles g c =
+    let tiles = c.loop-entry.invariant.tiles in
+    let largest : 3 ≤ c.loop-entry.entry.extent.size = omega arith in
+    record {
+      entries = tiles.entries;
+      aligned = tiles.aligned;
+      largest = λ p size e at above low. tiles.largest p size e at above low (λ same. omega (arith, largest, low));
+    }
 
 pub join-requires-clause-extent : goal.join-requires-clause-extent
 join-requires-clause-extent g c =

@@ -1,13 +1,41 @@
-use Rattle.std.proofs.Common.{◌≡◌, ℕ, ◌<◌, ◌≤◌, false, eqb, inl, inr, ap, sym, ◌∙◌, arith}
+use Rattle.std.proofs.Common.{◌≡◌, ℕ, suc, ◌+◌, ◌*◌, ◌<◌, ◌≤◌, Some, false, eqb, inl, inr, ap, sym, ◌∙◌, arith}
 use Rattle.std.proofs.lemmas.Bool.{cases_eq, eq-eqb, eqb-true, false≢true}
 use Rattle.std.proofs.lemmas.Option.{same_Some}
 use Rattle.pager_model.specs.declared.tile.Mapping.{Mapping}
-use Rattle.page_map.specs.Entries.{mapping_of}
-use Rattle.tiles.proofs.EntryTiles.{alike_all, entry_says, set_apart, set_says, set_tiles, tiles_but}
+use Rattle.pager_model.specs.declared.extent.Extent.{Extent}
+use Rattle.page_map.specs.declared.entry.Entry.{Entry}
+use Rattle.page_map.specs.Entries.{AreEntries, entry_at, entry_with, extent_round, mapping_of}
+use Rattle.tiles.specs.Resident.{Resident}
+use Rattle.tiles.proofs.EntryTiles.{alike_all, entry_says, first_there, put_there, set_apart, set_says, set_tiles, tiles_but}
 use Rattle.tiles.proofs.entries.set.Goals as goal
 
 is_less : (a b : ℕ) → a ≤ b → eqb b a ≡ false → a < b
 is_less a b most differs = elim (cases_eq b a) [ inl same ↦ absurd (false≢true (sym differs ∙ eq-eqb b a same)) | inr apart ↦ omega arith ]
+
+-- the part is the extent of an entry that is there
+stands : (m : Resident) (before part : Entry) (size page : ℕ) (mapping : Mapping) → AreEntries m → entry_at m page ≡ Some before
+    → before.extent.size ≡ size → part ≡ entry_with size page mapping
+    → (e : Entry) × (entry_at m part.extent.first ≡ Some e) × (e.extent ≡ part.extent)
+stands m before part size page mapping entries there sized is =
+    let same : before.extent ≡ part.extent = sym (entries.round page before there) ∙ ap (λ (k : ℕ). extent_round k page) sized
+    ∙ ap (λ (e : Entry). e.extent) (sym is) in
+    (before, ap (λ (x : Extent). entry_at m x.first) (sym same) ∙ first_there m entries page before there, same)
+
+pub replace-requires : goal.replace-requires
+replace-requires g c =
+    stands c.args.map.now c.args.entry c.round-part.result c.args.size c.args.page c.args.mapping c.requires.tiles.entries c.requires.there
+    (eqb-true _ _ (sym c.eq.ensures ∙ c.if-eq.true)) c.round-part.ensures
+
+pub replace-requires-2 : goal.replace-requires-2
+replace-requires-2 g c =
+    let split = c.split_to.ensures in
+    stands c.split_to.new.map c.split_to.result c.round-part.result c.args.size c.args.page c.args.mapping split.tiles.entries split.there
+    split.size c.round-part.ensures
+
+pub join_up-requires-clause-there : goal.join_up-requires-clause-there
+join_up-requires-clause-there g c =
+    rw c.round-part.ensures
+    (put_there c.args.map.now c.replace.new.self c.args.size c.args.page c.args.mapping (rw c.round-part.ensures at c.replace.ensures.entries))
 
 pub join_up-requires-clause-tiles : goal.join_up-requires-clause-tiles
 join_up-requires-clause-tiles g c =
@@ -17,6 +45,9 @@ join_up-requires-clause-tiles g c =
     (set_tiles m c.replace.new.self entry c.args.size c.args.page 0 c.args.mapping c.requires.there
     (eqb-true _ _ (sym c.eq.ensures ∙ c.if-eq.true)) c.requires.first c.requires.frame (tiles_but m c.args.page 0 c.requires.tiles)
     (rw c.round-part.ensures at c.replace.ensures.entries))
+
+pub split_to-requires-clause-tiles : goal.split_to-requires-clause-tiles
+split_to-requires-clause-tiles g c = tiles_but c.args.map.now c.args.page (suc c.args.entry.extent.size) c.requires.tiles
 
 pub returns-then-eq-clause-pages : goal.returns-then-eq-clause-pages
 returns-then-eq-clause-pages g c p =
@@ -52,3 +83,26 @@ returns-clause-tiles g c =
     })
     (set_tiles c.split_to.new.map n c.split_to.result c.args.size c.args.page _ c.args.mapping split.there split.size c.requires.first
     (c.requires.frame ∙ ap (λ (x : Mapping). x.frame) says) split.tiles maps)
+
+pub returns-clause-there : goal.returns-clause-there
+returns-clause-there g c =
+    rw c.round-part.ensures
+    (put_there c.split_to.new.map c.replace-2.new.self c.args.size c.args.page c.args.mapping (rw c.round-part.ensures at c.replace-2.ensures.entries))
+
+cost_joined : (begun put done size : ℕ) → put ≤ begun + 10 → done + 16 * size ≤ put + 48 → done ≤ begun + 58
+cost_joined begun put done size one more = omega arith
+
+pub returns-then-eq-clause-cost : goal.returns-then-eq-clause-cost
+returns-then-eq-clause-cost g c =
+    cost_joined c.args.steps.now c.replace.new.steps c.join_up.new.steps c.round-part.result.extent.size c.replace.ensures.cost
+    c.join_up.ensures.cost
+
+cost_broken : (begun broken done size whole : ℕ) → whole ≤ 3 → broken + 12 * size ≤ begun + 12 * whole → done ≤ broken + 10
+    → done ≤ begun + 58
+cost_broken begun broken done size whole low first last = omega arith
+
+pub returns-clause-cost : goal.returns-clause-cost
+returns-clause-cost g c =
+    let entry = c.args.entry in
+    cost_broken c.args.steps.now c.split_to.new.steps c.replace-2.new.steps c.args.size entry.extent.size
+    (c.requires.tiles.entries.low c.args.page entry c.requires.there) c.split_to.ensures.cost c.replace-2.ensures.cost

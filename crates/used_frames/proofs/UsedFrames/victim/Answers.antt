@@ -1,5 +1,6 @@
-use Rattle.std.proofs.Common.{Some, sym}
-use Rattle.used_frames.proofs.VictimWalk.{IsLeast-reached, IsReached, IsReached-after, IsReached-first, fewer_left, none_reached}
+use Rattle.std.proofs.Common.{Some, sym, arith}
+use Rattle.pager_model.proofs.Lists.{get_or_within}
+use Rattle.used_frames.proofs.VictimWalk.{IsLeast-reached, IsReached, IsReached-after, IsReached-first, ages_of, fewer_left, none_reached}
 use Rattle.used_frames.proofs.UsedFrames.victim.Goals as goal
 use Rattle.used_frames.proofs.UsedFrames.victim.Goals.{In-Some}
 
@@ -13,6 +14,11 @@ pub returns-then-not-is_claimed-clause-found : goal.returns-then-not-is_claimed-
 returns-then-not-is_claimed-clause-found c =
     rw (← c.self.view_is) (IsLeast-reached c.self.inside.notes c.in-Some.frame
     (reached (goal.at.returns-then-not-is_claimed-clause-found c).In-Some) (sym c.if-not-is_claimed.ensures))
+
+pub after-next-requires : goal.after-next-requires
+after-next-requires c =
+    let own = (reached (goal.at.after-next-requires c).In-Some).in_order in
+    omega (arith, get_or_within (ages_of c.self.inside.notes) c.in-Some.frame own.0 own.1, c.self.invariant.ordered.long)
 
 pub loop-next-preserved : goal.loop-next-preserved
 loop-next-preserved c =

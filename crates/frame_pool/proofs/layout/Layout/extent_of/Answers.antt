@@ -37,6 +37,9 @@ unwrap-first-requires c =
     let chosen = c.take-2.ensures.chosen ∙ ap (λ (m : Layout). choice m.free c.args.size) (c.self-2.view_is ∙ c.break_at.ensures) in
     ap is_some chosen ∙ choice-oldest l c.args.size c.in_ok-id.id laid (sym c.in_ok-id.ensures)
 
+pub invariant_of-self-2 : goal.invariant_of-self-2
+invariant_of-self-2 c = rw c.in_default.ensures.taken c.self.invariant
+
 pub invariant_of-self-3 : goal.invariant_of-self-3
 invariant_of-self-3 c =
     let was = c.self-2.invariant in

@@ -96,3 +96,19 @@ returns-in_err-found-clause-none c =
           (ap (λ k. largest_extent k l) (sym c.preferred-size.ensures) ∙ none.0),
       none.1,
     )
+
+pub put-frame-requires-clause-few : goal.put-frame-requires-clause-few
+put-frame-requires-clause-few c = c.requires.few
+
+pub put-frame-requires-clause-placed : goal.put-frame-requires-clause-placed
+put-frame-requires-clause-placed c =
+    let found = rw (← c.self-2.view_is) at c.in_ok-found.ensures.found in
+    record {
+      named = refl;
+      aligned = found.aligned;
+      within = omega (arith, found.known, c.self-2.invariant.0.records_long);
+      pages_aligned = (found.aligned.0, c.extent_round-pages.ensures.aligned);
+    }
+
+pub returns-in_err-found-clause-placed : goal.returns-in_err-found-clause-placed
+returns-in_err-found-clause-placed c = rw c.from_residual.ensures tt

@@ -5,7 +5,7 @@ use Rattle.pager_laws.specs.Laid.{IsLaid}
 use Rattle.frame_pool.specs.PoolState.{state_of}
 use Rattle.frame_pool.specs.Pooled.{IsPool}
 use Rattle.pager_laws.proofs.PageMoves.{frame_of-give_page}
-use Rattle.frame_pool.proofs.PoolFields.{frame_noted, give_page-is, IsPool-given}
+use Rattle.frame_pool.proofs.PoolFields.{frame_noted, give_page-is, giver_used, IsPool-given}
 use Rattle.frame_pool.proofs.pool.Pool.give.Goals as goal
 
 -- the page has no place then, and every other page keeps its own
@@ -23,6 +23,22 @@ remove-claim-requires c =
     let is : frame_of (state_of p) c.args.space c.args.page ≡ Some n = rw (← c.self.view_is) at c.requires
     ∙ ap Some (sym c.number-number.ensures) in
     frame_noted p c.args.space c.args.page n c.self.invariant is
+
+pub vacate-requires : goal.vacate-requires
+vacate-requires c =
+    let p = c.self.inside in
+    let n = c.number-number.result in
+    let is : frame_of (state_of p) c.args.space c.args.page ≡ Some n = rw (← c.self.view_is) at c.requires
+    ∙ ap Some (sym c.number-number.ensures) in
+    giver_used p c.args.space c.args.page n c.self.invariant is
+
+pub carve-requires : goal.carve-requires
+carve-requires c =
+    let p = c.self.inside in
+    let n = c.number-number.result in
+    let is : frame_of (state_of p) c.args.space c.args.page ≡ Some n = rw (← c.self.view_is) at c.requires
+    ∙ ap Some (sym c.number-number.ensures) in
+    giver_used p c.args.space c.args.page n c.self.invariant is
 
 pub invariant_of-self : goal.invariant_of-self
 invariant_of-self c =

@@ -1,14 +1,40 @@
-use Rattle.std.proofs.Common.{◌≡◌, ◌+◌, ◌++◌, length, map, reverse, Some, ap, sym, subst, ◌∙◌, arith}
-use Rattle.std.proofs.lemmas.List.{length_push}
+use Rattle.std.proofs.Common.{◌≡◌, ◌+◌, ◌++◌, [], length, map, reverse, is_some, Some, ap, sym, subst, ◌∙◌, arith}
+use Rattle.std.specs.List.{All}
+use Rattle.std.proofs.lemmas.Bool.{false≢true}
+use Rattle.std.proofs.lemmas.List.{length_push, length-reverse}
 use Rattle.std.proofs.lemmas.List.Elements.{All-pop}
 use Rattle.pager_model.specs.SizeSets.{SizeSet}
 use Rattle.pager_model.specs.SpaceStates.{empty_state}
 use Rattle.space_core.specs.Rooms.{Capacity}
 use Rattle.space_core.specs.Standing.{Kept, StandsFor}
 use Rattle.pager_core.specs.RunParts.{AreRoomsOver}
-use Rattle.pager_core.proofs.Stores.{in_order-more, first_used, left_over, are_new, AreNew-push}
+use Rattle.pager_core.proofs.Stores.{in_order-more, first_used, left_over, are_new, turned_back, AreNew, AreNew-push}
 use Rattle.pager_core.proofs.run_parts.SpaceRooms.over.Given.{Over}
 use Rattle.pager_core.proofs.run_parts.SpaceRooms.over.Goals as goal
+
+-- at first there are none
+AreNew-none : (room : Capacity) → AreNew room []
+AreNew-none room s kept told at zeros = absurd (false≢true (ap is_some at))
+
+pub loop-room-init : goal.loop-room-init
+loop-room-init g c =
+    let none = c.self.invariant.1 in
+    let left = c.reverse.new.self.items in
+    let same_rooms = ap length c.self.view_is in
+    let as_many = ap length c.reverse.ensures.items ∙ length-reverse c.args.stores.items in
+    record {
+      count = omega (arith, ap length none, same_rooms);
+      alike = λ room all. (
+        subst (All (λ r. r ≡ room)) (sym c.self.view_is) all,
+        subst (AreNew room) (sym none) (AreNew-none room),
+      );
+      stores =
+          sym (turned_back g.S.Store.seen c.args.stores.items left c.reverse.ensures.items)
+          ∙ ap (λ l. map (λ (k : Kept). k.store) l ++ map g.S.Store.seen (reverse left)) (sym none);
+      enough = omega (arith, same_rooms, as_many, c.requires.enough);
+      room = omega (arith, ap length none, c.self.invariant.2);
+      capacity = c.reverse.ensures.capacity;
+    }
 
 pub loop-room-preserved : goal.loop-room-preserved
 loop-room-preserved g c =
@@ -62,3 +88,25 @@ pub returns-clause-new : goal.returns-clause-new
 returns-clause-new g c = λ given over. are_new given c.args.self c.loop-room.spaces.items (count g c)
     (λ room all. (c.loop-room.invariant.alike room all).1)
     (subst (λ l. AreRoomsOver given l c.args.self) (sym (returns-clause-used g c)) over)
+
+pub over-requires-clause-few : goal.over-requires-clause-few
+over-requires-clause-few g c κs within =
+    let fewer = ap length c.in-Some.ensures.items ∙ length_push c.pop.new.self.items c.in-Some.room in
+    omega (arith, fewer, c.loop-room.invariant.count, c.len-number.ensures, c.loop-room.spaces.ok.0, c.self.invariant.0, ap length c.self.view_is)
+
+pub unreachable-requires : goal.unreachable-requires
+unreachable-requires g c =
+    let fewer = ap length c.in-Some.ensures.items ∙ length_push c.pop.new.self.items c.in-Some.room in
+    omega (arith, fewer, c.loop-room.invariant.enough, c.in_default-pop.ensures.cases.0, c.loop-room.left.ok.0)
+
+pub push_reserved-requires : goal.push_reserved-requires
+push_reserved-requires g c =
+    let fewer = ap length c.in-Some.ensures.items ∙ length_push c.pop.new.self.items c.in-Some.room in
+    omega (arith, fewer, c.loop-room.invariant.room, c.loop-room.spaces.ok.0)
+
+pub loop-room-smaller : goal.loop-room-smaller
+loop-room-smaller g c = omega (arith, ap length c.in-Some.ensures.items, length_push c.pop.new.self.items c.in-Some.room)
+
+pub overflow_cast-number : goal.overflow_cast-number
+overflow_cast-number g c =
+    omega (arith, c.loop-room.invariant.count, c.len-number.ensures, c.loop-room.spaces.ok.0, c.self.invariant.0, ap length c.self.view_is)

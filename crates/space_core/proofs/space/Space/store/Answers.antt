@@ -1,4 +1,5 @@
-use Rattle.std.proofs.Common.{◌≡◌, ◌∙◌, length, refl, sym, ap, inl, inr}
+use Rattle.std.proofs.Common.{◌≡◌, ◌∙◌, length, refl, sym, ap, inl, inr, arith}
+use Rattle.std.proofs.lemmas.List.{length-map}
 use Rattle.std.proofs.lemmas.Option.{none-some}
 use Rattle.pager_model.specs.Flat.{page_of}
 use Rattle.space_core.specs.Standing.{Kept}
@@ -15,6 +16,12 @@ write_word_by-requires-clause-resident g c =
     let found = rw (← c.self.view_is) at c.requires.found in
     (page_of c.args.address, frame-mapped c.self.inside.table (page_of c.args.address) c.args.found.mapping found.mapping)
 
+pub write_word_by-requires-clause-index : goal.write_word_by-requires-clause-index
+write_word_by-requires-clause-index g c = c.word_of-index.ensures.in_page
+
+pub touch-requires : goal.touch-requires
+touch-requires g c = (c.type_bounds.send-S, rw (← c.self.view_is) at c.requires.processor)
+
 pub invariant_of-self : goal.invariant_of-self
 invariant_of-self g c =
     let found = rw (← c.self.view_is) at c.requires.found in
@@ -23,6 +30,12 @@ invariant_of-self g c =
     stored_kept (as_fields c.self.view_is) c.write_word_by.new.self _ _ _ _ c.self.invariant
     (sets_dirty _ _ _ _ _ dirty (c.write_word_by.ensures (page_of c.args.address) has))
     (rw (← c.self.view_is) at c.requires.resting).none_pending
+
+pub has_translation-hit-requires : goal.has_translation-hit-requires
+has_translation-hit-requires g c = (c.type_bounds.send-S, c.requires.processor)
+
+pub set_word-moves-requires-clause-index : goal.set_word-moves-requires-clause-index
+set_word-moves-requires-clause-index g c = c.word_of-index.ensures.in_page
 
 pub set_word-moves-requires-clause-resident : goal.set_word-moves-requires-clause-resident
 set_word-moves-requires-clause-resident g c =
@@ -45,6 +58,13 @@ unreachable-requires g c =
     let table : c.self-3.inside.table ≡ u = ap (λ (k : Kept). k.table) c.self-3.view_is ∙ rw c.follow.ensures refl in
     let none = sym (rw (c.in_default.is, c.page_of-page.ensures.page, table) at c.translate.ensures.mapping) in
     none-some _ (sym (frame-absent u (page_of c.args.address) none) ∙ has)
+
+pub touch-answered-requires : goal.touch-answered-requires
+touch-answered-requires g c =
+    let followed : length c.self-3.inside.images ≡ length c.follow.new.self.images = ap (λ (k : Kept). length k.images) c.self-3.view_is in
+    let kept : length c.follow.new.self.images ≡ length c.self-2.inside.images = rw c.follow.ensures (simp length-map) in
+    let was : length c.self-2.inside.images ≡ length c.args.self.now.images = ap (λ (k : Kept). length k.images) c.self-2.view_is in
+    (c.type_bounds.send-S, omega (arith, followed, kept, was, c.requires.processor))
 
 pub returns-then-found : goal.returns-then-found
 returns-then-found g c =

@@ -16,11 +16,7 @@ unreachable-requires g c =
     ∙ c.in_default.is)
 
 pub invariant_of-self : goal.invariant_of-self
-invariant_of-self g c =
-    let t = the_view c.self.inside in
-    let has = rw (← c.self.view_is) at c.requires.resident in
-    let is = frame-read t _ _ (found_within _ c.self.invariant _ _ has) c.index_mut.ensures.value ∙ c.in-Some.is in
-    rewritten_paged t c.self.invariant _ _ _ has (frame-number t c.self.invariant _ _ _ has is)
+invariant_of-self g c = c.self.invariant
 
 pub invariant_of-self-2 : goal.invariant_of-self-2
 invariant_of-self-2 g c =

@@ -3,6 +3,9 @@ use Rattle.space_core.specs.contracts.table.PageTable.{the_view}
 use Rattle.space_core.proofs.TableLemmas.{frame_in-is, frame-read, frame-number, frame-there, found_within, next_some, next_none, take_paged, take_maps}
 use Rattle.space_core.proofs.table.PageTable.take_next.Goals as goal
 
+pub invariant_of-self : goal.invariant_of-self
+invariant_of-self c = rw c.in_err-page.ensures.none.1 c.self.invariant
+
 pub returns-in_err-page-clause-none : goal.returns-in_err-page-clause-none
 returns-in_err-page-clause-none c =
     let t = the_view c.self.inside in

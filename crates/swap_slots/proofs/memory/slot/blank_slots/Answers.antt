@@ -16,3 +16,12 @@ loop-preserved c =
     (sym c.in-Some.ensures.items ∙ c.loop.invariant.3 ∙ ap (λ n. map zero_frame (range_with_len 0 n)) one_more
     ∙ map-range_with_len_more zero_frame 0 left left (omega arith)) in
     search (rules, replicate_next c.loop.counter (Some zero_words), taken.0, taken.1)
+
+pub loop-init : goal.loop-init
+loop-init c =
+    let left : c.args.count ≡ c.args.count - 0 = omega arith in (
+      c.in_ok-slots.ensures.items,
+      search rules,
+      c.in_ok-slots.ensures.len,
+      c.in_ok-frames.ensures ∙ ap (λ n. map zero_frame (range_with_len 0 n)) left,
+    )

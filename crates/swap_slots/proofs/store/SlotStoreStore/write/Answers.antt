@@ -4,7 +4,7 @@ use Rattle.pager_model.specs.SpaceStates.{last_count}
 use Rattle.swap_slots.specs.declared.table.PageCopy.TheVariants.{Lost}
 use Rattle.swap_slots.specs.SlotState.{SlotState}
 use Rattle.swap_slots.specs.Slots.{Slots, SetsPage}
-use Rattle.swap_slots.proofs.SlotCopies.{sets_written, sets_failed, sets_lost, keeps_at-slots, rises_device, rises_refused, unchanged}
+use Rattle.swap_slots.proofs.SlotCopies.{sets_written, sets_failed, sets_lost, keeps_at-slots, rises_device, rises_refused, unchanged, never_falls, capped}
 use Rattle.swap_slots.proofs.store.SlotStoreStore.write.Goals as goal
 
 pub returns-then-page-ge-PAGES-clause-no_memory : goal.returns-then-page-ge-PAGES-clause-no_memory
@@ -48,3 +48,21 @@ returns-in-Err-SlotsFull-clause-failed g c = λ _.
       rises_refused before after (ap (λ s. s.device) same) (c.saturating_add-self-inside.ensures
           ∙ ap (λ s. min (s.refused + 1) last_count) same),
     )
+
+pub returns-then-page-ge-PAGES-clause-capped : goal.returns-then-page-ge-PAGES-clause-capped
+returns-then-page-ge-PAGES-clause-capped g c = capped _ _
+
+pub returns-in-Ok-clause-capped : goal.returns-in-Ok-clause-capped
+returns-in-Ok-clause-capped g c = capped _ _
+
+pub returns-in-Err-Failed-clause-capped : goal.returns-in-Err-Failed-clause-capped
+returns-in-Err-Failed-clause-capped g c = capped _ _
+
+pub returns-in-Err-SlotsFull-clause-capped : goal.returns-in-Err-SlotsFull-clause-capped
+returns-in-Err-SlotsFull-clause-capped g c = capped _ _
+
+pub returns-in-Ok-clause-never_falls : goal.returns-in-Ok-clause-never_falls
+returns-in-Ok-clause-never_falls g c = never_falls _ _ _ _ c.put.ensures.never_falls (omega (arith, c.put.ensures.refused))
+
+pub returns-in-Err-Failed-clause-never_falls : goal.returns-in-Err-Failed-clause-never_falls
+returns-in-Err-Failed-clause-never_falls g c = never_falls _ _ _ _ c.put.ensures.never_falls (omega (arith, c.put.ensures.refused))

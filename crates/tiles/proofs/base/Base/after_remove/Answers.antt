@@ -1,8 +1,14 @@
-use Rattle.std.proofs.Common.{None, refl, ap, ◌∙◌}
+use Rattle.std.proofs.Common.{◌≡◌, None, refl, ap, ◌∙◌}
 use Rattle.tiles.specs.Changes.{frame_within}
 use Rattle.tiles.specs.Resident.{mapping_at}
+use Rattle.tiles.proofs.KeptPages.{maps_same}
 use Rattle.tiles.proofs.PageChanges.{frame_by_tile}
 use Rattle.tiles.proofs.base.Base.after_remove.Goals as goal
+
+pub returns-in_default-clause-maps : goal.returns-in_default-clause-maps
+returns-in_default-clause-maps g c =
+    let none : None ≡ mapping_at c.self.inside.pages c.args.page = rw c.in_default.is at c.find.ensures.mapping in
+    rw (← c.self.view_is) (maps_same c.args.page None c.self.inside.pages none)
 
 pub returns-in_default-clause-changes : goal.returns-in_default-clause-changes
 returns-in_default-clause-changes g c = c.none.ensures.changes c.args.self.now c.args.self.now (λ p. refl)

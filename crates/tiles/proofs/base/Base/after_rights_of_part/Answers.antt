@@ -1,5 +1,6 @@
 use Rattle.std.proofs.Common.{sym, subst, ap, ◌+◌, arith}
 use Rattle.pager_model.proofs.ExtentLemmas.{eight_pos}
+use Rattle.pager_model.specs.declared.region.Rights.{Rights}
 use Rattle.pager_model.specs.declared.tile.Mapping.{Mapping}
 use Rattle.tiles.specs.Blocks.{ProtectsTo}
 use Rattle.tiles.specs.Kept.{MapsExtent}
@@ -24,3 +25,17 @@ returns-clause-protects c =
     subst (λ n. ProtectsTo c.args.page (c.args.page + n) c.args.rights c.args.self.now c.set.new.pages) (sym c.pages.ensures)
     (protects_part c.largest_part-size.result c.args.page c.args.rights given c.args.entry c.args.self.now c.set.new.pages c.requires.fits part.within part.first is
     (subst (λ r. MapsExtent c.largest_part-size.result c.args.page given r c.set.new.pages) c.self.view_is c.set.ensures))
+
+pub returns-clause-within : goal.returns-clause-within
+returns-clause-within c = omega (arith, c.pages.ensures, c.largest_part-size.ensures.last)
+
+pub set-requires-clause-size : goal.set-requires-clause-size
+set-requires-clause-size c = c.largest_part-size.ensures.within
+
+pub set-requires-clause-frame : goal.set-requires-clause-frame
+set-requires-clause-frame c = ap (λ (m : Mapping). m.frame) c.mapping_of.ensures
+
+pub set-requires-clause-other : goal.set-requires-clause-other
+set-requires-clause-other c = λ same.
+    let kept = ap (λ (m : Mapping). m.rights) same in
+    c.has_other_rights.ensures.other c.if-not-has_other_rights.false (ap (λ (r : Rights). with_rights r c.args.entry.mapping) kept)

@@ -2,7 +2,7 @@ use Rattle.std.proofs.Common.{◌≡◌, ◌≢◌, ◌<◌, ℕ, None, Some, sy
 use Rattle.page_map.specs.Entries.{entry_at}
 use Rattle.tiles.specs.Changes.{IsTurn}
 use Rattle.tiles.specs.Kept.{ArePages}
-use Rattle.tiles.specs.Resident.{mapping_at, frames_in, frame_of_page}
+use Rattle.tiles.specs.Resident.{Maps, mapping_at, frames_in, frame_of_page}
 use Rattle.tiles.specs.contracts.pages.Pages.{the_view}
 use Rattle.tiles.proofs.EntryTiles.{none_says, unmapped}
 use Rattle.tiles.proofs.KeptPages.{room_for_one, fill_kept, tile_there}
@@ -20,6 +20,12 @@ fill-entry-requires-clause-room g c =
     let absent = unmapped c.args.self.now c.args.page c.requires.absent in
     rw c.self.view_is (room_for_one c.args.self.now
     (rw c.self.view_is at c.self.invariant) c.args.page c.args.mapping absent c.requires.known c.requires.other c.requires.page)
+
+pub fill-entry-requires-clause-page : goal.fill-entry-requires-clause-page
+fill-entry-requires-clause-page g c = c.requires.page
+
+pub fill-entry-requires-clause-tiles : goal.fill-entry-requires-clause-tiles
+fill-entry-requires-clause-tiles g c = c.self.invariant.tiles
 
 module _ (g : Over) (c : After-fill-entry g) where
   absent : entry_at (the_view c.self.inside) c.args.page ≡ None
@@ -51,3 +57,9 @@ returns-clause-turn g c =
     (turn_of r s c.self.invariant (kept g b) page _
     (sym (tile_absent (mapping_at r) page (none_says r page (absent g b))))
     (tile_there s page c.fill-entry.result c.tile.result made.tiles made.there c.tile.ensures))
+
+pub returns-clause-maps : goal.returns-clause-maps
+returns-clause-maps g c =
+    let made = c.fill-entry.ensures in
+    subst (λ r. Maps c.args.page (Some c.args.mapping) r c.fill-entry.new.map) c.self.view_is
+    (record { frames = made.frames; at = made.pages })

@@ -1,7 +1,7 @@
 use Rattle.std.proofs.Common.{◌≡◌, Some, ap, subst, ◌∙◌, arith}
 use Rattle.page_map.specs.Entries.{entry_at}
 use Rattle.tiles.specs.Changes.{IsTurn}
-use Rattle.tiles.specs.Kept.{ArePages}
+use Rattle.tiles.specs.Kept.{ArePages, MapsExtent}
 use Rattle.tiles.specs.contracts.pages.Pages.{the_view}
 use Rattle.tiles.proofs.KeptPages.{entry_fits, set_kept, tile_there}
 use Rattle.tiles.proofs.PageChanges.{turn_of}
@@ -13,6 +13,18 @@ pub set-after-requires-clause-fits : goal.set-after-requires-clause-fits
 set-after-requires-clause-fits g c =
     let fits = entry_fits c.args.self.now (rw c.self.view_is at c.self.invariant) c.args.page c.args.entry c.requires.there in
     omega (arith, fits.frames, fits.few)
+
+pub set-after-requires-clause-there : goal.set-after-requires-clause-there
+set-after-requires-clause-there g c = ap (λ r. entry_at r c.args.page) c.self.view_is ∙ c.requires.there
+
+pub set-after-requires-clause-tiles : goal.set-after-requires-clause-tiles
+set-after-requires-clause-tiles g c = c.self.invariant.tiles
+
+pub set-after-requires-clause-frame : goal.set-after-requires-clause-frame
+set-after-requires-clause-frame g c = c.requires.frame
+
+pub set-after-requires-clause-other : goal.set-after-requires-clause-other
+set-after-requires-clause-other g c = c.requires.other
 
 module _ (g : Over) (c : After-set-after g) where
   there : entry_at (the_view c.self.inside) c.args.page ≡ Some c.args.entry
@@ -37,3 +49,9 @@ returns-clause-turn g c =
     (turn_of r s c.self.invariant (kept g b) page _
     (tile_there r page c.args.entry c.tile.result c.self.invariant.tiles (there g b) c.tile.ensures)
     (tile_there s page c.set-after.result c.tile-2.result made.tiles made.there c.tile-2.ensures))
+
+pub returns-clause-maps : goal.returns-clause-maps
+returns-clause-maps g c =
+    let made = c.set-after.ensures in
+    subst (λ r. MapsExtent c.args.size c.args.page c.args.mapping r c.set-after.new.map) c.self.view_is
+    (record { frames = made.frames; at = made.pages })

@@ -1,6 +1,6 @@
-use Rattle.std.proofs.Common.{◌≡◌, ◌+◌, ◌*◌, ◌/◌, ◌%◌, ◌^◌, [], ◌∷◌, ◌++◌, suc, length, sym, ap, ◌∙◌, add-one, arith}
+use Rattle.std.proofs.Common.{◌≡◌, ℕ, ◌+◌, ◌*◌, ◌/◌, ◌%◌, ◌^◌, ◌<◌, [], ◌∷◌, ◌++◌, suc, length, sym, ap, ◌∙◌, add-one, arith}
 use Rattle.std.proofs.lemmas.List.{append-nil, length-append}
-use Rattle.pager_model.proofs.ExtentLemmas.{eight_pos}
+use Rattle.pager_model.proofs.ExtentLemmas.{eight_pos, eight_small}
 use Rattle.tiles.specs.Changes.{beside, own_part, part_from, part_start}
 use Rattle.tiles.proofs.Pieces.{beside-none, fewer, part_inside, more-own, more-other}
 use Rattle.tiles.proofs.tile_list.TileList.add_beside.Goals as goal
@@ -26,6 +26,26 @@ nonzero_div-first c = omega (arith, wide c, eight_pos (suc c.args.level))
 
 pub nonzero_div-own : goal.nonzero_div-own
 nonzero_div-own c = omega (arith, narrow c, eight_pos c.args.level)
+
+pub overflow_mul-first : goal.overflow_mul-first
+overflow_mul-first c = omega (arith, wide c, eight_pos (suc c.args.level))
+
+part_below : (c : After-pages-wide) (part : ℕ) → part < 8
+    → c.args.page / c.pages-wide.result * c.pages-wide.result + part * c.pages-pages.result < 2 ^ 32
+part_below c part few =
+    let size = c.args.whole.now.extent.size in
+    let inside = part_inside size c.args.level c.args.page part c.requires.level c.requires.round.low few in
+    omega (arith, starts c part, inside.below, eight_small size c.requires.round.low, eight_pos size)
+
+pub overflow_mul-part : goal.overflow_mul-part
+overflow_mul-part c =
+    let below = part_below (goal.at.overflow_mul-part c).After-pages-wide c.loop-part.part c.loop-part-test.true in
+    omega (arith, below)
+
+pub overflow_add-first : goal.overflow_add-first
+overflow_add-first c =
+    let below = part_below (goal.at.overflow_add-first c).After-pages-wide c.loop-part.part c.loop-part-test.true in
+    omega (arith, below)
 
 pub loop-part-init : goal.loop-part-init
 loop-part-init c = sym (ap (λ xs. c.args.self.now ++ xs) (beside-none c.args.level c.args.page c.args.whole.now)
