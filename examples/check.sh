@@ -149,6 +149,25 @@ compare compared-in-use $? 0 '' compared-in-use.table
 
 runs_of explanations none explain ../tools/explain
 
+# Runs the program beside the slow checker on drawn traces, as docs/comparison.md says. What that prints is shown only where a run differs.
+judge() {
+    name=$1
+    shift
+    run /dev/null told ../tools/judge compare "$@" --program "$program"
+    status=$?
+    if [ "$status" = 0 ]; then : >"$made/output"; fi
+    : >"$made/message"
+    compare "$name" "$status" 0 '' ''
+}
+
+judge drawn-with-ample-frames --seeds 1..40 --forms order,turns
+judge drawn-with-few-frames --seeds 251..290 --forms order,turns
+judge drawn-by-page-sizes --seeds 501..506 --sizes all
+judge drawn-short-of-frames --seeds 1..6 --short
+judge drawn-curves --seeds 1..20 --forms curve
+judge drawn-plans --seeds 251..256 --forms plan1,plan2,plan3
+judge drawn-over-slots --seeds 251..256 --forms order,turns --swap 8
+
 # The runs over folders are counted with the others; one more has failed where they can't be made.
 ./check-folders.sh "$program" >"$made/folders" 2>&1
 sed '$d' "$made/folders"

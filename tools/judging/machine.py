@@ -1,4 +1,4 @@
-"""A slow machine: calls in progress, stepped by the table of docs/steps.md (crates/pager_core/specs/Rows.antt, Steps.antt), over stores in
+"""A slow machine: calls in progress, stepped by the table of docs/steps.md (crates/flight_core/specs/Rows.antt, Steps.antt), over stores in
 memory that may fail. The words of resident pages are in their frames, so that what a load finds there can differ from what the flat memory
 says; and each entry that a step makes is judged by the definitions as it is made.
 """

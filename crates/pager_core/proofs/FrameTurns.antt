@@ -5,15 +5,15 @@ use Rattle.std.proofs.lemmas.Option.{none-some, same_Some}
 use Rattle.pager_model.specs.Legal.{entries_in}
 use Rattle.pager_model.specs.Settings.{mark_of}
 use Rattle.space_core.specs.Standing.{Kept}
-use Rattle.pager_core.specs.declared.flight.Flight.{Flight}
-use Rattle.pager_core.specs.Flights.{IsReady, IsAtRest}
-use Rattle.pager_core.specs.Rows.{row_of, space_under}
+use Rattle.flight_core.specs.declared.flight.Flight.{Flight}
+use Rattle.flight_core.specs.Flights.{IsReady, IsAtRest}
+use Rattle.flight_core.specs.Rows.{row_of, space_under}
 use Rattle.pager_core.specs.Running.{flight_at, jobs_at}
-use Rattle.pager_core.specs.Steps.{MakesOnFrames}
+use Rattle.flight_core.specs.Steps.{MakesOnFrames}
 use Rattle.pager_core.proofs.Lands.{Lands, own_kept}
 use Rattle.pager_core.proofs.LegalSteps.{space_at-unnamed}
 use Rattle.pager_core.proofs.MachineTurns.{Goes, IsWhole, Keeps, MachineParts, Step, state_then, state_was, victim_within}
-use Rattle.pager_core.proofs.NextFlights.{keeps_none, under_cases}
+use Rattle.flight_core.proofs.NextFlights.{keeps_none, under_cases}
 
 -- what is said of the space of an entry that names none
 no_space : (P : ℕ → Type 0) (o : Option ℕ) → o ≡ None → IfSome o P

@@ -8,9 +8,9 @@ use Rattle.std.proofs.Math.ListN.{length-replicate, length-set, set}
 use Rattle.pager_model.specs.declared.trace.Job.{Job}
 use Rattle.pager_model.specs.declared.trace.Job.TheVariants.{Call as MakesCall, Turn}
 use Rattle.pager_model.proofs.Lists.{get_or-alike, get_or_within, set_cases}
-use Rattle.pager_core.specs.declared.flight.Flight.{Flight}
+use Rattle.flight_core.specs.declared.flight.Flight.{Flight}
 use Rattle.pager_core.specs.Machines.{IsOther, AreKeepers}
-use Rattle.pager_core.specs.Rows.{row_of}
+use Rattle.flight_core.specs.Rows.{row_of}
 use Rattle.pager_core.specs.Running.{flight_at, flight_for, flight_of, first_flights, jobs_at, kept_by, IsKeptByOther}
 
 -- At the start no flight keeps one.

@@ -7,16 +7,16 @@ use Rattle.pager_model.specs.declared.trace.Job.{Job}
 use Rattle.pager_model.specs.declared.trace.Job.TheVariants.{Call as MakesCall, Turn}
 use Rattle.pager_model.specs.Order.{Looking, between, at_rest}
 use Rattle.space_core.specs.Standing.{CanBegin}
-use Rattle.pager_core.specs.declared.flight.Flight.{Flight}
-use Rattle.pager_core.specs.declared.flight.Phase.{Phase}
-use Rattle.pager_core.specs.declared.flight.Phase.TheVariants.{Unclaim, Rested, Ended}
-use Rattle.pager_core.specs.declared.flight.Purpose.{Purpose}
-use Rattle.pager_core.specs.declared.flight.Purpose.TheVariants.{Call as OfCall, Turn as OfTurn}
-use Rattle.pager_core.specs.Flights.{Fits, IsFor}
+use Rattle.flight_core.specs.declared.flight.Flight.{Flight}
+use Rattle.flight_core.specs.declared.flight.Phase.{Phase}
+use Rattle.flight_core.specs.declared.flight.Phase.TheVariants.{Unclaim, Rested, Ended}
+use Rattle.flight_core.specs.declared.flight.Purpose.{Purpose}
+use Rattle.flight_core.specs.declared.flight.Purpose.TheVariants.{Call as OfCall, Turn as OfTurn}
+use Rattle.flight_core.specs.Flights.{Fits, IsFor}
 use Rattle.pager_core.specs.Machines.{CanDo}
-use Rattle.pager_core.specs.Rows.{Outcome, Going, TurnEnded, Answered, call_in, has_ended, is_between, is_of_call, mark_in, own_space, row_of, row_in, space_under}
+use Rattle.flight_core.specs.Rows.{Outcome, Going, TurnEnded, Answered, call_in, has_ended, is_between, is_of_call, mark_in, own_space, row_of, row_in, space_under}
 use Rattle.pager_core.specs.Running.{AreOfMark, FitsMark, entries_left, entries_of_job, flight_for, flight_of, job_in, kept_by, left_behind, progress_by_flight}
-use Rattle.pager_core.specs.Steps.{SameWork}
+use Rattle.flight_core.specs.Steps.{SameWork}
 
 -- Of jobs.
 

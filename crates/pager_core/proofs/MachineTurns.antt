@@ -27,20 +27,20 @@ use Rattle.pager_laws.proofs.HistoryLists.{answers-push, filter_map-push}
 use Rattle.pager_laws.proofs.LegalHistories.{Agrees-legal, IsKept-legal}
 use Rattle.pager_laws.proofs.UnknownSpaces.{base-unknown}
 use Rattle.space_core.specs.Standing.{Kept}
-use Rattle.pager_core.specs.declared.flight.Flight.{Flight}
-use Rattle.pager_core.specs.declared.flight.Purpose.{Purpose}
-use Rattle.pager_core.specs.declared.flight.Purpose.TheVariants.{Call as OfCall, Turn as OfTurn}
-use Rattle.pager_core.specs.declared.flight.Phase.{Phase}
-use Rattle.pager_core.specs.declared.flight.Phase.TheVariants.{Ended, Out}
-use Rattle.pager_core.specs.Flights.{Fits, IsFor, IsReady, IsAtRest}
+use Rattle.flight_core.specs.declared.flight.Flight.{Flight}
+use Rattle.flight_core.specs.declared.flight.Purpose.{Purpose}
+use Rattle.flight_core.specs.declared.flight.Purpose.TheVariants.{Call as OfCall, Turn as OfTurn}
+use Rattle.flight_core.specs.declared.flight.Phase.{Phase}
+use Rattle.flight_core.specs.declared.flight.Phase.TheVariants.{Ended, Out}
+use Rattle.flight_core.specs.Flights.{Fits, IsFor, IsReady, IsAtRest}
 use Rattle.pager_core.specs.Machines.{CanDo, all_left, IsFlying, IsSpaceOf, IsMachine}
-use Rattle.pager_core.specs.Rows.{Outcome, Going, TurnEnded, Answered, call_in, has_ended, mark_in, own_space, reply_in, row_of, is_between, space_under}
+use Rattle.flight_core.specs.Rows.{Outcome, Going, TurnEnded, Answered, call_in, has_ended, mark_in, own_space, reply_in, row_of, is_between, space_under}
 use Rattle.pager_core.specs.Running.{Running, AreOfMark, FitsMark, call_of, calls_among, job_in, jobs_at, flight_at, left_behind, progress_by_flight, progress_of_actor, kept_by, entries_left, left_at, IsNumbered, IsLawful}
-use Rattle.pager_core.specs.Steps.{MakesEntry, answer_made}
+use Rattle.flight_core.specs.Steps.{MakesEntry, answer_made}
 use Rattle.pager_core.proofs.Lists.{enumerate-push, sum_by-lower}
 use Rattle.pager_core.proofs.LegalSteps.{MayFollow-step, frames_at-step, victim_placed}
 use Rattle.pager_core.proofs.Lands.{Fits-for, Lands, Starts-for, ended_progress, job_kept, mark_of_job, own-for, own_kept, under-for}
-use Rattle.pager_core.proofs.NextFlights.{ended_by, made_going, turn_goes_on}
+use Rattle.flight_core.proofs.NextFlights.{ended_by, made_going, turn_goes_on}
 
 -- The parts of a machine: its run, its spaces, its frames, and the room of its history.
 pub record MachineParts : Type 0 where

@@ -14,16 +14,16 @@ use Rattle.pager_laws.specs.Laid.{IsSound}
 use Rattle.pager_laws.proofs.HistoryLists.{entries-few}
 use Rattle.pager_laws.proofs.LegalHistories.{IsKept-legal, OwnsBy-legal}
 use Rattle.space_core.specs.Standing.{Kept}
-use Rattle.pager_core.specs.declared.flight.Flight.{Flight}
-use Rattle.pager_core.specs.declared.flight.Needs.TheVariants.{Frames}
-use Rattle.pager_core.specs.Flights.{Fits, IsReady, IsAtRest}
-use Rattle.pager_core.specs.Rows.{row_of, space_under}
+use Rattle.flight_core.specs.declared.flight.Flight.{Flight}
+use Rattle.flight_core.specs.declared.flight.Needs.TheVariants.{Frames}
+use Rattle.flight_core.specs.Flights.{Fits, IsReady, IsAtRest}
+use Rattle.flight_core.specs.Rows.{row_of, space_under}
 use Rattle.pager_core.specs.Running.{job_in, jobs_at, flight_at, progress_by_flight, IsKeptByOther}
-use Rattle.pager_core.specs.Steps.{AreAgreed, Makes, MakesOnFrames}
+use Rattle.flight_core.specs.Steps.{AreAgreed, Makes, MakesOnFrames}
 use Rattle.pager_core.proofs.FrameTurns.{Goes-on_frames}
 use Rattle.pager_core.proofs.Lands.{Lands, job_kept, lands}
 use Rattle.pager_core.proofs.MachineTurns.{IsWhole, MachineParts, Step, room_left, state_was}
-use Rattle.pager_core.proofs.NextFlights.{anywhere, frames_needed, keeps_under}
+use Rattle.flight_core.proofs.NextFlights.{anywhere, frames_needed, keeps_under}
 use Rattle.pager_core.proofs.SpaceTurns.{Turns, Goes-in, fits}
 
 module _ (m : MachineParts) (c : ℕ) (f : Flight) (machine : IsWhole m) (flies : flight_at m.run.flights c ≡ Some f) where

@@ -7,13 +7,13 @@ use Rattle.pager_model.specs.FrameStates.{FrameState, FramesAllow, frame_of}
 use Rattle.pager_model.specs.Order.{Progress, progress_after}
 use Rattle.pager_model.specs.SpaceStates.{SpaceState}
 use Rattle.space_core.specs.Standing.{Kept, frame_at}
-use Rattle.pager_core.specs.declared.flight.Flight.{Flight}
-use Rattle.pager_core.specs.Flights.{IsReady, LeftBy}
-use Rattle.pager_core.specs.declared.flight.Needs.{Needs}
-use Rattle.pager_core.specs.declared.flight.Needs.TheVariants.{Space, Both}
-use Rattle.pager_core.specs.Rows.{row_of, space_under, Going}
-use Rattle.pager_core.specs.Steps.{AreAgreed, SameWork, SameSpace, Makes, Passes, after_named}
-use Rattle.pager_core.proofs.EntrySteps.{same_space-on, unchanged}
+use Rattle.flight_core.specs.declared.flight.Flight.{Flight}
+use Rattle.flight_core.specs.Flights.{IsReady, LeftBy}
+use Rattle.flight_core.specs.declared.flight.Needs.{Needs}
+use Rattle.flight_core.specs.declared.flight.Needs.TheVariants.{Space, Both}
+use Rattle.flight_core.specs.Rows.{row_of, space_under, Going}
+use Rattle.flight_core.specs.Steps.{AreAgreed, SameWork, SameSpace, Makes, Passes, after_named}
+use Rattle.flight_core.proofs.EntrySteps.{same_space-on, unchanged}
 
 -- after any number of steps that make no entry
 pub record HasPassed (old new : Flight) (was now : Kept) : Type 0 where

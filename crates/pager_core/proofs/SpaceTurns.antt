@@ -6,18 +6,18 @@ use Rattle.std.proofs.Math.ListN.{set, length-set}
 use Rattle.pager_model.specs.Legal.{entries_in}
 use Rattle.pager_model.specs.Settings.{mark_of}
 use Rattle.space_core.specs.Standing.{Kept}
-use Rattle.pager_core.specs.declared.flight.Flight.{Flight}
-use Rattle.pager_core.specs.Flights.{Fits, IsReady, IsAtRest, LeftBy}
+use Rattle.flight_core.specs.declared.flight.Flight.{Flight}
+use Rattle.flight_core.specs.Flights.{Fits, IsReady, IsAtRest, LeftBy}
 use Rattle.pager_core.specs.Machines.{IsSpaceOf}
-use Rattle.pager_core.specs.Rows.{row_of, space_under}
+use Rattle.flight_core.specs.Rows.{row_of, space_under}
 use Rattle.pager_core.specs.Running.{flight_at, jobs_at, IsKeptByOther}
-use Rattle.pager_core.specs.Steps.{Makes, after_named}
-use Rattle.pager_core.proofs.EntrySteps.{Fits-left}
+use Rattle.flight_core.specs.Steps.{Makes, after_named}
+use Rattle.flight_core.proofs.EntrySteps.{Fits-left}
 use Rattle.pager_core.proofs.Lands.{Lands, own_kept}
 use Rattle.pager_core.proofs.LegalSteps.{IsIn, IsIn-left, space_at-elsewhere, space_at-here, space_known}
 use Rattle.pager_core.proofs.Lists.{slice_get-set_same, slice_get-set_other}
 use Rattle.pager_core.proofs.MachineTurns.{Goes, IsWhole, Keeps, MachineParts, Step, state_then, state_was, victim_within}
-use Rattle.pager_core.proofs.NextFlights.{keeps_under, under_cases}
+use Rattle.flight_core.proofs.NextFlights.{keeps_under, under_cases}
 
 -- The actor's flight makes an entry in a space that no other flight keeps, in a machine that is whole.
 pub record Turns (m : MachineParts) (step : Step) (s : ℕ) (was now : Kept) : Type 0 where

@@ -29,9 +29,9 @@ use Rattle.pager_laws.proofs.LegalHistories.{Agrees-legal}
 use Rattle.space_core.specs.Standing.{Kept}
 use Rattle.pager_model.specs.Stored.{Stored}
 use Rattle.pager_model.specs.Stores.{setting_over}
-use Rattle.pager_core.specs.declared.flight.Flight.{Flight}
+use Rattle.flight_core.specs.declared.flight.Flight.{Flight}
 use Rattle.pager_core.specs.Machines.{CanDo, CanFly, all_left, entries_of_trace, entries_of_turns, most_entries, IsFlying, IsMachine}
-use Rattle.pager_core.specs.Rows.{row_of, is_between}
+use Rattle.flight_core.specs.Rows.{row_of, is_between}
 use Rattle.pager_core.specs.RunParts.{AreNewSpaces}
 use Rattle.pager_core.specs.Running.{Running, AreOfMark, FitsMark, calls_among, entries_of_job, flight_for, left_behind, jobs_at, flight_at, flight_of, first_flights, progress_by_flight, entries_left, left_at, IsLawful}
 use Rattle.pager_core.proofs.Lists.{sum_by-same}

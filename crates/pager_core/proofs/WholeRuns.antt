@@ -12,7 +12,7 @@ use Rattle.pager_model.specs.Settings.{Given, mark_of}
 use Rattle.pager_model.specs.Showing.{answers_in}
 use Rattle.pager_laws.proofs.LegalHistories.{Agrees-legal, IsPartition-legal, NothingHeld-legal}
 use Rattle.space_core.specs.Standing.{Kept}
-use Rattle.pager_core.specs.declared.flight.Flight.{Flight}
+use Rattle.flight_core.specs.declared.flight.Flight.{Flight}
 use Rattle.pager_core.specs.Machines.{IsMachine}
 use Rattle.pager_core.specs.RunParts.{AreAtRest, most_in_history}
 use Rattle.pager_core.specs.Running.{Running, calls_among, jobs_at, progress_by_flight, HasEnded, IsNumbered, IsWholeRun}

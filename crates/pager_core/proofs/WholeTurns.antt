@@ -10,18 +10,18 @@ use Rattle.pager_model.specs.FrameStates.{FrameState}
 use Rattle.pager_model.specs.Settings.{mark_of}
 use Rattle.pager_model.proofs.Lists.{get_or_within}
 use Rattle.space_core.specs.Standing.{Kept}
-use Rattle.pager_core.specs.declared.flight.Flight.{Flight}
-use Rattle.pager_core.specs.Flights.{Fits, IsReady}
+use Rattle.flight_core.specs.declared.flight.Flight.{Flight}
+use Rattle.flight_core.specs.Flights.{Fits, IsReady}
 use Rattle.pager_core.specs.Machines.{IsOther, AreKeepers, IsMachine}
-use Rattle.pager_core.specs.Rows.{Going, has_ended, row_of, space_under}
+use Rattle.flight_core.specs.Rows.{Going, has_ended, row_of, space_under}
 use Rattle.pager_core.specs.Running.{Running, jobs_at, flight_at, flight_of, IsKeptByOther, MustWait, left_at, WentOn, OneMore, IsLawful}
-use Rattle.pager_core.specs.Steps.{AreAgreed, Makes, SameWork}
+use Rattle.flight_core.specs.Steps.{AreAgreed, Makes, SameWork}
 use Rattle.pager_core.proofs.FrameTurns.{TurnsOnFrames, Goes-on_frames}
 use Rattle.pager_core.proofs.Keepers.{kept_if, unkept_if, AreKeepers-same, AreKeepers-moved}
 use Rattle.pager_core.proofs.Lands.{Lands, Lands-on, job_kept}
 use Rattle.pager_core.proofs.ReadyFlights.{space_within, IsReady-machine, AreAgreed-machine, image-machine, room_in}
 use Rattle.pager_core.proofs.MachineTurns.{Goes, IsWhole, MachineParts, Step, state_was, run_after, left_own, IsLawful-turn, IsMachine-turn}
-use Rattle.pager_core.proofs.NextFlights.{keeps_none, keeps_under}
+use Rattle.flight_core.proofs.NextFlights.{keeps_none, keeps_under}
 use Rattle.pager_core.proofs.SpaceTurns.{Turns, Goes-in, fits, keeps_here}
 
 -- what an index gives

@@ -1,6 +1,3 @@
-pub mod Rows
-pub mod Flights
-pub mod Steps
 pub mod RunParts
 pub mod TraceJobs
 pub mod Running

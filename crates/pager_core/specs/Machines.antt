@@ -12,9 +12,9 @@ use Rattle.pager_model.specs.declared.trace.Daemon.{Daemon}
 use Rattle.pager_model.specs.declared.trace.Job.{Job}
 use Rattle.pager_model.specs.declared.trace.Job.TheVariants.{Call as MakesCall, Turn}
 use Rattle.space_core.specs.Standing.{Kept, CanBegin}
-use Rattle.pager_core.specs.declared.flight.Flight.{Flight}
-use Rattle.pager_core.specs.Rows.{own_space, row_of, space_under, Going}
-use Rattle.pager_core.specs.Flights.{Fits, IsReady, IsAtRest}
+use Rattle.flight_core.specs.declared.flight.Flight.{Flight}
+use Rattle.flight_core.specs.Rows.{own_space, row_of, space_under, Going}
+use Rattle.flight_core.specs.Flights.{Fits, IsReady, IsAtRest}
 use Rattle.pager_core.specs.Running.{Running, AreOfMark, job_in, jobs_at, flight_at, kept_by, left_at, IsLawful}
 
 -- at most so many entries have a trace's calls and its daemon's turns: eight each of 262,144 calls, and 257 each of 4,096 turns

@@ -9,7 +9,7 @@ use Rattle.pager_model.specs.SpaceStates.{empty_state}
 use Rattle.pager_model.specs.Stored.{Stored, TellsZero}
 use Rattle.space_core.specs.Rooms.{Capacity}
 use Rattle.space_core.specs.Standing.{Kept, IsResting, StandsFor}
-use Rattle.pager_core.specs.Flights.{IsAtRest}
+use Rattle.flight_core.specs.Flights.{IsAtRest}
 
 -- a space as a run begins with it: without regions, with these page sizes, with an image for each of so many processors, over a store of
 -- which this was told and which has had so many faults

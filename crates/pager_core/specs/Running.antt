@@ -13,10 +13,10 @@ use Rattle.pager_model.specs.declared.trace.Job.{Job}
 use Rattle.pager_model.specs.declared.trace.Job.TheVariants.{Call as MakesCall, Turn}
 use Rattle.pager_model.specs.Showing.{answers_in}
 use Rattle.pager_model.specs.Stored.{Stored}
-use Rattle.pager_core.specs.declared.flight.Flight.{Flight}
-use Rattle.pager_core.specs.declared.flight.Purpose.{Purpose}
-use Rattle.pager_core.specs.declared.flight.Purpose.TheVariants.{Call as OfCall, Turn as OfTurn}
-use Rattle.pager_core.specs.Rows.{new_flight, new_turn, row_of, is_between, space_under, Going}
+use Rattle.flight_core.specs.declared.flight.Flight.{Flight}
+use Rattle.flight_core.specs.declared.flight.Purpose.{Purpose}
+use Rattle.flight_core.specs.declared.flight.Purpose.TheVariants.{Call as OfCall, Turn as OfTurn}
+use Rattle.flight_core.specs.Rows.{new_flight, new_turn, row_of, is_between, space_under, Going}
 
 -- Jobs: calls, and a daemon's turns.
 

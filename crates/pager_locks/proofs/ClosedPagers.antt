@@ -18,7 +18,7 @@ use Rattle.pager_model.specs.Legal.{state_of_space, frames_state, space_at, entr
 use Rattle.pager_model.specs.Order.{IsWhole}
 use Rattle.pager_model.specs.Settings.{mark_of}
 use Rattle.space_core.specs.Standing.{Kept}
-use Rattle.pager_core.specs.Flights.{IsAtRest}
+use Rattle.flight_core.specs.Flights.{IsAtRest}
 use Rattle.pager_core.specs.RunParts.{AreAtRest}
 use Rattle.pager_core.specs.Running.{IsNumbered}
 use Rattle.pager_core.proofs.Lists.{slice_get-push}

@@ -20,12 +20,12 @@ use Rattle.pager_model.specs.Legal.{IsLegal, space_at, frames_at, frames_state, 
 use Rattle.pager_model.specs.Settings.{Given}
 use Rattle.pager_model.specs.SpaceStates.{SpaceState}
 use Rattle.space_core.specs.Standing.{Kept}
-use Rattle.pager_core.specs.declared.flight.Flight.{Flight}
-use Rattle.pager_core.specs.declared.flight.Phase.TheVariants.{Out as OutPhase}
-use Rattle.pager_core.specs.Flights.{IsReady}
-use Rattle.pager_core.specs.Rows.{row_of}
+use Rattle.flight_core.specs.declared.flight.Flight.{Flight}
+use Rattle.flight_core.specs.declared.flight.Phase.TheVariants.{Out as OutPhase}
+use Rattle.flight_core.specs.Flights.{IsReady}
+use Rattle.flight_core.specs.Rows.{row_of}
 use Rattle.pager_core.specs.RunParts.{most_in_history}
-use Rattle.pager_core.specs.Steps.{AreAgreed, MakesEntry}
+use Rattle.flight_core.specs.Steps.{AreAgreed, MakesEntry}
 use Rattle.pager_laws.proofs.UnknownSpaces.{base-unknown}
 use Rattle.pager_core.proofs.LegalSteps.{victim_placed}
 use Rattle.pager_locks.specs.Locked.{Departure, StandsAt, IsPoolAt, IsFlying, later, state_by}

@@ -7,3 +7,4 @@ pub mod CountedCalls
 pub mod WholeCalls
 pub mod ClosedPagers
 pub mod OpenedPagers
+pub mod SharedCalls

@@ -16,18 +16,18 @@ use Rattle.pager_model.specs.Legal.{entries_in}
 use Rattle.pager_model.specs.Order.{at_rest, progress_of, progress_from}
 use Rattle.pager_model.specs.Settings.{mark_of}
 use Rattle.pager_model.proofs.Histories.{progress_from-append}
-use Rattle.pager_core.specs.declared.flight.Flight.{Flight}
-use Rattle.pager_core.specs.declared.flight.Purpose.{Purpose}
-use Rattle.pager_core.specs.declared.flight.Purpose.TheVariants.{Call as OfCall, Turn as OfTurn}
-use Rattle.pager_core.specs.declared.flight.Phase.TheVariants.{Ended}
-use Rattle.pager_core.specs.Flights.{IsFor}
+use Rattle.flight_core.specs.declared.flight.Flight.{Flight}
+use Rattle.flight_core.specs.declared.flight.Purpose.{Purpose}
+use Rattle.flight_core.specs.declared.flight.Purpose.TheVariants.{Call as OfCall, Turn as OfTurn}
+use Rattle.flight_core.specs.declared.flight.Phase.TheVariants.{Ended}
+use Rattle.flight_core.specs.Flights.{IsFor}
 use Rattle.pager_core.specs.Machines.{CanFly}
-use Rattle.pager_core.specs.Rows.{Outcome, Going, TurnEnded, Answered, call_in, has_ended, is_of_call, new_flight, new_turn, own_space, reply_in, row_of, row_in}
+use Rattle.flight_core.specs.Rows.{Outcome, Going, TurnEnded, Answered, call_in, has_ended, is_of_call, new_flight, new_turn, own_space, reply_in, row_of, row_in}
 use Rattle.pager_core.specs.Running.{FitsMark, call_of, job_in}
-use Rattle.pager_core.specs.Steps.{answer_made}
+use Rattle.flight_core.specs.Steps.{answer_made}
 use Rattle.pager_core.proofs.Lands.{Fits-for, Starts, Starts-for, ended_progress, under-for}
-use Rattle.pager_core.proofs.NextFlights.{ended_by, of_calls, turn_goes_on}
-use Rattle.pager_core.proofs.Purposes.{of_call-is}
+use Rattle.flight_core.proofs.NextFlights.{ended_by, of_calls, turn_goes_on}
+use Rattle.flight_core.proofs.Purposes.{of_call-is}
 use Rattle.pager_locks.specs.Calls.{MakesCall, MakesTurn, IsNextFlight}
 use Rattle.pager_locks.specs.Locked.{Departure, IsFlying, later}
 use Rattle.pager_locks.specs.Prepared.{MayCall, MayTurn}

@@ -9,9 +9,9 @@ use Rattle.pager_model.specs.Legal.{entries_in}
 use Rattle.pager_model.specs.Order.{at_rest, progress_of, IsWhole}
 use Rattle.pager_model.specs.Settings.{Given}
 use Rattle.pager_model.specs.Showing.{answers_in, IsSequence, IsTurn}
-use Rattle.pager_core.specs.declared.flight.Flight.{Flight}
-use Rattle.pager_core.specs.declared.flight.Phase.TheVariants.{Start}
-use Rattle.pager_core.specs.Rows.{claimed_in, is_of_call}
+use Rattle.flight_core.specs.declared.flight.Flight.{Flight}
+use Rattle.flight_core.specs.declared.flight.Phase.TheVariants.{Start}
+use Rattle.flight_core.specs.Rows.{claimed_in, is_of_call}
 use Rattle.pager_locks.specs.Locked.{replies_in}
 
 -- the flight of the pass's next call, of which nothing was done

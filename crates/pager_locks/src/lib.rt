@@ -23,7 +23,8 @@
 //!
 //! `Prepared::create` takes all the memory that a pager takes, but for that of its stores' writes. `Prepared::open` puts each part behind its
 //! lock and hands out the passes, `Pager::call` makes a call, and `Pager::close` gives the history, the stores and the counts. `Named` ties the
-//! type of a pager to its journal: a program opens its pager in a function over `N: Named`, which it calls at std's `Brand`.
+//! type of a pager to its journal: a program opens its pager in a function over `N: Named`, which it calls at std's `Brand`. `shared::share` is the shortest
+//! such program, to begin from.
 #![tactic(auto)]
 
 mod locked;
@@ -32,6 +33,7 @@ mod naming;
 mod numbers;
 mod pager;
 mod prepared;
+pub mod shared;
 mod steps;
 
 pub use naming::Named;

@@ -1,15 +1,15 @@
 //! What lies behind the locks.
 
 ghost use Rattle.std.specs.Prelude.{◌≡◌, ◌<◌, Some, None};
-ghost use Rattle.pager_core.specs.declared.flight.Needs.TheVariants.{Both, Frames};
-ghost use Rattle.pager_core.specs.Rows.{row_of, space_under};
+ghost use Rattle.flight_core.specs.declared.flight.Needs.TheVariants.{Both, Frames};
+ghost use Rattle.flight_core.specs.Rows.{row_of, space_under};
 ghost use Rattle.pager_locks.specs.Locked.{Departure, IsPoolAt, IsLockedSpace, IsLockedPool, IsFlying, IsHere, Stepped};
 
 use crate::naming::{Named, Place};
 use crate::steps::{step_alone, step_both, step_frames};
+use flight_core::{Flight, Needs};
 use frame_pool::Pool;
 use journal_core::{Author, Journal, Pass};
-use pager_core::{Flight, Needs};
 use space_core::Space;
 use std::marker::{Model, PhantomData};
 use std::sync::{Mutex, Wait};

@@ -2,7 +2,7 @@
 
 ghost use Rattle.std.specs.Prelude.{◌≡◌, ◌<◌, ◌≤◌, ◌+◌, true, is_some, [], length, vec_capacity, Some, None};
 ghost use Rattle.pager_model.specs.Bounds.{most_spaces};
-ghost use Rattle.pager_core.specs.Rows.{row_of, space_under};
+ghost use Rattle.flight_core.specs.Rows.{row_of, space_under};
 ghost use Rattle.pager_locks.specs.Locked.{Departure, IsFlying};
 ghost use Rattle.pager_locks.specs.Locks.{AreThere, AreLeft, AreParts};
 
@@ -12,8 +12,8 @@ use crate::numbers::{
     Eight, Eleven, Fifteen, Five, Four, Fourteen, Nine, One, Seven, Six, Ten, Thirteen, Three,
     Twelve, Two, Zero,
 };
+use flight_core::Flight;
 use journal_core::{Author, Journal, Pass};
-use pager_core::Flight;
 use space_core::Space;
 use std::sync::{Mutex, Wait};
 use store_core::Store;

@@ -18,13 +18,13 @@ use Rattle.pager_model.specs.Settings.{Given, mark_of}
 use Rattle.pager_model.specs.Showing.{actors, jobs_of}
 use Rattle.pager_model.specs.Stores.{setting_over}
 use Rattle.pager_model.specs.Stored.{Stored}
-use Rattle.pager_core.specs.declared.flight.Flight.{Flight}
-use Rattle.pager_core.specs.declared.flight.Purpose.{Purpose}
-use Rattle.pager_core.specs.declared.flight.Purpose.TheVariants.{Call as OfCall, Turn as OfTurn}
-use Rattle.pager_core.specs.Rows.{is_between, own_space, row_of, space_under}
+use Rattle.flight_core.specs.declared.flight.Flight.{Flight}
+use Rattle.flight_core.specs.declared.flight.Purpose.{Purpose}
+use Rattle.flight_core.specs.declared.flight.Purpose.TheVariants.{Call as OfCall, Turn as OfTurn}
+use Rattle.flight_core.specs.Rows.{is_between, own_space, row_of, space_under}
 use Rattle.pager_core.specs.Running.{Running, jobs_at, flight_at, progress_of_actor, progress_by_flight, job_in, kept_by, IsKeptByOther, IsOfJob, IsLawful}
 use Rattle.pager_laws.proofs.Partition.{is_that-same}
-use Rattle.pager_core.proofs.NextFlights.{keeps_by_place, keeps_under, made_going, under_by_place}
+use Rattle.flight_core.proofs.NextFlights.{keeps_by_place, keeps_under, made_going, under_by_place}
 use Rattle.pager_model.specs.Locks.{under_in}
 use Rattle.pager_model.specs.TurnOrders.{Standing, own_of, standing_by, standing_at, is_kept_by, is_kept_by_other, has_left, can_go, can_step}
 use Rattle.replay_core.specs.Turns.{flies, IsStuck}

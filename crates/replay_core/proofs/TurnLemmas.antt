@@ -11,7 +11,7 @@ use Rattle.pager_model.specs.Plans.{Plan}
 use Rattle.pager_model.specs.Showing.{actors}
 use Rattle.pager_model.proofs.Ranges.{range_with_len-more}
 use Rattle.pager_model.specs.Stored.{Stored}
-use Rattle.pager_core.specs.declared.flight.Flight.{Flight}
+use Rattle.flight_core.specs.declared.flight.Flight.{Flight}
 use Rattle.pager_core.specs.declared.machine.Turn.{Turn}
 use Rattle.pager_core.specs.declared.machine.Turn.TheVariants.{Ended as HasNone, Stepped, Waits}
 use Rattle.pager_core.specs.Machines.{all_left}

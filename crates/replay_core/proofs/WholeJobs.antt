@@ -12,13 +12,13 @@ use Rattle.pager_model.specs.Order.{at_rest}
 use Rattle.pager_model.specs.Settings.{mark_of}
 use Rattle.pager_model.specs.declared.trace.Job.{Job}
 use Rattle.pager_model.specs.declared.trace.Job.TheVariants.{Call as MakesCall, Turn}
-use Rattle.pager_core.specs.declared.flight.Flight.{Flight}
+use Rattle.flight_core.specs.declared.flight.Flight.{Flight}
 use Rattle.pager_core.specs.declared.machine.Turn.{Turn as Did}
 use Rattle.pager_core.specs.declared.machine.Turn.TheVariants.{Ended as HasEnded, Stepped, Waits}
-use Rattle.pager_core.specs.Rows.{Going, row_of}
+use Rattle.flight_core.specs.Rows.{Going, row_of}
 use Rattle.pager_core.specs.Running.{Running, AreOfMark, jobs_at, flight_at, flight_for, flight_of, progress_of_actor, progress_by_flight, StillFlies, WentOn, OneMore, MustWait, IsLawful}
 use Rattle.pager_core.proofs.Lands.{Starts-for}
-use Rattle.pager_core.proofs.NextFlights.{made_going}
+use Rattle.flight_core.proofs.NextFlights.{made_going}
 use Rattle.replay_core.specs.Replays.{NoneKeeps, IsBetween, DidJob, DidJobs}
 
 -- a new flight has its number, no reply, and keeps nothing

@@ -14,8 +14,8 @@ use Rattle.pager_model.specs.Showing.{Shows}
 use Rattle.pager_model.specs.SpaceStates.{Rises}
 use Rattle.pager_model.specs.Stores.{setting_over, StoresEnd}
 use Rattle.pager_model.specs.Stored.{Stored}
-use Rattle.pager_core.specs.declared.flight.Flight.{Flight}
-use Rattle.pager_core.specs.Rows.{row_of}
+use Rattle.flight_core.specs.declared.flight.Flight.{Flight}
+use Rattle.flight_core.specs.Rows.{row_of}
 use Rattle.pager_core.specs.Running.{Running, jobs_at, flight_at, flight_of, progress_of_actor, IsNumbered, IsLawful}
 
 -- no store of a space failed: where one fails, its count of faults rises

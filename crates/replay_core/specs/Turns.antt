@@ -1,7 +1,7 @@
 -- Which of several processors steps, as a machine's flights tell it.
 use Rattle.std.specs.Prelude.{ℕ, ◌≡◌, ◌⊎◌, Bool, List, ◌∷◌, ◌++◌, length, filter, Option, None, is_some}
 use Rattle.std.specs.List.{AllByRecursion, range_with_len}
-use Rattle.pager_core.specs.declared.flight.Flight.{Flight}
+use Rattle.flight_core.specs.declared.flight.Flight.{Flight}
 use Rattle.pager_core.specs.Running.{Running, flight_at, MustWait, OneMore, IsLawful}
 use Rattle.pager_model.specs.TurnOrders.{drawn, turned}
 

@@ -1,7 +1,7 @@
 use Rattle.std.proofs.Common.{◌<◌, length, refl, sym, subst, ◌∙◌}
 use Rattle.pager_model.specs.Agreement.{OwnsBy}
-use Rattle.pager_core.specs.Rows.{row_of}
-use Rattle.pager_core.specs.Steps.{AreAgreed, Makes}
+use Rattle.flight_core.specs.Rows.{row_of}
+use Rattle.flight_core.specs.Steps.{AreAgreed, Makes}
 use Rattle.pager_core.proofs.SilentSteps.{HasPassed-none, HasPassed-more, Makes-passed, AreAgreed-passed, OwnsBy-passed, known-passed, image-passed}
 use Rattle.pager_core.proofs.machine.next_entry.Goals as goal
 

@@ -1,5 +1,5 @@
 use Rattle.std.proofs.Common.{◌≡◌}
-use Rattle.pager_core.specs.Rows.{row_of}
+use Rattle.flight_core.specs.Rows.{row_of}
 use Rattle.pager_core.proofs.SilentSteps.{HasPassed}
 use Rattle.pager_core.proofs.machine.next_entry.Given as goal
 

@@ -1,6 +1,6 @@
 use Rattle.std.proofs.Common.{sym, ◌∙◌}
 use Rattle.std.proofs.lemmas.Option.{IfSome_then}
-use Rattle.pager_core.specs.Rows.{row_of}
+use Rattle.flight_core.specs.Rows.{row_of}
 use Rattle.pager_core.proofs.SilentSteps.{needs_space, needs_both}
 use Rattle.pager_core.proofs.machine.step.Goals as goal
 

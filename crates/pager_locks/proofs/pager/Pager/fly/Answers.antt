@@ -1,5 +1,5 @@
 use Rattle.pager_model.specs.declared.trace.Job.TheVariants.{Call}
-use Rattle.pager_core.specs.Rows.{call_in}
+use Rattle.flight_core.specs.Rows.{call_in}
 use Rattle.pager_locks.proofs.WholeCalls.{known_here, IsFlying-start, MakesCall-ended}
 use Rattle.pager_locks.proofs.pager.Pager.fly.Goals as goal
 

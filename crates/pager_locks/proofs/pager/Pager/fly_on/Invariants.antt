@@ -1,5 +1,5 @@
 use Rattle.std.proofs.Common.{◌≡◌, None}
-use Rattle.pager_core.specs.Rows.{row_of}
+use Rattle.flight_core.specs.Rows.{row_of}
 use Rattle.pager_locks.specs.Locked.{Departure, IsFlying}
 use Rattle.pager_locks.proofs.pager.Pager.fly_on.Given as goal
 

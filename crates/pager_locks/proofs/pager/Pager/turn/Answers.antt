@@ -2,7 +2,7 @@ use Rattle.pager_locks.specs.Locked.{Departure, IsFlying}
 use Rattle.pager_locks.proofs.WholeCalls.{from_turn, known_here, IsFlying-turn, MakesTurn-ended}
 use Rattle.pager_locks.proofs.pager.Pager.turn.Goals as goal
 use Rattle.std.proofs.Common.{subst, sym}
-use Rattle.pager_core.specs.declared.flight.Flight.{Flight}
+use Rattle.flight_core.specs.declared.flight.Flight.{Flight}
 
 pub fly_on-requires-clause-flying : goal.fly_on-requires-clause-flying
 fly_on-requires-clause-flying g c κs within =

@@ -1,0 +1,16 @@
+pub mod Purposes
+pub mod UnchangedSpaces
+pub mod AnswerSteps
+pub mod EntrySteps
+pub mod MadeEntries
+pub mod FaultSteps
+pub mod EvictSteps
+pub mod RefusedCalls
+pub mod ClearSteps
+pub mod TakenFrames
+pub mod ClaimSteps
+pub mod Evictions
+pub mod VictimPages
+pub mod TurnSteps
+pub mod HeldFrames
+pub mod NextFlights

@@ -1,0 +1,119 @@
+-- What a step of a flight does, for every state that the space it is made under stands for.
+use Rattle.std.specs.Prelude.{ℕ, ◌≡◌, ◌<◌, ◌≤◌, true, if◌then◌else◌, Option, Some, None, IfSome, length}
+use Rattle.pager_model.specs.declared.call.Call.{Call}
+use Rattle.pager_model.specs.declared.entry.Entry.{Entry}
+use Rattle.pager_model.specs.declared.entry.What.{What}
+use Rattle.pager_model.specs.declared.entry.What.TheVariants.{Answer}
+use Rattle.pager_model.specs.declared.reply.Reply.{Reply}
+use Rattle.pager_model.specs.declared.reply.Reply.TheVariants.{NoFrames, StoreFault, NoMemory}
+use Rattle.pager_model.specs.Entries.{NamesItsParts, names_space}
+use Rattle.pager_model.specs.FrameStates.{FrameState, frames_after, frame_of, FramesAllow}
+use Rattle.pager_model.specs.Order.{progress_after}
+use Rattle.pager_model.specs.Showing.{answer_in}
+use Rattle.pager_model.specs.SpaceStates.{SpaceState, space_after, SpaceAllows}
+use Rattle.space_core.specs.Beginning.{LacksMemory}
+use Rattle.space_core.specs.Standing.{Kept, frame_at}
+use Rattle.pager_laws.specs.Laid.{IsSound}
+use Rattle.flight_core.specs.declared.flight.Flight.{Flight}
+use Rattle.flight_core.specs.declared.flight.Phase.{Phase}
+use Rattle.flight_core.specs.declared.flight.Phase.TheVariants.{Short, Unclaim, Fault, Lack}
+use Rattle.flight_core.specs.Rows.{call_in, is_of_call, mark_in, row_of, is_between, Going, reply_in}
+use Rattle.flight_core.specs.Flights.{Fits, IsReady, LeftBy}
+
+-- the state of a space after an entry that may name it
+abbrev pub after_named : ℕ → SpaceState → Entry → SpaceState
+after_named s st e = if names_space s e then space_after st e else st
+
+-- the state of the frames after an entry that may name them
+abbrev pub after_frames : FrameState → Entry → FrameState
+after_frames st e = if e.frames then frames_after st e else st
+
+-- The space and the frames have as many frames, and for each page of the space the same one, and the frames' state is sound.
+pub record AreAgreed (kept : Kept) (frames : FrameState) : Type 0 where
+  pub count : length frames.free ≡ kept.frames
+  pub pages : (page : ℕ) → frame_at kept page ≡ frame_of frames kept.number page
+  pub sound : IsSound kept.frames (length frames.held) frames
+
+-- the flight can't be served, and this is its answer
+abbrev pub Refuses : Flight → Reply → Type 0
+Refuses f (NoFrames wired claimed held) = f.phase ≡ Short wired claimed held
+Refuses f (StoreFault space count) = f.phase ≡ Fault space count
+Refuses f NoMemory = (space : ℕ) × (f.phase ≡ Lack space)
+Refuses f reply = ⊥
+
+-- it is the same call, or the same turn of a daemon
+pub record SameWork (old new : Flight) : Type 0 where
+  pub processor : new.processor ≡ old.processor
+  pub number : new.number ≡ old.number
+  pub same_kind : is_of_call new.purpose ≡ is_of_call old.purpose
+  pub call : call_in new.purpose ≡ call_in old.purpose
+  pub mark : mark_in new.purpose ≡ mark_in old.purpose
+
+-- the reply that an entry says, where it is an answer
+abbrev pub reply_said : What → Option Reply
+reply_said (Answer number call answered) = Some answered.reply
+reply_said what = None
+
+-- the number and the call that a flight's answer has, once its row has a reply
+abbrev pub answer_made : Flight → Option Reply → Option (ℕ × Call)
+answer_made f None = None
+answer_made f (Some reply) = Some (f.number, call_in f.purpose)
+
+-- What a step that makes an entry makes, whatever it is made under: an entry of the flight's processor, for the same call or turn. It names
+-- its parts; where it names the frames they allow it, and they are one entry further then; it keeps the processor's order; it says the
+-- flight's reply where it is its answer; and fewer entries are left.
+pub record MakesEntry (old new : Flight) (before after : FrameState) (e : Entry) : Type 0 where
+  pub same_work : SameWork old new
+  pub processor : e.processor ≡ old.processor
+  pub parts : NamesItsParts e
+  pub frames_allow : e.frames ≡ true → FramesAllow before (mark_in old.purpose) e.processor e.space e.what
+  pub frames_after : after ≡ after_frames before e
+  pub in_order : progress_after (row_of old).progress e.space e.what ≡ Some (row_of new).progress
+  pub reply : reply_said e.what ≡ reply_in (row_of new).outcome
+  pub answer : answer_in e.what ≡ answer_made new (reply_in (row_of new).outcome)
+  pub between : is_between new.purpose new.phase ≡ true
+  pub fewer : (row_of new).entries < (row_of old).entries
+
+-- it is the same space, with as many frames and images
+pub record SameSpace (was now : Kept) : Type 0 where
+  pub number : now.number ≡ was.number
+  pub frames : now.frames ≡ was.frames
+  pub processors : length now.images ≡ length was.images
+
+-- How such a step leaves the space that it is made under: the entry names no other space, this one allows it where it is named, and the
+-- flight leaves it, one entry further then, ready for its next step or at rest.
+pub record LeavesSpace (new : Flight) (was now : Kept) (st : SpaceState) (e : Entry) : Type 0 where
+  pub same_space : SameSpace was now
+  pub own_space : IfSome e.space (λ s. s ≡ was.number)
+  pub space_allows : IfSome e.space (λ s. SpaceAllows st e)
+  pub left : LeftBy (row_of new).keeps new now (after_named was.number st e)
+
+-- A step that makes an entry, under a space's lock.
+pub record Makes (old new : Flight) (was now : Kept) (st : SpaceState) (before after : FrameState) (e : Entry) : Type 0 where
+  pub entry : MakesEntry old new before after e
+  pub space : LeavesSpace new was now st e
+
+-- A step that makes an entry, under the frames' lock alone: no space is named, and none is kept.
+pub record MakesOnFrames (old new : Flight) (before after : FrameState) (e : Entry) : Type 0 where
+  pub entry : MakesEntry old new before after e
+  pub no_space : e.space ≡ None
+  pub fits : Fits new
+  pub keeps_none : (row_of new).keeps ≡ None
+
+-- the page whose claim is given up since there was no memory to write it
+abbrev pub lacking_page : Phase → Option ℕ
+lacking_page (Unclaim v None) = Some v.page
+lacking_page phase = None
+
+-- A step that makes no entry: the flight keeps the space and is ready for its next step there, and each page has the frame that it
+-- had. Where it found no memory to write a page, the page is dirty and its store doesn't keep it.
+pub record Passes (old new : Flight) (was now : Kept) (st : SpaceState) : Type 0 where
+  pub same_work : SameWork old new
+  pub same_space : SameSpace was now
+  pub same_frames : (page : ℕ) → frame_at now page ≡ frame_at was page
+  pub keeps : (row_of new).keeps ≡ Some was.number
+  pub ready : IsReady new now st
+  pub memory : IfSome (lacking_page new.phase) (LacksMemory was)
+  pub same_progress : (row_of new).progress ≡ (row_of old).progress
+  pub going : (row_of new).outcome ≡ Going
+  pub no_more : (row_of new).entries ≤ (row_of old).entries

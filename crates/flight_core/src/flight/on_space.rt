@@ -1,0 +1,197 @@
+//! The steps that look at a space alone, under its lock, and the refusals that are answered there.
+
+ghost use Rattle.std.specs.Prelude.{◌≡◌, ℕ, ◌<◌, true, None, IfSome, IfNone, length};
+ghost use Rattle.pager_model.specs.FrameStates.{FrameState};
+ghost use Rattle.pager_model.specs.SpaceStates.{SpaceState};
+ghost use Rattle.space_core.specs.Standing.{Kept};
+ghost use Rattle.flight_core.specs.Flights.{IsReady};
+ghost use Rattle.flight_core.specs.Rows.{is_of_call, row_of};
+ghost use Rattle.flight_core.specs.Steps.{Makes, Passes, Refuses};
+
+use super::{Flight, Phase};
+use pager_model::{Answered, Call, Entry, Reply, Victim, What};
+use space_core::{Begun, OutFault, Space};
+use store_core::Store;
+
+impl Flight {
+    /// Begins the call.
+    pub(super) fn start<S: Store + Send + Drop>(&mut self, space: &mut Space<S>) -> Option<Entry>
+        requires phase { self.old.phase ≡ Phase.Start }
+        requires image { self.old.processor < length space.old.images }
+        requires ready { (st : SpaceState) × IsReady self.old space.old st }
+        ensures entry { IfSome result (λ e. (st : SpaceState) (frames : FrameState) → IsReady self.old space.old st → Makes self.old self.new space.old space.new st frames frames e) }
+        ensures none { IfNone result ((st : SpaceState) → IsReady self.old space.old st → Passes self.old self.new space.old space.new st) }
+        ensures nearer { (row_of self.new).steps < (row_of self.old).steps }
+    {
+        let call = self.call();
+        match space.begin(self.processor, &call) {
+            Begun::Answered(answered) => Some(self.answer(answered)),
+            Begun::NeedsFrame { page, want } => {
+                self.phase = Phase::Frame { page, want };
+                None
+            }
+            Begun::NeedsClear { first, length } => {
+                self.phase = Phase::Clear { first, length };
+                None
+            }
+            Begun::NeedsEvict { page } => {
+                self.phase = Phase::Evict { page };
+                None
+            }
+            Begun::Failed { page, count } => {
+                let own = call.space();
+                self.phase = Phase::Fault { space: own, count };
+                let writing = true;
+                Some(self.entry(
+                    Some(own),
+                    false,
+                    What::Failed {
+                        page,
+                        writing,
+                        count,
+                    },
+                ))
+            }
+        }
+    }
+
+    /// Looks whether the access, for which a frame is held now, needs it still.
+    pub(super) fn look_again<S: Store + Send + Drop>(
+        &mut self,
+        space: &mut Space<S>,
+        victim: Victim,
+    ) -> Option<Entry>
+        requires phase { self.old.phase ≡ Phase.Back victim }
+        requires ready { (st : SpaceState) × IsReady self.old space.old st }
+        ensures none { (result ≡ None) × ((st : SpaceState) → IsReady self.old space.old st → Passes self.old self.new space.old space.new st) }
+        ensures nearer { (row_of self.new).steps < (row_of self.old).steps }
+    {
+        self.phase = match space.wants(&self.call()) {
+            Some((page, want)) => Phase::Use { page, want, victim },
+            None => Phase::Drop { victim },
+        };
+        None
+    }
+
+    /// Makes the victim's page equal to its copy, or finds that it can't be.
+    pub(super) fn write<S: Store + Send + Drop>(
+        &mut self,
+        space: &mut Space<S>,
+        victim: Victim,
+    ) -> Option<Entry>
+        requires phase { self.old.phase ≡ Phase.Write victim }
+        requires ready { (st : SpaceState) × IsReady self.old space.old st }
+        ensures entry { IfSome result (λ e. (st : SpaceState) (frames : FrameState) → IsReady self.old space.old st → Makes self.old self.new space.old space.new st frames frames e) }
+        ensures none { IfNone result ((st : SpaceState) → IsReady self.old space.old st → Passes self.old self.new space.old space.new st) }
+        ensures nearer { (row_of self.new).steps < (row_of self.old).steps }
+    {
+        let page = victim.page;
+        match space.write_out(page) {
+            Ok(written) => {
+                self.phase = Phase::Hand { victim };
+                Some(self.entry(Some(victim.space), false, What::Out { page, written }))
+            }
+            Err(OutFault::Failed { count }) => {
+                self.phase = Phase::Unclaim {
+                    victim,
+                    fault: Some(count),
+                };
+                let writing = true;
+                Some(self.entry(
+                    Some(victim.space),
+                    false,
+                    What::Failed {
+                        page,
+                        writing,
+                        count,
+                    },
+                ))
+            }
+            Err(OutFault::NoMemory) => {
+                self.phase = Phase::Unclaim {
+                    victim,
+                    fault: None,
+                };
+                None
+            }
+        }
+    }
+
+    /// Takes the region away whose pages were cleared.
+    pub(super) fn unmap<S: Store + Send + Drop>(&mut self, space: &mut Space<S>) -> Entry
+        requires phase { (first len : ℕ) × (self.old.phase ≡ Phase.Gone first len) }
+        requires ready { (st : SpaceState) × IsReady self.old space.old st }
+        ensures entry { (st : SpaceState) (frames : FrameState) → IsReady self.old space.old st → Makes self.old self.new space.old space.new st frames frames result }
+        ensures nearer { (row_of self.new).steps < (row_of self.old).steps }
+    {
+        let Call::Unmap { page, .. } = self.call() else {
+            unreachable!()
+        };
+        let answered = space.unmap(page);
+        self.answer(answered)
+    }
+
+    /// Reads the page's copy in and answers, or finds that the read fails.
+    pub(super) fn fill<S: Store + Send + Drop>(
+        &mut self,
+        space: &mut Space<S>,
+        page: u32,
+        frame: u32,
+    ) -> Entry
+        requires phase { self.old.phase ≡ Phase.Fill page frame }
+        requires image { self.old.processor < length space.old.images }
+        requires ready { (st : SpaceState) × IsReady self.old space.old st }
+        ensures entry { (st : SpaceState) (frames : FrameState) → IsReady self.old space.old st → Makes self.old self.new space.old space.new st frames frames result }
+        ensures nearer { (row_of self.new).steps < (row_of self.old).steps }
+    {
+        let call = self.call();
+        match space.read_in(page) {
+            Ok(found) => {
+                let answered = space.finish(self.processor, &call, found);
+                self.answer(answered)
+            }
+            Err(count) => {
+                self.phase = Phase::Unfill { page, frame, count };
+                let writing = false;
+                self.entry(
+                    Some(call.space()),
+                    false,
+                    What::Failed {
+                        page,
+                        writing,
+                        count,
+                    },
+                )
+            }
+        }
+    }
+
+    /// Answers the access that needs no frame any more.
+    pub(super) fn answer_late<S: Store + Send + Drop>(&mut self, space: &mut Space<S>) -> Entry
+        requires phase { self.old.phase ≡ Phase.Late }
+        requires image { self.old.processor < length space.old.images }
+        requires ready { (st : SpaceState) × IsReady self.old space.old st }
+        ensures entry { (st : SpaceState) (frames : FrameState) → IsReady self.old space.old st → Makes self.old self.new space.old space.new st frames frames result }
+        ensures nearer { (row_of self.new).steps < (row_of self.old).steps }
+    {
+        let call = self.call();
+        let Begun::Answered(answered) = space.begin(self.processor, &call) else {
+            unreachable!()
+        };
+        self.answer(answered)
+    }
+
+    /// Answers that the call can't be served: no frame could be had, a store failed, or there was no memory.
+    pub(super) fn refuse(&mut self, reply: Reply) -> Entry
+        requires of_call { is_of_call self.old.purpose ≡ true }
+        requires phase { Refuses self.old reply }
+        ensures entry { (kept : Kept) (st : SpaceState) (frames : FrameState) → IsReady self.old kept st → Makes self.old self.new kept kept st frames frames result }
+        ensures nearer { (row_of self.new).steps < (row_of self.old).steps }
+    {
+        self.answer(Answered {
+            reply,
+            hit: false,
+            size: None,
+        })
+    }
+}

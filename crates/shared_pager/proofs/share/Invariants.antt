@@ -1,4 +1,0 @@
-use Rattle.shared_pager.proofs.share.Given as goal
-
-abbrev pub ghosts-run : goal.ghosts-run
-ghosts-run g a = record { journal = a.prepared.journal.name }
