@@ -1,43 +1,41 @@
 -- Which reservation is broken for an extent, and where its breaking goes on.
-use Rattle.std.proofs.Common.{◌≡◌, ℕ, zero, suc, ◌+◌, ◌-◌, ◌<◌, Bool, true, false, cond, nat_lt, inl, inr, Option, Some, None, option_map, refl, sym, ap, subst, ◌∙◌, arith}
+use Rattle.std.proofs.Common.{◌≡◌, ℕ, zero, suc, ◌+◌, ◌-◌, ◌<◌, ◌≤◌, Bool, true, false, cond, nat_lt, inl, inr, List, Option, Some, None, option_map, refl, sym, ap, subst, ◌∙◌, arith}
 use Rattle.std.specs.Option.{option_or, option_and_then, option_map_or, IfSome, IfNone, IsSome, IsSomeAnd, is_some}
 use Rattle.std.proofs.lemmas.Bool.{cases_Bool, cases_eq, cond-true, cond-false, lt-ltb, le-ltb, eq-eqb, false≢true}
 use Rattle.pager_model.proofs.Ranges.{find_passes}
 use Rattle.pager_model.specs.declared.reservation.Reservation.{Reservation}
+use Rattle.pager_model.specs.Ages.{Lists, oldest_in}
 use Rattle.pager_model.specs.Layouts.{Layout, split_layout, broken_at, oldest_of, oldest_from, split_on, record_at}
 use Rattle.pager_model.specs.Records.{is_used, has_empty, yield_in, part_size, part_count, part_at, same_size, lowest_as_wide, goes_on_at}
 use Rattle.pager_model.specs.SizeSets.{SizeSet}
 use Rattle.pager_model.proofs.SizeFloors.{has_within, within_largest}
 use Rattle.pager_laws.proofs.PartYields.{same_size_from, IsWidest, IsWidest-from, from_widest, whole_not_empty}
 use Rattle.pager_laws.specs.Laid.{IsLaid}
+use Rattle.pager_laws.specs.Listed.{AreListed}
+use Rattle.reservation_lists.specs.Kept.{first_oldest}
+use Rattle.frame_pool.specs.ReservedChanges.{with_free}
 use Rattle.frame_pool.specs.Placed.{CanBreak, first_of}
 use Rattle.pager_laws.proofs.LayoutBreak.{Falls, Falls-goes_on, split_on-enough, part_size-most, record_at-part, kept_each, find_below}
 
 -- Which reservation is broken.
-
--- the first of two options where it has a value, and else the second
-pub option_or-some : {A : Type 0} (a b : Option A) → is_some a ≡ true → option_or a b ≡ a
-option_or-some None b some = absurd (false≢true some)
-option_or-some (Some x) b some = refl
-
-pub option_or-none : {A : Type 0} (a b : Option A) → is_some a ≡ false → option_or a b ≡ b
-option_or-none None b none = refl
-option_or-none (Some x) b none = absurd (false≢true (sym none))
 
 -- what holds where there is no value
 pub IfNone-holds : {A : Type 0} (o : Option A) (P : Type 0) → is_some o ≡ false → IfNone o P → P
 IfNone-holds None P none holds = holds
 IfNone-holds (Some x) P none holds = absurd (false≢true (sym none))
 
--- where the first list isn't empty, its oldest is taken
-pub oldest_from-some : (l : Layout) (k count : ℕ) → 0 < count → is_some (oldest_of l k) ≡ true → oldest_from l k count ≡ oldest_of l k
-oldest_from-some l k zero more some = absurd (omega arith)
-oldest_from-some l k (suc count) more some = option_or-some (oldest_of l k) (oldest_from l (k + 1) count) some
+-- the lists that are kept are those of the reservations
+pub first_oldest-listed : (l : Layout) (lists : Lists) → AreListed l.sizes lists l.used l.records → (k count : ℕ) → count ≤ 3 - k
+    → first_oldest lists k count ≡ oldest_from l k count
+first_oldest-listed l lists listed k zero few = refl
+first_oldest-listed l lists listed k (suc count) few =
+    ap (λ ms. option_or (oldest_in ms) (first_oldest lists (k + 1) count)) (listed k (omega arith))
+    ∙ ap (option_or (oldest_of l k)) (first_oldest-listed l lists listed (k + 1) count (omega arith))
 
--- and where it is, the lists after it are looked at
-pub oldest_from-later : (l : Layout) (k count rest : ℕ) → count ≡ suc rest → is_some (oldest_of l k) ≡ false
-    → oldest_from l k count ≡ oldest_from l (k + 1) rest
-oldest_from-later l k count rest more none = ap (oldest_from l k) more ∙ option_or-none (oldest_of l k) (oldest_from l (k + 1) rest) none
+-- which frames are free is no matter of the lists
+pub oldest_from-free : (free : List Bool) (l : Layout) (k count : ℕ) → oldest_from (with_free free l) k count ≡ oldest_from l k count
+oldest_from-free free l k zero = refl
+oldest_from-free free l k (suc count) = ap (option_or (oldest_of l k)) (oldest_from-free free l (k + 1) count)
 
 -- Where the breaking goes on.
 

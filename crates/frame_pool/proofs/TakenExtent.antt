@@ -14,7 +14,7 @@ use Rattle.frame_pool.specs.Placed.{CanBreak, FindsExtent, without_extent, exten
 use Rattle.pager_laws.proofs.PartYields.{yield_less}
 use Rattle.pager_laws.proofs.BreakYield.{choice-break}
 use Rattle.pager_laws.proofs.AgeLists.{oldest_from-found}
-use Rattle.frame_pool.proofs.BreakSteps.{option_or-some, option_or-none}
+use Rattle.reservation_lists.proofs.FirstLists.{option_or-some, option_or-none}
 use Rattle.frame_pool.proofs.ReservedLayouts.{IsLaid-fewer}
 
 -- An extent that was chosen in a sound layout.

@@ -186,13 +186,7 @@ impl Layout {
     fn to_break(&self, size: Size) -> Option<u32>
         ensures { result ≡ to_break self.now size }
     {
-        for level in size.level()..3 {
-            let oldest = self.reserved.oldest(Size::of(level).unwrap());
-            if oldest.is_some() {
-                return oldest;
-            }
-        }
-        None
+        self.reserved.to_break(size)
     }
 
     /// Breaks the reservation that begins at the frame `id`.

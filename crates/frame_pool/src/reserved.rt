@@ -1,7 +1,7 @@
 ghost use Rattle.std.specs.Prelude.{◌≡◌, ℕ, ◌-◌, ◌<◌, ◌≤◌, Bool, List, Some, true, false, length, option_map, IfOk, IfSome, IfNone, IsSome, IsSomeAnd};
 ghost use Rattle.pager_model.specs.Agreement.{has_frame};
 ghost use Rattle.pager_model.specs.Extents.{IsExtent};
-ghost use Rattle.pager_model.specs.Layouts.{frame_for, populated, record_at, covering, meets_any, oldest_of, preferred_in};
+ghost use Rattle.pager_model.specs.Layouts.{frame_for, populated, record_at, covering, meets_any, preferred_in, to_break};
 ghost use Rattle.pager_model.specs.PreferredSize.{IsWanted};
 ghost use Rattle.pager_model.specs.Records.{is_used, yield_in, part_at, part_count, parted_records, lowest_as_wide};
 ghost use Rattle.pager_model.specs.RecordPlaces.{IsPlaced};
@@ -125,12 +125,11 @@ impl Reserved {
         self.sizes.within(widest)
     }
 
-    /// The first frame of the oldest reservation of this yield.
-    pub(crate) fn oldest(&self, size: Size) -> Option<u32>
-        requires { size < 3 }
-        ensures { result ≡ oldest_of self.now size }
+    /// The first frame of the reservation that is broken for an extent of this size.
+    pub(crate) fn to_break(&self, size: Size) -> Option<u32>
+        ensures { result ≡ to_break self.now size }
     {
-        self.lists.oldest(size)
+        self.lists.first_oldest(size)
     }
 
     /// The yield of the reservation that begins at the frame `id`.

@@ -1,3 +1,4 @@
+pub mod FirstLists
 pub mod Members
 pub mod Places
 pub mod Renewed

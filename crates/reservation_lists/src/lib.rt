@@ -6,10 +6,10 @@
 //! has the reservation that begins at it, and by which stamp; so one is taken out with nothing asked but its first frame.
 #![tactic(auto)]
 
-ghost use Rattle.std.specs.Prelude.{◌≡◌, ◌<◌, ◌≤◌, IfOk, vec_len, vec_capacity, true, false, if◌then◌else◌, Some};
+ghost use Rattle.std.specs.Prelude.{◌≡◌, ◌-◌, ◌<◌, ◌≤◌, IfOk, vec_len, vec_capacity, true, false, if◌then◌else◌, Some};
 ghost use Rattle.std.specs.List.{prefix_len};
 ghost use Rattle.pager_model.specs.Ages.{is_before, list_at, oldest_in, with_list, with_member};
-ghost use Rattle.reservation_lists.specs.Kept.{Differ, IsInOrder, has_member_of, is_listed, moved_to, no_members, without_frame, without_member, without_member_of};
+ghost use Rattle.reservation_lists.specs.Kept.{Differ, IsInOrder, first_oldest, has_member_of, is_listed, moved_to, no_members, without_frame, without_member, without_member_of};
 
 mod listed;
 
@@ -222,5 +222,18 @@ impl Lists {
             _ => &self.middle,
         };
         list.first().map(|m| m.frame)
+    }
+
+    /// The first frame of the oldest reservation of the first list that isn't empty, from that of a size on.
+    pub fn first_oldest(&self, size: Size) -> Option<u32>
+        ensures { result ≡ first_oldest self.now.lists size (3 - size) }
+    {
+        for level in size.level()..3 {
+            let oldest = self.oldest(Size::at_level(level));
+            if oldest.is_some() {
+                return oldest;
+            }
+        }
+        None
     }
 }
