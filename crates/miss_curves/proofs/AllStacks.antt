@@ -13,9 +13,10 @@ use Rattle.pager_model.specs.SizeSets.{SizeSet}
 use Rattle.pager_model.specs.SpaceStates.{SpaceState, space_after}
 use Rattle.pager_model.proofs.Histories.{filter-push_in, filter-push_out, space_at-named, space_at-other}
 use Rattle.pager_model.proofs.Ranges.{range_with_len-more}
-use Rattle.miss_curves.specs.Curves.{Follower, base_alone, follow, begun, followed, misses_by}
+use Rattle.lru_stack.specs.Followers.{Follower, follow, begun}
+use Rattle.miss_curves.specs.Curves.{base_alone, followed, misses_by}
 use Rattle.miss_curves.specs.Rows.{AreRows, AreStacks, Rows, StandAfter, StandEach}
-use Rattle.miss_curves.specs.Stacks.{Kept, IsBlank, Stands, missed_at}
+use Rattle.lru_stack.specs.Stacks.{Kept, IsBlank, Stands, missed_at}
 
 -- One entry more.
 

@@ -29,11 +29,12 @@ use Rattle.followed_space.proofs.LegalEntries.{IsNext-legal}
 use Rattle.tiles.specs.Resident.{frames_in, mapping_at}
 use Rattle.tiles.proofs.CutTiles.{tile_in-cut}
 use Rattle.miss_curves.specs.declared.history.Uses.{Uses}
-use Rattle.miss_curves.specs.declared.stack.Use.{Use}
-use Rattle.miss_curves.specs.Curves.{AnswersAlone, base_alone, is_answer, page_used}
+use Rattle.lru_stack.specs.declared.stack.Use.{Use}
+use Rattle.lru_stack.specs.Followers.{page_used}
+use Rattle.miss_curves.specs.Curves.{AnswersAlone, base_alone, is_answer}
 use Rattle.miss_curves.specs.Histories.{Comes, EachComes, FollowEach, IsNew, IsRunOf, KeepsUp, Told, effect, use_of}
 use Rattle.miss_curves.specs.Rows.{Rows, StandAfter}
-use Rattle.miss_curves.specs.Stacks.{IsUse}
+use Rattle.lru_stack.specs.Stacks.{IsUse}
 use Rattle.miss_curves.proofs.Usual.{sizes-of}
 
 -- The page that was used.

@@ -16,10 +16,11 @@ use Rattle.pager_model.specs.Tiles.{cut_to, is_that_tile, is_tile, is_tile_in, s
 use Rattle.pager_model.proofs.Options.{IfSome-from}
 use Rattle.pager_model.proofs.TileParts.{same_tile-true}
 use Rattle.pager_laws.proofs.ImageTiles.{tile_in-is_tile}
-use Rattle.miss_curves.specs.declared.stack.Use.{Use}
-use Rattle.miss_curves.specs.Curves.{base_alone, page_used}
+use Rattle.lru_stack.specs.declared.stack.Use.{Use}
+use Rattle.lru_stack.specs.Followers.{page_used}
+use Rattle.miss_curves.specs.Curves.{base_alone}
 use Rattle.miss_curves.specs.Histories.{Effect, Told}
-use Rattle.miss_curves.specs.Stacks.{AnswersFor, IsUse, Tells, TellsSame}
+use Rattle.lru_stack.specs.Stacks.{AnswersFor, IsUse, Tells, TellsSame}
 use Rattle.tiles.specs.Beside.{OthersSame}
 use Rattle.tiles.specs.Changes.{AreChanges, Came, PageChange, gone_of}
 use Rattle.tiles.specs.Resident.{Resident, mapping_at}

@@ -23,7 +23,8 @@ use Rattle.pager_model.specs.SpaceStates.{SpaceState, empty_state, SpaceAllows, 
 use Rattle.pager_model.proofs.Histories.{IsLegal-keeps, space_at-named, space_at-other}
 use Rattle.pager_model.proofs.Options.{in_some}
 use Rattle.pager_model.proofs.Ranges.{range_with_len-more}
-use Rattle.miss_curves.specs.Curves.{Follower, follow, followed, image_after, missed, misses, page_used, used_in, AnswersAlone, is_answer}
+use Rattle.lru_stack.specs.Followers.{Follower, follow, image_after, missed, page_used, used_in}
+use Rattle.miss_curves.specs.Curves.{followed, misses, AnswersAlone, is_answer}
 use Rattle.miss_curves.proofs.AllStacks.{followed-named, followed-other}
 
 abbrev weight : Bool → ℕ

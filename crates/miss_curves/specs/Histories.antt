@@ -10,10 +10,11 @@ use Rattle.pager_model.specs.Showing.{Shows, marks_of}
 use Rattle.pager_model.specs.SizeSets.{SizeSet}
 use Rattle.pager_model.specs.SpaceStates.{SpaceState, empty_state, pages_of, pages_after}
 use Rattle.miss_curves.specs.declared.history.Uses.{Uses}
-use Rattle.miss_curves.specs.declared.stack.Use.{Use}
-use Rattle.miss_curves.specs.Curves.{base_alone, page_used}
+use Rattle.lru_stack.specs.declared.stack.Use.{Use}
+use Rattle.lru_stack.specs.Followers.{page_used}
+use Rattle.miss_curves.specs.Curves.{base_alone}
 use Rattle.miss_curves.specs.Rows.{Rows, StandAfter}
-use Rattle.miss_curves.specs.Stacks.{IsUse}
+use Rattle.lru_stack.specs.Stacks.{IsUse}
 use Rattle.tiles.specs.Resident.{Resident, frames_in, mapping_at}
 
 -- What an entry of a space does: it takes the resident pages from these to those, and used a page so.

@@ -8,7 +8,7 @@ use Rattle.pager_model.specs.Legal.{space_at}
 use Rattle.pager_model.specs.Settings.{Given}
 use Rattle.pager_model.specs.SizeSets.{SizeSet}
 use Rattle.miss_curves.specs.Curves.{base_alone, followed}
-use Rattle.miss_curves.specs.Stacks.{Kept, Stands}
+use Rattle.lru_stack.specs.Stacks.{Kept, Stands}
 
 -- of each space the stack of its tiles, and that of its base pages; and how many entries that name a space were followed
 pub record Rows : Type 0 where

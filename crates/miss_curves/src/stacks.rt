@@ -11,9 +11,9 @@ ghost use Rattle.pager_model.specs.Settings.{Given};
 ghost use Rattle.pager_model.specs.SizeSets.{SizeSet};
 ghost use Rattle.miss_curves.specs.Curves.{AnswersAlone, base_alone, misses_by, misses, page_misses};
 ghost use Rattle.miss_curves.specs.Rows.{AreStacks, StandEach, StandAfter};
-ghost use Rattle.miss_curves.specs.Stacks.{IsBlank, Tells, TellsSame};
+ghost use Rattle.lru_stack.specs.Stacks.{IsBlank, Tells, TellsSame};
 
-use crate::stack::{Stack, Use};
+use lru_stack::{Stack, Use};
 use pager_model::{Entry, NoMemory, Tile};
 use std::alloc::Global;
 use std::marker::Model;

@@ -1,6 +1,6 @@
 use Rattle.std.proofs.Common.{[], rules}
 use Rattle.std.proofs.lemmas.List.Elements.{All-append, All-cons, All-nil}
-use Rattle.miss_curves.specs.Stacks.{IsBlank}
+use Rattle.lru_stack.specs.Stacks.{IsBlank}
 use Rattle.miss_curves.proofs.stacks.blank_stacks.Goals as goal
 
 pub loop-preserved : goal.loop-preserved

@@ -1,6 +1,6 @@
 use Rattle.std.proofs.Common.{◌≡◌, length}
 use Rattle.std.specs.List.{All}
-use Rattle.miss_curves.specs.Stacks.{IsBlank}
+use Rattle.lru_stack.specs.Stacks.{IsBlank}
 use Rattle.miss_curves.proofs.stacks.blank_stacks.Given as goal
 
 abbrev pub invariant-loop : goal.invariant-loop

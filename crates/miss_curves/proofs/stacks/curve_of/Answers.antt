@@ -2,7 +2,7 @@ use Rattle.std.proofs.Common.{◌≡◌, ◌+◌, ◌<◌, length, take, get_or,
 use Rattle.std.specs.List.{sum_by}
 use Rattle.std.proofs.lemmas.List.{with_items_is}
 use Rattle.std.proofs.lemmas.List.Sums.{sum_by_more, sum_by_more_le_part}
-use Rattle.miss_curves.specs.Stacks.{Kept, missed_at}
+use Rattle.lru_stack.specs.Stacks.{Kept, missed_at}
 use Rattle.miss_curves.proofs.AllStacks.{missed-all, missed-le}
 use Rattle.miss_curves.proofs.stacks.curve_of.Goals as goal
 

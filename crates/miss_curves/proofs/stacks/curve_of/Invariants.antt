@@ -1,6 +1,6 @@
 use Rattle.std.proofs.Common.{◌≡◌, ◌<◌, ℕ, take, length, get_or}
 use Rattle.std.specs.List.{sum_by}
-use Rattle.miss_curves.specs.Stacks.{missed_at}
+use Rattle.lru_stack.specs.Stacks.{missed_at}
 use Rattle.miss_curves.proofs.stacks.curve_of.Given as goal
 
 abbrev pub invariant-loop-stack : goal.invariant-loop-stack

@@ -1,0 +1,3 @@
+pub mod DistinctTiles
+pub mod StackLemmas
+pub mod Standing
