@@ -20,13 +20,14 @@ use Rattle.pager_model.specs.Plans.{Plan}
 use Rattle.pager_model.specs.declared.trace.Daemon.{Daemon}
 use Rattle.pager_model.specs.TraceText.{kind_word, rights_word, sizes_word, call_words, line_words, line_of_words, call_line, daemon_line, daemon_words, first_words, first_line, text_of, IsCall, IsDaemon, IsLine, HasText}
 use Rattle.pager_model.proofs.Texts.{text_is_short, version_low}
-use Rattle.trace_reader.specs.declared.line.Head.{Head}
-use Rattle.trace_reader.specs.Forms.{call_forms, daemon_form, fits, line_fault}
-use Rattle.trace_reader.specs.Heads.{first_call, IsInRange}
-use Rattle.trace_reader.specs.Refusals.{lines_of, words_of, calls_refusal, second_refusal, refusal_of}
-use Rattle.trace_reader.proofs.Forms.{fits_length}
-use Rattle.trace_reader.proofs.Lines.{line_is_lawful}
-use Rattle.trace_reader.proofs.Numbers.{all_digits}
+use Rattle.trace_lines.specs.declared.line.Head.{Head}
+use Rattle.trace_lines.specs.Forms.{call_forms, daemon_form, fits, line_fault}
+use Rattle.trace_lines.specs.Heads.{IsInRange}
+use Rattle.trace_reader.specs.Refusals.{calls_refusal, first_call, lines_of, refusal_of, second_refusal}
+use Rattle.trace_lines.specs.Words.{words_of}
+use Rattle.trace_lines.proofs.Forms.{fits_length}
+use Rattle.trace_lines.proofs.Lines.{line_is_lawful}
+use Rattle.trace_lines.proofs.Numbers.{all_digits}
 use Rattle.trace_reader.proofs.Refusals.{goes_on, no_daemon, behind_daemon, behind_first_line}
 
 -- ---- words without a space and a line feed

@@ -18,14 +18,15 @@ use Rattle.pager_model.specs.Plans.{Plan}
 use Rattle.pager_model.specs.SizeSets.{SizeSet, all_sizes}
 use Rattle.pager_model.specs.declared.trace.Daemon.{Daemon}
 use Rattle.pager_model.specs.TraceText.{kind_word, rights_word, sizes_word, line_words, line_of_words, call_line, daemon_words, first_words, IsDaemon, IsLine, IsTextOf}
-use Rattle.trace_reader.specs.declared.fault.LineCause.{LineCause}
+use Rattle.trace_lines.specs.declared.cause.LineCause.{LineCause}
 use Rattle.trace_reader.specs.declared.fault.TraceFault.TheVariants.{TooManyCalls}
-use Rattle.trace_reader.specs.declared.line.Head.{Head}
-use Rattle.trace_reader.specs.Forms.{Place, Word, OneOf, Number, number_in, fits, leftmost, line_fault, first_form, sized_form, first_forms, daemon_form, map_form, grow_form, unmap_form, protect_form, load_form, store_form, sync_form, evict_form, call_forms}
-use Rattle.trace_reader.specs.Heads.{IsInRange}
-use Rattle.trace_reader.specs.Refusals.{lines_of, words_of, end_refusal, at_line, calls_refusal, second_refusal, forms_behind, refusal_of_lines, refusal_of}
+use Rattle.trace_lines.specs.declared.line.Head.{Head}
+use Rattle.trace_lines.specs.Forms.{Place, Word, OneOf, Number, number_in, fits, leftmost, line_fault, first_form, sized_form, first_forms, daemon_form, map_form, grow_form, unmap_form, protect_form, load_form, store_form, sync_form, evict_form, call_forms}
+use Rattle.trace_lines.specs.Heads.{IsInRange}
+use Rattle.trace_reader.specs.Refusals.{lines_of, end_refusal, at_line, calls_refusal, second_refusal, forms_behind, refusal_of_lines, refusal_of}
+use Rattle.trace_lines.specs.Words.{words_of}
 use Rattle.trace_reader.proofs.CutTexts.{behind_text, calls_text, calls_text-cons}
-use Rattle.trace_reader.proofs.Numbers.{number_in_takes}
+use Rattle.trace_lines.proofs.Numbers.{number_in_takes}
 use Rattle.trace_reader.proofs.Refusals.{short_enough, too_long, forms_again, is_text, line_is}
 
 -- ---- what fills a form

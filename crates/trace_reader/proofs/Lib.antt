@@ -1,10 +1,5 @@
-pub mod Numbers
-pub mod Splits
-pub mod Forms
-pub mod Lines
 pub mod Refusals
 pub mod SourceBytes
 pub mod CutTexts
 pub mod Fillings
 pub mod UniqueTexts
-pub mod Calls

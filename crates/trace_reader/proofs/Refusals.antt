@@ -11,16 +11,17 @@ use Rattle.std.proofs.lemmas.List.Concat.{flat_map-cons}
 use Rattle.pager_model.specs.declared.call.Line.{Line as Call}
 use Rattle.pager_model.specs.declared.trace.Daemon.{Daemon}
 use Rattle.pager_model.specs.TraceText.{call_line, daemon_line, daemon_words, line_words, line_of_words, first_words, IsDaemon, IsLine, IsTextOf}
-use Rattle.trace_reader.specs.declared.fault.LineCause.{LineCause}
-use Rattle.trace_reader.specs.declared.fault.LineCause.TheVariants as causes
+use Rattle.trace_lines.specs.declared.cause.LineCause.{LineCause}
+use Rattle.trace_lines.specs.declared.cause.LineCause.TheVariants as causes
 use Rattle.trace_reader.specs.declared.fault.TraceFault.TheVariants.{TooLong, Line, NoEnd, TooManyCalls}
-use Rattle.trace_reader.specs.Forms.{Place, fits, leftmost, line_fault, first_forms, daemon_form, call_forms}
-use Rattle.trace_reader.specs.declared.line.Head.{Head}
-use Rattle.trace_reader.specs.Heads.{IsInRange}
-use Rattle.trace_reader.proofs.Lines.{daemon_is_lawful, first_is_lawful}
-use Rattle.trace_reader.proofs.Numbers.{decimal_value}
-use Rattle.trace_reader.specs.Refusals.{lines_of, words_of, end_refusal, calls_refusal, second_refusal, forms_behind, refusal_of_lines, refusal_of}
-use Rattle.trace_reader.proofs.Splits.{some_piece}
+use Rattle.trace_lines.specs.Forms.{Place, fits, leftmost, line_fault, first_forms, daemon_form, call_forms}
+use Rattle.trace_lines.specs.declared.line.Head.{Head}
+use Rattle.trace_lines.specs.Heads.{IsInRange}
+use Rattle.trace_lines.proofs.Lines.{daemon_is_lawful, first_is_lawful}
+use Rattle.trace_lines.proofs.Numbers.{decimal_value}
+use Rattle.trace_reader.specs.Refusals.{lines_of, end_refusal, calls_refusal, second_refusal, forms_behind, refusal_of_lines, refusal_of}
+use Rattle.trace_lines.specs.Words.{words_of}
+use Rattle.trace_lines.proofs.Splits.{some_piece}
 
 pub faulty_line : (forms : List (List Place)) (number calls : ℕ) (rest line after : List ℕ) (cause : LineCause)
     → lines_of rest ≡ line ∷ lines_of after → bytes_eq line (codes "end") ≡ false → line_fault forms (words_of line) ≡ Some cause

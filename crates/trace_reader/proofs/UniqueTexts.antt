@@ -17,10 +17,11 @@ use Rattle.pager_model.specs.SizeSets.{SizeSet, all_sizes}
 use Rattle.pager_model.specs.declared.trace.Daemon.{Daemon}
 use Rattle.pager_model.proofs.Texts.{version_low}
 use Rattle.pager_model.specs.TraceText.{kind_word, rights_word, sizes_word, call_words, daemon_words, first_words, line_words, text_of, IsCall, IsDaemon, IsLine, IsVersion, HasText}
-use Rattle.trace_reader.specs.Forms.{daemon_form, fits}
-use Rattle.trace_reader.specs.Refusals.{lines_of, words_of}
+use Rattle.trace_lines.specs.Forms.{daemon_form, fits}
+use Rattle.trace_reader.specs.Refusals.{lines_of}
+use Rattle.trace_lines.specs.Words.{words_of}
 use Rattle.trace_reader.proofs.CutTexts.{behind_text, calls_text, call_again, call_words_again, call_is_no_daemons, call_is_not_end, daemon_again, daemon_words_again, first_again, first_words_again}
-use Rattle.trace_reader.proofs.Numbers.{decimal_value}
+use Rattle.trace_lines.proofs.Numbers.{decimal_value}
 
 -- the number at a place, the kind and the rights
 abbrev number_back : List (List ℕ) → ℕ → ℕ

@@ -1,4 +1,1 @@
-pub mod Forms
 pub mod Refusals
-pub mod Words
-pub mod Heads

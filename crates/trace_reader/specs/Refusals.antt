@@ -4,20 +4,18 @@ use Rattle.std.specs.List.{slice_split}
 use Rattle.std.specs.Option.{option_or}
 use Rattle.std.specs.Str.{bytes_eq}
 use Rattle.std.specs.Str.Parse.{digits_value}
-use Rattle.trace_reader.specs.declared.fault.LineCause.{LineCause}
-use Rattle.trace_reader.specs.declared.fault.LineCause.TheVariants as causes
+use Rattle.trace_lines.specs.declared.cause.LineCause.{LineCause}
+use Rattle.trace_lines.specs.declared.cause.LineCause.TheVariants as causes
 use Rattle.trace_reader.specs.declared.fault.TraceFault.{TraceFault}
 use Rattle.trace_reader.specs.declared.fault.TraceFault.TheVariants.{ReadFault, TooLong, Line, NoEnd, TooManyCalls, TooFewStores, OneProcessor, NoMemory}
-use Rattle.trace_reader.specs.Forms.{Place, first_forms, daemon_form, call_forms, fits, leftmost, line_fault}
+use Rattle.trace_lines.specs.Forms.{Place, first_forms, daemon_form, call_forms, fits, leftmost, line_fault}
+use Rattle.trace_lines.specs.Words.{words_of}
 use Rattle.pager_model.specs.Bounds.{most_calls}
+use Rattle.pager_model.specs.declared.trace.Daemon.{Daemon}
 
 -- the lines of a text, and at the end what stands behind the last line feed
 abbrev pub lines_of : List ℕ → List (List ℕ)
 lines_of text = slice_split (λ b. b == 10) text
-
--- the words of a line, of which one between two spaces or at an end may be empty
-abbrev pub words_of : List ℕ → List (List ℕ)
-words_of line = slice_split (λ b. b == 32) line
 
 -- behind the line `end`, which has this number, nothing may stand: no line, and no rest
 abbrev pub end_refusal : ℕ → List (List ℕ) → Option TraceFault
@@ -35,6 +33,11 @@ calls_refusal forms number calls (line ∷ next ∷ lines) =
     option_or (at_line number (line_fault forms (words_of line)))
     (if calls == most_calls then Some TooManyCalls else calls_refusal forms (number + 1) (calls + 1) (next ∷ lines))
 calls_refusal forms number calls lines = Some NoEnd
+
+-- the number of the line of the first call, behind a daemon's line or none
+abbrev pub first_call : Option Daemon → ℕ
+first_call None = 2
+first_call (Some d) = 3
 
 -- from the second line on, which alone may be a daemon's; that is no call, and no line fits both forms
 abbrev pub second_refusal : List (List Place) → List (List ℕ) → Option TraceFault

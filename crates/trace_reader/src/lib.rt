@@ -9,10 +9,9 @@
 mod fault;
 mod input;
 pub mod laws;
-mod line;
 mod text;
-mod word;
 
-pub use fault::{LineCause, TraceFault};
+pub use fault::TraceFault;
 pub use input::read_trace;
 pub use text::{MAX_BYTES, MAX_CALLS, parse};
+pub use trace_lines::LineCause;

@@ -1,15 +1,14 @@
 //! A trace's whole text.
 ghost use Rattle.std.specs.Prelude.{◌≡◌, ◌≤◌, ◌+◌, ◌∷◌, ◌++◌, [], All, List, Some, length, flat_map, codes, IfOk, IfErr, IsErrOf};
 ghost use Rattle.pager_model.specs.TraceText.{IsDaemon, IsLine, IsTextOf, call_line, daemon_line, line_of_words};
-ghost use Rattle.trace_reader.specs.Forms.{Place, call_forms};
-ghost use Rattle.trace_reader.specs.Heads.{first_call};
-ghost use Rattle.trace_reader.specs.Refusals.{IsCause, calls_refusal, lines_of, refusal_of, second_refusal};
+ghost use Rattle.trace_lines.specs.Forms.{Place, call_forms};
+ghost use Rattle.trace_lines.specs.Heads.{IsInRange};
+ghost use Rattle.trace_reader.specs.Refusals.{IsCause, calls_refusal, first_call, lines_of, refusal_of, second_refusal};
 
-use crate::fault::{LineCause, TraceFault};
-use crate::line::{Head, call, daemon, daemon_numbers, first_line};
-use crate::word::cut;
+use crate::fault::TraceFault;
 use pager_model::{Daemon, Line, Trace};
 use std::alloc::Global;
+use trace_lines::{Head, LineCause, call, cut, daemon, daemon_numbers, first_line};
 
 /// The most bytes that a trace's text has.
 pub const MAX_BYTES: usize = 16_777_216;
@@ -47,7 +46,8 @@ fn first_call(daemon: Option<Daemon>) -> u64
 
 /// The calls of the lines, of which the first has this number, up to the line `end`, behind which nothing may stand.
 fn calls(alloc: Global, head: &Head, first: u64, text: &[u8]) -> Result<Vec<Line>, TraceFault>
-    requires { first ≤ 3 }
+    requires first { first ≤ 3 }
+    requires range { IsInRange head.now }
     ensures lines { IfOk result (λ calls. All (IsLine head.now.processors head.now.spaces) calls.items) }
     ensures few { IfOk result (λ calls. length calls.items ≤ MAX_CALLS) }
     ensures text { IfOk result

@@ -3,9 +3,10 @@ use Rattle.std.proofs.lemmas.Grind.{common_steps}
 use Rattle.std.proofs.lemmas.List.Elements.{All-push}
 use Rattle.std.proofs.lemmas.Slice.Eq.{bytes_eq-Decides}
 use Rattle.pager_model.specs.TraceText.{IsLine, call_line}
-use Rattle.trace_reader.specs.Forms.{call_forms, line_fault}
-use Rattle.trace_reader.specs.Refusals.{words_of, lines_of, calls_refusal}
-use Rattle.trace_reader.proofs.Lines.{line_is_lawful}
+use Rattle.trace_lines.specs.Forms.{call_forms, line_fault}
+use Rattle.trace_reader.specs.Refusals.{lines_of, calls_refusal}
+use Rattle.trace_lines.specs.Words.{words_of}
+use Rattle.trace_lines.proofs.Lines.{line_is_lawful}
 use Rattle.trace_reader.proofs.Refusals.{faulty_line, one_call_more, goes_on, past_the_end, parts_go_on}
 use Rattle.trace_reader.proofs.text.calls.Goals as goal
 
@@ -41,8 +42,8 @@ returns-then-len-eq-MAX_CALLS-clause-refused c =
     let calls = c.lines.calls.items in
     let forms = call_forms c.args.head.now.processors c.args.head.now.spaces in
     let lawful : line_fault forms (words_of c.in-Some.line.now) ≡ None =
-    rw c.in-Ok.ensures.text (line_is_lawful c.args.head.now.processors c.args.head.now.spaces c.in-Ok.call (omega arith)
-    (omega arith) c.in-Ok.ensures.range) in
+    rw c.in-Ok.ensures.text (line_is_lawful c.args.head.now.processors c.args.head.now.spaces c.in-Ok.call (omega (arith, c.requires.range.3.1))
+    (omega (arith, c.requires.range.4.1)) c.in-Ok.ensures.range) in
     let many : length calls ≡ 262144 = omega arith in
     c.lines.invariant.refusal ∙ one_call_more forms (c.args.first + length calls)
     (length calls) c.lines.rest.now c.in-Some.line.now c.in-Some.after.now c.in-Some.ensures.first (sym c.if-eq.ensures) lawful many
@@ -52,8 +53,8 @@ lines-preserved c =
     let calls = c.lines.calls.items in
     let forms = call_forms c.args.head.now.processors c.args.head.now.spaces in
     let lawful : line_fault forms (words_of c.in-Some.line.now) ≡ None =
-    rw c.in-Ok.ensures.text (line_is_lawful c.args.head.now.processors c.args.head.now.spaces c.in-Ok.call (omega arith)
-    (omega arith) c.in-Ok.ensures.range) in
+    rw c.in-Ok.ensures.text (line_is_lawful c.args.head.now.processors c.args.head.now.spaces c.in-Ok.call (omega (arith, c.requires.range.3.1))
+    (omega (arith, c.requires.range.4.1)) c.in-Ok.ensures.range) in
     let items : c.push.new.self.items ≡ calls ++ c.in-Ok.call ∷ [] = grind (arith, common_steps) in
     let more : length c.push.new.self.items ≡ length calls + 1 = grind (arith, common_steps) in
     let few : length calls ≢ 262144 = λ e. omega arith in

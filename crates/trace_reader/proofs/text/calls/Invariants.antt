@@ -1,6 +1,6 @@
 use Rattle.std.proofs.Common.{◌≡◌, ◌+◌, ◌≤◌, ◌++◌, All, length, flat_map}
 use Rattle.pager_model.specs.TraceText.{IsLine, call_line}
-use Rattle.trace_reader.specs.Forms.{call_forms}
+use Rattle.trace_lines.specs.Forms.{call_forms}
 use Rattle.trace_reader.specs.Refusals.{calls_refusal, lines_of}
 use Rattle.trace_reader.proofs.text.calls.Given as goal
 

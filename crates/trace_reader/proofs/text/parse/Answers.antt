@@ -1,7 +1,7 @@
 use Rattle.std.proofs.Common.{◌∙◌, sym, subst}
 use Rattle.std.proofs.lemmas.Result.{err_from_is_err_and}
 use Rattle.pager_model.specs.TraceText.{IsTextOf}
-use Rattle.trace_reader.specs.Forms.{call_forms}
+use Rattle.trace_lines.specs.Forms.{call_forms}
 use Rattle.trace_reader.proofs.Refusals.{too_long, no_first_line, faulty_first_line, behind_first_line, is_text}
 use Rattle.trace_reader.proofs.text.parse.Goals as goal
 

@@ -1,0 +1,5 @@
+pub mod Numbers
+pub mod Splits
+pub mod Forms
+pub mod Lines
+pub mod Calls

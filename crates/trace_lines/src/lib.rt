@@ -1,0 +1,13 @@
+//! Reads the lines of a trace's text: the first one, a daemon's, and those of calls.
+//!
+//! A line's words are told apart, and the form of its name is filled with their numbers. What is read has exactly these words, and what is
+//! refused has the cause that the forms give.
+#![tactic(auto)]
+
+mod cause;
+mod line;
+mod word;
+
+pub use cause::LineCause;
+pub use line::{Head, call, daemon, daemon_numbers, first_line};
+pub use word::cut;
