@@ -1,21 +1,20 @@
--- What is left of the spare frames when the last of them is taken, and when a region is unmapped.
-use Rattle.std.proofs.Common.{◌≡◌, ℕ, Bool, true, false, if◌then◌else◌, Option, None, Some, ◌+◌, ◌<◌, ◌≤◌, List, [], ◌∷◌, ◌++◌, length, map, get_or, refl, sym, ap, ◌∙◌, inl, inr, arith}
+-- What is left of the spare frames when the last of them is taken.
+use Rattle.std.proofs.Common.{◌≡◌, ℕ, ◌&&◌, is_some, false, Some, ◌+◌, ◌<◌, ◌≤◌, List, [], ◌∷◌, ◌++◌, length, map, get_or, refl, sym, ap, ◌∙◌, inl, inr, arith}
 use Rattle.std.specs.List.{range_with_len}
 use Rattle.std.proofs.lemmas.Bool.{cases_eq}
 use Rattle.std.proofs.lemmas.Option.{none-some}
 use Rattle.std.proofs.lemmas.List.{get_or_append_left, get_or_at, length-append}
 use Rattle.std.proofs.lemmas.List.FromFn.{get_or-map-range_with_len, length-map-range_with_len, fill_by_all}
 use Rattle.pager_model.specs.Frame.{Framed, zero_frame}
-use Rattle.pager_model.specs.declared.region.Region.{Region}
-use Rattle.pager_model.specs.declared.reply.Answered.{Answered}
-use Rattle.pager_model.specs.CallEntries.{clear_entry}
-use Rattle.pager_model.specs.Regions.{in_range, region_at}
+use Rattle.pager_model.specs.Flat.{page_of, can_read, can_write}
+use Rattle.pager_model.specs.Regions.{region_at}
 use Rattle.pager_model.specs.SizeSets.{SizeSet}
-use Rattle.pager_model.specs.SpaceStates.{SpaceState, empty_state, space_after}
-use Rattle.space_core.specs.Beginning.{SameRegions, GaveUp, NoneResident, ClearsOne, ClearsNone, Unmapped}
-use Rattle.space_tests.specs.Ranges.{IsRange}
+use Rattle.pager_model.specs.declared.call.Call.{Call}
+use Rattle.pager_model.specs.declared.call.Call.TheVariants.{Load, Store}
+use Rattle.pager_model.specs.SpaceStates.{SpaceState, empty_state}
+use Rattle.space_core.specs.Beginning.{GaveUp, SameRegions}
 use Rattle.space_tests.specs.Spares.{HasSpare}
-use Rattle.space_core.specs.Standing.{Kept, StandsFor, StandsBut, IsResting, range_of, frame_at}
+use Rattle.space_core.specs.Standing.{Kept, StandsFor, IsResting, frame_at, is_allowed, rights_at}
 
 pub record IsPopped (spare rest : List Framed) (frame : Framed) : Type 0 where
   pub number : frame.number ≡ length rest
@@ -93,77 +92,12 @@ kept_others old new page frame gave p number has =
           sym (gave.same_others p n) ∙ has
     ]
 
--- Some pages of the range gave their frames up, and no entry says so yet.
-pub record ClearsBut (first len : ℕ) (old new : Kept) : Type 0 where
-  pub same_number : new.number ≡ old.number
-  pub same_frames : new.frames ≡ old.frames
-  pub same_processors : length new.images ≡ length old.images
-  pub none_pending : new.pending ≡ None
-  pub none_paged : new.paged ≡ None
-  pub stands : (st : SpaceState) → StandsFor old st → StandsBut first len new st
-
--- one more page does
-pub clears_one_more : (first len page frame : ℕ) (old mid new : Kept) → ClearsBut first len old mid → ClearsOne mid new first len page frame
-    → ClearsBut first len old new
-clears_one_more first len page frame old mid new so_far one =
-    record {
-      same_number = one.gave.same.number ∙ so_far.same_number;
-      same_frames = one.gave.same.frames ∙ so_far.same_frames;
-      same_processors = one.gave.same.processors ∙ so_far.same_processors;
-      none_pending = one.same_pending ∙ so_far.none_pending;
-      none_paged = one.same_paged ∙ so_far.none_paged;
-      stands = λ st stands. one.stands st (so_far.stands st stands);
-    }
-
--- a region that is there is still there
-pub range_again : (first len : ℕ) (old new : Kept) → SameRegions old new → IsRange old first len → IsRange new first len
-range_again first len old new same range =
-    record {
-      region = range.region;
-      at = ap (λ (rs : List Region). region_at rs first) same.regions
-          ∙ range.at;
-      first_is = range.first_is;
-      length_is = range.length_is;
-      in_space = range.in_space;
-    }
-
--- no page of the range is resident any more, so its region can be taken away
-pub may_unmap : (first len : ℕ) (mid new : Kept) → IsRange mid first len → ClearsNone mid new first len
-    → (r : Region) × (region_at new.regions first ≡ Some r) × (new.clearing ≡ Some (range_of r.first r.length))
-    × NoneResident new r.first r.length
-may_unmap first len mid new range none = (
-  range.region,
-  ap (λ (rs : List Region). region_at rs first) none.same.same.regions
-      ∙ range.at,
-  rw (range.first_is, range.length_is) none.clearing,
-  rw (range.first_is, range.length_is) none.none,
-)
-
-left_base : (b : Bool) (o : Option ℕ) (number : ℕ) → (if b then None else o) ≡ Some number → o ≡ Some number
-left_base true o number h = absurd (none-some number h)
-left_base false o number h = h
-
--- no page of the range is resident any more, and the space stands for a clearing of it
-pub record Cleared (first len : ℕ) (old new : Kept) : Type 0 where
-  pub number : ℕ
-  pub same_frames : new.frames ≡ old.frames
-  pub same_processors : length new.images ≡ length old.images
-  pub stands : (st : SpaceState) → StandsFor old st → StandsFor new (space_after st (clear_entry 0 number first len))
-
-pub Cleared-none : (first len : ℕ) (old mid new : Kept) → ClearsBut first len old mid → ClearsNone mid new first len
-    → Cleared first len old new
-Cleared-none first len old mid new so_far none = record {
-  number = mid.number;
-  same_frames = none.same.same.frames ∙ so_far.same_frames;
-  same_processors = none.same.same.processors ∙ so_far.same_processors;
-  stands = λ st stands. none.stands st 0 (so_far.stands st stands);
-}
-
--- an unmap leaves the spare frames spare
-pub spare_unmapped : (first len : ℕ) (old cleared new : Kept) (a : Answered) (spare : List Framed) → Cleared first len old cleared
-    → Unmapped cleared new first a → HasSpare old spare → HasSpare new spare
-spare_unmapped first len old cleared new a spare clears unmapped had =
-    let stands = unmapped.stands _ (clears.stands had.state had.stands) 0 0 in
-    still_spare old new spare _ unmapped.resting stands (unmapped.same_frames ∙ clears.same_frames)
-    (unmapped.same_processors ∙ clears.same_processors)
-    (λ p number has. sym (had.stands.base p) ∙ left_base (in_range first len p) (had.state.base p) number (stands.base p ∙ has)) had
+-- what rights allow depends on the regions and the rights alone
+pub allowed_same : (was now : Kept) (call : Call) → SameRegions was now → is_allowed now call ≡ is_allowed was call
+allowed_same was now (Load space address) same =
+    ap (λ rs. is_some (region_at rs (page_of address)) && can_read (rights_at now (page_of address))) same.regions
+    ∙ ap (λ r. is_some (region_at was.regions (page_of address)) && can_read r) (same.rights (page_of address))
+allowed_same was now (Store space address word) same =
+    ap (λ rs. is_some (region_at rs (page_of address)) && can_write (rights_at now (page_of address))) same.regions
+    ∙ ap (λ r. is_some (region_at was.regions (page_of address)) && can_write r) (same.rights (page_of address))
+allowed_same was now call same = refl

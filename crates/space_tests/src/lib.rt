@@ -1,4 +1,4 @@
-//! Tests of what a space keeps of its pages and of the space, and of what a history leads to in it, by their public calls.
+//! Tests of what a space keeps of its pages and of the space, by their public calls.
 #![tactic(auto)]
 
 #[cfg(test)]

@@ -1,120 +1,79 @@
-//! The rights of pages beside a plain list of them.
-ghost use Rattle.std.specs.Prelude.{◌≡◌, vec_len};
-
+//! The rights of pages, in worked rows.
+use super::{NO_MEMORY, count, rights_of, words};
 use page_rights::PageRights;
-use pager_model::{Generator, NoMemory, PAGES, PageRange, Rights};
-use std::alloc::Global;
-use std::test::Fail;
+use pager_model::PAGES;
 
-const BLOCK: u32 = 512;
+/// Ranges that get rights in turn, and pages, from one to before another, that have such rights then. A dash is for no rights of their own.
+const ROWS: &str = "\
+are 0 1048576 -
+set 100 300 read a part of a block
+are 0 100 -
+are 100 400 read
+are 400 1048576 -
+set 300 1000 none a part of a block, a whole one, and a part
+are 0 100 -
+are 100 300 read
+are 300 1300 none
+are 1300 1048576 -
+set 0 512 write a whole block of which parts differ
+are 0 512 write
+are 512 1300 none
+set 511 2 - the last page of a block and the first of the next
+are 0 511 write
+are 511 513 -
+are 513 1300 none
+set 600 0 read no page
+set 1048576 0 read
+are 513 1300 none
+are 1300 1048576 -
+set 1048575 1 read the last page
+are 1300 1048575 -
+are 1048575 1048576 read
+set 0 1048576 write the whole space
+are 0 1048576 write
+set 1024 512 read a whole block
+set 1030 4 write
+are 512 1024 write
+are 1024 1030 read
+are 1030 1034 write
+are 1034 1536 read
+are 1536 1048576 write
+";
 
-/// The pages in which most ranges begin.
-const NEAR: u32 = 8 * BLOCK;
-
-/// The rights by blocks beside a plain list.
-#[derive(Drop)]
-struct Beside {
-    rights: PageRights,
-    plain: Vec<Option<Rights>>,
-    ghost pages: { vec_len plain ≡ 1048576 },
-}
-
-impl Beside {
-    fn create(alloc: Global) -> Result<Beside, NoMemory> {
-        Ok(Beside {
-            rights: PageRights::create(alloc)?,
-            plain: vec![in alloc; None; PAGES as usize]?,
-        })
-    }
-
-    /// Gives the pages of a range these rights in both, where they lie in a space.
-    fn set(&mut self, range: PageRange, rights: Option<Rights>) {
-        let PageRange { first, length } = range;
-        if first > PAGES || length > PAGES - first {
-            return;
+/// Whether the pages from one to before another have these rights.
+fn are(rights: &PageRights, first: u32, end: u32, word: &str) -> bool {
+    let wanted = rights_of(word);
+    for page in first..end.min(PAGES) {
+        if rights.get(page) != wanted {
+            return false;
         }
-        self.rights.set(first, length, rights);
-        self.plain[first as usize..(first + length) as usize].fill(rights);
     }
-
-    /// Whether both say the same of a page, if it lies in a space.
-    fn is_alike_at(&self, page: u32) -> bool {
-        page >= PAGES || self.plain.get(page as usize) == Some(&self.rights.get(page))
-    }
-
-    /// Whether both say the same at the ends of a range, within it and outside.
-    fn is_alike_round(&self, range: PageRange) -> bool {
-        let end = range.first.wrapping_add(range.length);
-        let pages = [
-            range.first.wrapping_sub(1),
-            range.first,
-            end.wrapping_sub(1),
-            end,
-        ];
-        pages.iter().all(|&page| self.is_alike_at(page))
-    }
-
-    /// Whether both say the same of a hundred drawn pages.
-    fn is_alike(&self, random: &mut Generator) -> bool {
-        (0..100).all(|_| self.is_alike_at(page(random)))
-    }
+    true
 }
 
-/// A drawn page, most of them near to each other.
-fn page(random: &mut Generator) -> u32 {
-    match random.draw(8) {
-        0 => random.draw(PAGES),
-        _ => random.draw(NEAR),
+/// Gives a range these rights, where it lies in a space, and says whether it does.
+fn set(rights: &mut PageRights, first: u32, length: u32, word: &str) -> bool {
+    if first > PAGES || length > PAGES - first {
+        return false;
     }
+    rights.set(first, length, rights_of(word));
+    true
 }
 
-/// A drawn range: some pages, up to three whole blocks, or seldom the whole space.
-fn drawn_range(random: &mut Generator) -> PageRange {
-    let first = page(random);
-    match random.draw(32) {
-        0 => PageRange {
-            first: 0,
-            length: PAGES,
-        },
-        1..=8 => PageRange {
-            first: first / BLOCK * BLOCK,
-            length: BLOCK * random.draw(4),
-        },
-        9..=16 => PageRange {
-            first,
-            length: random.draw(9),
-        },
-        _ => PageRange {
-            first,
-            length: random.draw(3 * BLOCK + 1),
-        },
+/// Whether a row goes as it says.
+fn goes(rights: &mut PageRights, row: &str) -> bool {
+    let [call, first, second, word, ..] = words(row);
+    let (first, second) = (count(first), count(second));
+    match call {
+        "set" => set(rights, first, second, word),
+        _ => are(rights, first, second, word),
     }
-}
-
-/// Drawn rights, or none.
-fn rights(random: &mut Generator) -> Option<Rights> {
-    match random.draw(4) {
-        0 => None,
-        1 => Some(Rights::NoAccess),
-        2 => Some(Rights::Read),
-        _ => Some(Rights::Write),
-    }
-}
-
-/// Gives a drawn range drawn rights. Answers whether both say the same at its ends and of drawn pages.
-fn goes_alike(both: &mut Beside, random: &mut Generator) -> bool {
-    let range = drawn_range(random);
-    both.set(range, rights(random));
-    both.is_alike_round(range) && both.is_alike(random)
 }
 
 #[test]
-fn drawn_ranges_have_the_rights_of_a_plain_list(rt: HostRuntime) -> Result<(), Fail> {
-    let mut both = Beside::create(rt.alloc())?;
-    let mut random = Generator::of(31);
-    for change in 0..300 {
-        assert!(rt; goes_alike(&mut both, &mut random), "change {change}");
+fn a_range_gets_rights_and_other_pages_keep_theirs(rt: HostRuntime) {
+    let mut rights = PageRights::create(rt.alloc()).expect(&rt, NO_MEMORY);
+    for row in ROWS.lines() {
+        assert!(rt; goes(&mut rights, row), "{row}");
     }
-    assert!(rt; (0..NEAR).all(|page| both.is_alike_at(page)));
-    Ok(())
 }

@@ -1,10 +1,10 @@
-//! A tree of extents beside a plain list of its rows.
+//! A tree of extents, in worked rows.
 ghost use Rattle.std.specs.Prelude.{◌≡◌, ◌*◌, ◌<◌, ◌≤◌};
 
-use super::{NO_MEMORY, size};
+use super::{NO_MEMORY, count, number, size, words};
 use extent_tree::ExtentTree;
-use pager_model::{Extent, Generator, NoMemory, Size, Steps};
-use std::alloc::{AllocError, Global};
+use pager_model::{Size, Steps};
+use std::alloc::Global;
 use std::marker::Brand;
 use std::process::Abort;
 use std::sync::ledger::{Blank, Ledger};
@@ -13,234 +13,206 @@ const ROOTS: u32 = 3;
 
 const PAGES: u32 = 512 * ROOTS;
 
-/// A row of the plain list.
-#[derive(Clone, Copy)]
-struct Row {
-    extent: Extent,
-    value: u32,
-}
+// The calls on a tree in turn, each on the extent of a level round a page:
+//
+//     put LEVEL PAGE VALUE, remove LEVEL PAGE
+//     split LEVEL PAGE VALUE             its eight parts have this value and the next ones
+//     join LEVEL PAGE VALUE              it has this value in place of its parts
+//     at LEVEL PAGE VALUE SPLIT          it has this value or none, and smaller ones in it have some or not
+//     next FROM END PAGE LEVEL VALUE     the next row from a page on and before another one, or none
+const ROWS: &str = "\
+next 0 1536 -
+at 3 5 - 0
+put 0 77 1
+at 0 77 1 0
+at 0 76 - 0
+at 1 72 - 1
+at 2 64 - 1
+at 3 0 - 1
+at 1 64 - 0
+next 0 1536 77 0 1
+next 77 78 77 0 1
+next 78 1536 -
+put 2 100 2 a row round the other
+at 2 64 2 1
+at 0 77 1 0
+next 0 1536 64 2 2
+next 100 1536 100 2 2
+put 0 77 3 another value
+at 0 77 3 0
+remove 2 127
+at 2 64 - 1
+remove 0 77
+at 1 72 - 0
+at 3 0 - 0
+next 0 1536 -
+put 3 600 10 of the second root
+split 3 512 20
+at 3 512 - 1
+at 2 512 20 0
+at 2 1023 27 0
+split 2 576 30 the second part's parts
+at 2 576 - 1
+at 1 583 30 0
+at 1 639 37 0
+at 2 512 20 0
+next 0 1536 512 2 20
+next 576 1536 576 1 30
+next 640 1536 640 2 22
+join 2 600 40
+at 2 576 40 0
+at 1 583 - 0
+join 3 1023 50
+at 3 512 50 0
+at 2 576 - 0
+next 0 512 -
+next 1024 1536 -
+next 1023 1536 1023 3 50
+put 1 1535 60 of the last one
+next 1024 1536 1528 1 60
+next 1024 1528 -
+";
 
-/// The tree beside a plain list of its rows.
+/// A tree with room for every node over its roots.
 #[derive(Drop)]
-struct Beside {
+struct Tree {
     tree: ExtentTree<u32>,
-    rows: Vec<Row>,
     ghost roots: { tree.roots ≡ 3 },
     ghost room: { 73 * 3 ≤ tree.room },
 }
 
-/// The extent of a size round a page.
-fn extent(size: Size, page: u32) -> Extent {
-    let pages = size.pages().max(1);
-    Extent {
-        size,
-        first: page / pages * pages,
-    }
-}
-
-/// Whether an extent is a smaller one inside another.
-fn is_part(part: &Extent, whole: &Extent) -> bool {
-    part.size < whole.size && extent(whole.size, part.first) == *whole
-}
-
-impl Beside {
-    fn create(alloc: Global) -> Result<Beside, NoMemory> {
-        Ok(Beside {
-            tree: ExtentTree::create(alloc, ROOTS, 73 * ROOTS)?,
-            rows: Vec::new(alloc),
-        })
+impl Tree {
+    fn create(rt: &impl Abort, alloc: Global) -> Tree {
+        let tree = ExtentTree::create(alloc, ROOTS, 73 * ROOTS).expect(rt, NO_MEMORY);
+        Tree { tree }
     }
 
-    /// Takes an extent's row out of the list, if it has one.
-    fn forget(&mut self, extent: &Extent) {
-        self.rows.retain(|row| row.extent != *extent);
+    /// Puts a row in, where there is such a page, and says whether there is.
+    fn put<L: Ledger>(&mut self, size: Size, page: u32, value: u32, steps: &mut Steps<L>) -> bool {
+        if page >= PAGES {
+            return false;
+        }
+        self.tree.put(size, page, value, steps);
+        true
     }
 
-    /// The value of an extent's row in the list.
-    fn value(&self, extent: &Extent) -> Option<u32> {
-        let row = self.rows.iter().find(|row| row.extent == *extent)?;
-        Some(row.value)
+    /// Takes a row out, where it is there, and says whether it was.
+    fn remove<L: Ledger>(&mut self, size: Size, page: u32, steps: &mut Steps<L>) -> bool {
+        if self.tree.at(size, page, steps).value().is_none() {
+            return false;
+        }
+        self.tree.remove(size, page, steps);
+        true
     }
 
-    /// Whether the list has a smaller extent in this one.
-    fn is_split(&self, whole: &Extent) -> bool {
-        self.rows.iter().any(|row| is_part(&row.extent, whole))
-    }
-
-    /// Puts a row in, in both.
-    fn put<L: Ledger>(
+    /// Gives the parts of an extent of more than a page values in place of its own, and says whether it is one.
+    fn split<L: Ledger>(
         &mut self,
+        size: Size,
+        page: u32,
+        first: u32,
+        steps: &mut Steps<L>,
+    ) -> bool {
+        if size.level() == 0 || page >= PAGES {
+            return false;
+        }
+        let mut values = [first; 8];
+        for part in 1..8 {
+            values[part] = values[part - 1].wrapping_add(1);
+        }
+        self.tree.split(size, page, &values, steps);
+        true
+    }
+
+    /// Gives an extent of more than a page a value in place of its parts', where the first has one, and says whether it has.
+    fn join<L: Ledger>(&mut self, size: Size, page: u32, value: u32, steps: &mut Steps<L>) -> bool {
+        if size.level() == 0 || self.tree.at(size.smaller(), page, steps).value().is_none() {
+            return false;
+        }
+        self.tree.join(size, page, value, steps);
+        true
+    }
+
+    /// The page, the level and the value of the next row, where the range is one of the tree's pages.
+    fn next<L: Ledger>(
+        &self,
+        from: u32,
+        end: u32,
+        steps: &mut Steps<L>,
+    ) -> Option<(u32, u32, u32)> {
+        if end > PAGES {
+            return None;
+        }
+        let row = self.tree.next(from, end, steps)?;
+        Some((row.page, u32::from(row.size.level()), row.value))
+    }
+
+    /// Whether this stands at the extent of a size round a page.
+    fn has<L: Ledger>(
+        &self,
+        size: Size,
+        page: u32,
+        value: Option<u32>,
+        is_split: bool,
+        steps: &mut Steps<L>,
+    ) -> bool {
+        let spot = self.tree.at(size, page, steps);
+        spot.value() == value && spot.is_split() == is_split
+    }
+
+    /// Makes the change that a word names, where it can be made, and says whether it can.
+    fn change<L: Ledger>(
+        &mut self,
+        call: &str,
         size: Size,
         page: u32,
         value: u32,
         steps: &mut Steps<L>,
-    ) -> Result<(), AllocError> {
-        if page < PAGES {
-            self.tree.put(size, page, value, steps);
-            let extent = extent(size, page);
-            self.forget(&extent);
-            self.rows.push(Row { extent, value })?;
-        }
-        Ok(())
-    }
-
-    /// Takes a row out of both, where the tree has it.
-    fn remove<L: Ledger>(&mut self, size: Size, page: u32, steps: &mut Steps<L>) {
-        if self.tree.at(size, page, steps).value().is_some() {
-            self.tree.remove(size, page, steps);
-            self.forget(&extent(size, page));
+    ) -> bool {
+        match call {
+            "put" => self.put(size, page, value, steps),
+            "split" => self.split(size, page, value, steps),
+            "join" => self.join(size, page, value, steps),
+            _ => self.remove(size, page, steps),
         }
     }
 
-    /// Gives the parts of an extent of more than a page these values in place of its own, in both.
-    fn split<L: Ledger>(
-        &mut self,
-        whole: &Extent,
-        value: u32,
-        steps: &mut Steps<L>,
-    ) -> Result<(), AllocError> {
-        if whole.size.level() > 0 && whole.first < PAGES {
-            let values = [0, 1, 2, 3, 4, 5, 6, 7].map(|part| value.wrapping_add(part));
-            self.tree.split(whole.size, whole.first, &values, steps);
-            self.forget(whole);
-            let size = whole.size.smaller();
-            for part in 0..8_u32 {
-                let page = whole.first.wrapping_add(part.wrapping_mul(size.pages()));
-                let extent = extent(size, page);
-                self.forget(&extent);
-                self.rows.push(Row {
-                    extent,
-                    value: value.wrapping_add(part),
-                })?;
-            }
-        }
-        Ok(())
-    }
-
-    /// Gives an extent of more than a page this value in place of its parts', in both, where its first part has one.
-    fn join<L: Ledger>(
-        &mut self,
-        whole: &Extent,
-        value: u32,
-        steps: &mut Steps<L>,
-    ) -> Result<(), AllocError> {
-        if whole.size.level() == 0 {
-            return Ok(());
-        }
-        let size = whole.size.smaller();
-        if self.tree.at(size, whole.first, steps).value().is_some() {
-            self.tree.join(whole.size, whole.first, value, steps);
-            self.rows.retain(|row| row.extent.size != size || !is_part(&row.extent, whole));
-            self.forget(whole);
-            self.rows.push(Row {
-                extent: *whole,
-                value,
-            })?;
-        }
-        Ok(())
-    }
-
-    /// Whether the tree and the list say the same of the extent of a size round a page.
-    fn is_alike<L: Ledger>(&self, size: Size, page: u32, steps: &mut Steps<L>) -> bool {
-        let spot = self.tree.at(size, page, steps);
-        let extent = extent(size, page);
-        spot.value() == self.value(&extent) && spot.is_split() == self.is_split(&extent)
-    }
-
-    /// The largest row of the list round a page: its size and its value.
-    fn largest(&self, page: u32) -> Option<(Size, u32)> {
-        (0..4).rev().find_map(|level| {
-            let size = size(level);
-            Some((size, self.value(&extent(size, page))?))
-        })
-    }
-
-    /// The lowest page from one on and before an end that has a row of the list round it, and the largest such row.
-    fn next(&self, from: u32, end: u32) -> Option<(u32, Size, u32)> {
-        (from..end).find_map(|page| {
-            let (size, value) = self.largest(page)?;
-            Some((page, size, value))
-        })
-    }
-
-    /// Whether the next row is the same in the tree and the list, with its page and its value.
-    fn goes_on_alike<L: Ledger>(&self, from: u32, end: u32, steps: &mut Steps<L>) -> bool {
-        if end > PAGES {
-            return true;
-        }
-        let found = self.tree.next(from, end, steps);
-        found.map(|row| (row.page, row.size, row.value)) == self.next(from, end)
-    }
-
-    /// The tree and the list say the same of the extents round a page.
-    fn compares<L: Ledger>(&self, rt: &impl Abort, page: u32, steps: &mut Steps<L>) {
-        for level in 0..4 {
-            assert!(rt;
-                self.is_alike(size(level), page, steps),
-                "level {level} at page {page}"
-            );
+    /// Makes the call of a row. Whether it goes as the row says.
+    fn goes<L: Ledger>(&mut self, row: &str, steps: &mut Steps<L>) -> bool {
+        let [call, one, two, three, four, five, ..] = words(row);
+        let (first, second, fourth) = (count(one), count(two), count(four));
+        match call {
+            "at" => self.has(size(first), second, number(three), fourth == 1, steps),
+            "next" => self.next(first, second, steps) == row_of(three, fourth, count(five)),
+            _ => self.change(call, size(first), second, count(three), steps),
         }
     }
 }
 
-/// A drawn page, most of them near to each other.
-fn near(random: &mut Generator) -> u32 {
-    match random.draw(16) {
-        0..=7 => random.draw(16),
-        8..=13 => 500 + random.draw(90),
-        _ => random.draw(PAGES),
+/// The row that these are of, and none for a dash.
+fn row_of(page: &str, level: u32, value: u32) -> Option<(u32, u32, u32)> {
+    Some((number(page)?, level, value))
+}
+
+/// Asserts that all rows go as they say, one after another.
+fn go_all<L: Ledger>(rt: &impl Abort, tree: &mut Tree, steps: &mut Steps<L>) {
+    for row in ROWS.lines() {
+        assert!(rt; tree.goes(row, steps), "{row}");
     }
 }
 
-/// Puts a row in or leaves it, and takes one out; now and then splits an extent, or joins one.
-fn change<L: Ledger>(
-    both: &mut Beside,
-    value: u32,
-    pages: (u32, u32),
-    random: &mut Generator,
-    steps: &mut Steps<L>,
-) -> Result<(), AllocError> {
-    let size = size(random.draw(4) as u8);
-    // Rows come in for a while, and then go out.
-    if value / 300 % 2 == 0 || random.draw(2) == 0 {
-        both.put(size, pages.0, value, steps)?;
-    }
-    both.remove(size, pages.1, steps);
-    match random.draw(8) {
-        0 => both.split(&extent(size, pages.0), value, steps),
-        1..=2 => both.join(&extent(size, pages.0), value, steps),
-        _ => Ok(()),
-    }
-}
-
-fn goes_through<L: Ledger>(
-    rt: &impl Abort,
-    both: &mut Beside,
-    blank: Blank,
-) -> Result<(), AllocError>
+/// Asserts so with a counter of steps that begins at 0.
+fn goes_through<L: Ledger>(rt: &impl Abort, tree: &mut Tree, blank: Blank)
     requires name { blank.name ≡ L.name }
     requires parts { blank.parts ≡ L.parts }
     requires share { 0 < blank.parts }
 {
     let (book, share) = blank.open::<L>();
-    let steps = &mut Steps::begin(book, share);
-    let mut random = Generator::of(7);
-    for value in 0..3_000 {
-        let pages = (near(&mut random), near(&mut random));
-        change(both, value, pages, &mut random, steps)?;
-        both.compares(rt, pages.0, steps);
-        both.compares(rt, pages.1, steps);
-        let (from, end) = (pages.0, near(&mut random));
-        assert!(rt;
-            both.goes_on_alike(from, end, steps),
-            "from {from} to {end}"
-        );
-    }
-    Ok(())
+    go_all(rt, tree, &mut Steps::begin(book, share));
 }
 
 #[test]
-fn says_what_a_list_of_rows_says(rt: HostRuntime) {
-    let mut both = Beside::create(rt.alloc()).expect(&rt, NO_MEMORY);
-    assert!(rt; goes_through::<Brand>(&rt, &mut both, Blank::new(1)).is_ok());
+fn rows_lie_in_one_another(rt: HostRuntime) {
+    let mut tree = Tree::create(&rt, rt.alloc());
+    goes_through::<Brand>(&rt, &mut tree, Blank::new(1));
 }

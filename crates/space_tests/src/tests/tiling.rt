@@ -1,51 +1,186 @@
-//! The tiles beside a slow scan by what a tile is.
-
+//! The tiles of a space's pages, in worked rows.
 ghost use Rattle.std.specs.Prelude.{◌≡◌, ◌≢◌, ◌<◌, ◌≤◌, ℕ, true, None, Some};
 ghost use Rattle.tiles.specs.Resident.{mapping_at, frames_in, frame_of_page};
 
-use super::{NO_MEMORY, size};
-use pager_model::{Extent, Generator, Mapping, NoMemory, PageRange, Rights, Size, Sizes, Tile};
+use super::{NO_MEMORY, count, number, rights_of, words};
+use pager_model::{Mapping, PageRange, Rights, Sizes};
 use std::alloc::Global;
 use std::marker::Brand;
 use std::process::Abort;
 use std::sync::ledger::Blank;
 use tiles::counted::{after_dirty, after_fill, after_remove};
-use tiles::{Base, Changes, Moves, TileList};
+use tiles::{Base, Changes, Moves};
 
 /// The pages that the tests use, and the frames.
 const PAGES: u32 = 1024;
 
 const FRAMES: u32 = 1536;
 
-/// How many changes are drawn.
-const CHANGES: u32 = 3_000;
+// In each table no page is resident at first. Its rows, of which `FIRST LENGTH` is a range:
+//
+//     fill PAGE END KIND MOVES          each page before the end gets a frame
+//     put PAGE MOVES TOUCHED TILES      the page gets its frame; so `remove`, `dirty` and `clean`
+//     read FIRST LENGTH MOVES TOUCHED   the pages may only be read; so `write`
+//     counts OF0 OF1 OF2 OF3            how many tiles there are of each size
+//     meet FIRST LENGTH COUNT           how many larger than a page have one of these pages
+//     tile PAGE LEVEL FIRST FRAME       the page's tile, if it has one
+//
+// MOVES are the promotions and the demotions, TOUCHED is the range outside of which each tile is one still, and TILES are how many of all four
+// sizes went and came. Neighbours of kind 0 can be of one tile; each other kind differs from it in one thing.
 
-const NO_MOVES: Moves = Moves {
-    promotions: 0,
-    demotions: 0,
-    touched: PageRange {
-        first: 0,
-        length: 0,
-    },
-};
+/// By all four sizes.
+const BY_ALL: &str = "\
+fill 0 512 0 64 0
+counts 0 0 0 1
+tile 511 3 0 1024
+meet 0 512 1
+put 600 0 0 0 0 0 1 it joins no other
+remove 600 0 0 600 1 1 0
+dirty 100 0 1 0 512 1 22
+counts 8 7 7 0
+meet 0 512 14
+meet 60 8 2
+meet 300 1 1
+meet 300 0 0
+tile 99 0 99 1123
+tile 104 1 104 1128
+tile 128 2 128 1152
+dirty 100 0 0 0 0 0 0 it is so already
+dirty 101 0 0 101 1 1 1
+remove 70 0 1 64 8 1 7
+counts 15 6 7 0
+put 70 1 0 64 8 7 1
+clean 101 0 0 101 1 1 1
+clean 100 1 0 0 512 22 1
+counts 0 0 0 1
+remove 100 0 1 0 512 1 21
+tile 100 -
+put 100 1 0 0 512 21 1
+read 8 0 0 0 0 0 no page
+write 8 8 0 0 0 0 they may be written
+read 8 8 0 1 0 512
+counts 0 8 7 0
+write 0 16 1 0 0 512
+read 64 192 0 1 0 512
+counts 0 0 8 0
+read 0 512 1 0 0 512
+counts 0 0 0 1
+fill 512 519 0 0 0
+fill 519 520 1 0 0 a frame elsewhere
+counts 8 0 0 1
+remove 519 0 0 519 1 1 0
+fill 519 520 3 0 0 another region
+remove 519 0 0 519 1 1 0
+fill 519 520 4 0 0 other rights
+remove 519 0 0 519 1 1 0
+fill 519 520 5 0 0 another flag
+remove 519 0 0 519 1 1 0
+fill 519 520 0 1 0
+fill 528 536 2 0 0 frames that are no extent
+counts 8 1 0 1
+tile 519 1 512 0
+tile 535 0 535 24
+fill 896 904 0 0 0 over the end of a region
+tile 896 0 896 384
+";
 
-/// What the base told of a drawn change.
+/// By base pages and those of 512.
+const BY_FIRST_AND_LAST: &str = "\
+fill 0 512 0 1 0
+counts 0 0 0 1
+tile 77 3 0 1024
+meet 0 512 1
+dirty 100 0 1 0 512 1 22
+counts 512 0 0 0
+meet 0 512 0
+tile 7 0 7 1031
+clean 100 1 0 0 512 22 1
+read 0 8 0 1 0 512
+counts 512 0 0 0
+read 8 504 1 0 0 512
+counts 0 0 0 1
+remove 511 0 1 0 512 1 21
+";
+
+/// By base pages and those of 64.
+const BY_MIDDLE: &str = "\
+fill 0 512 0 8 0
+counts 0 0 8 0
+tile 77 2 64 1088
+meet 0 512 8
+dirty 100 0 1 64 64 1 22
+counts 64 0 7 0
+meet 0 512 7
+tile 7 2 0 1024
+clean 100 1 0 64 64 22 1
+read 0 8 0 1 0 512
+counts 64 0 7 0
+read 8 504 1 0 0 512
+counts 0 0 8 0
+remove 511 0 1 448 64 1 21
+";
+
+/// By base pages and those of 8 and 512.
+const WITHOUT_MIDDLE: &str = "\
+fill 0 512 0 64 0
+counts 0 0 0 1
+tile 77 3 0 1024
+meet 0 512 1
+dirty 100 0 1 0 512 1 22
+counts 8 63 0 0
+meet 0 512 63
+tile 7 1 0 1024
+clean 100 1 0 0 512 22 1
+read 0 8 0 1 0 512
+counts 0 64 0 0
+read 8 504 1 0 0 512
+counts 0 0 0 1
+remove 511 0 1 0 512 1 21
+";
+
+/// By base pages alone.
+const BY_BASE_PAGES: &str = "\
+fill 0 512 0 0 0
+counts 512 0 0 0
+tile 77 0 77 1101
+meet 0 512 0
+dirty 100 0 0 100 1 1 22
+meet 0 512 0
+tile 7 0 7 1031
+clean 100 0 0 100 1 22 1
+read 0 8 0 0 0 512
+read 8 504 0 0 0 512
+counts 512 0 0 0
+remove 511 0 0 511 1 1 21
+";
+
+/// The pages, of which those that the tests don't use are not resident.
 #[derive(Drop)]
-pub(super) enum Told {
-    /// No change was made.
-    Nothing,
-    OfPage(Changes),
-    OfRange(Moves),
-}
-
-/// The base beside a plain list of mappings, and the sizes by which their tiles are compared.
-#[derive(Drop)]
-pub(super) struct Beside {
-    pub(super) sizes: Sizes,
-    pub(super) base: Base,
-    pages: Vec<Option<Mapping>>,
+struct Pages {
+    base: Base,
     ghost frames: { frames_in base ≡ 1536 },
     ghost absent: { (p : ℕ) → 1024 ≤ p → mapping_at base p ≡ None },
+}
+
+/// What a page is mapped to in a way of a kind.
+fn mapping(page: u32, kind: u32) -> Mapping {
+    let frame = if page < 512 { page + 1024 } else { page - 512 };
+    let region = if page < 900 { 0 } else { 900 };
+    let further = match kind {
+        1 => 512,
+        2 => 1,
+        _ => 0,
+    };
+    Mapping {
+        frame: frame.wrapping_add(further),
+        region: if kind == 3 { 8 } else { region },
+        rights: if kind == 4 {
+            Rights::Read
+        } else {
+            Rights::Write
+        },
+        dirty: kind == 5,
+    }
 }
 
 /// Whether none of the pages that the tests use has a frame.
@@ -63,556 +198,158 @@ fn is_free(base: &Base, frame: u32) -> bool
     true
 }
 
-/// The extent of a size from a page on as a tile, where it is eligible.
-fn eligible(pages: &[Option<Mapping>], size: Size, page: u32) -> Option<Tile> {
-    let length = size.pages().max(1);
-    let head = (*pages.get(page as usize)?)?;
-    if page % length != 0 || head.frame % length != 0 || !continue_it(pages, page, length, head) {
-        return None;
-    }
-    Some(Tile {
-        extent: Extent { size, first: page },
-        frame: head.frame,
-        rights: head.rights,
-        dirty: head.dirty,
-    })
-}
-
-/// The mapping so many pages behind another that continues it.
-fn after(head: Mapping, pages: u32) -> Mapping {
-    Mapping {
-        frame: head.frame.wrapping_add(pages),
-        ..head
-    }
-}
-
-/// Whether so many pages, from one of this mapping on, continue it.
-fn continue_it(pages: &[Option<Mapping>], page: u32, length: u32, head: Mapping) -> bool {
-    for i in 0..length {
-        if pages.get(page.wrapping_add(i) as usize) != Some(&Some(after(head, i))) {
-            return false;
-        }
-    }
-    true
-}
-
-/// The largest tile of these sizes that can begin at a page.
-fn tile_from(pages: &[Option<Mapping>], sizes: Sizes, page: u32) -> Option<Tile> {
-    for smaller in 0..4u8 {
-        let size = size(3 - smaller);
-        if sizes.has(size) {
-            let tile = eligible(pages, size, page);
-            if tile.is_some() {
-                return tile;
-            }
-        }
-    }
-    None
-}
-
-/// The tiles of all pages by these sizes by a scan, which skips the pages of a tile that was found.
-fn tiles(
-    alloc: Global,
-    pages: &[Option<Mapping>],
-    sizes: Sizes,
-) -> Result<Vec<Option<Tile>>, NoMemory> {
-    let mut tiles = Vec::new(alloc);
-    for page in 0..PAGES {
-        let tile = tile_after(pages, sizes, &tiles, page);
-        tiles.push(tile)?;
-    }
-    Ok(tiles)
-}
-
-/// The tile of a page after those of the pages before it: where it isn't in the last one, it begins its own.
-fn tile_after(
-    pages: &[Option<Mapping>],
-    sizes: Sizes,
-    tiles: &[Option<Tile>],
-    page: u32,
-) -> Option<Tile> {
-    if let Some(Some(tile)) = tiles.last() {
-        if page.wrapping_sub(tile.extent.first) < tile.extent.size.pages() {
-            return Some(*tile);
-        }
-    }
-    tile_from(pages, sizes, page)
-}
-
-/// The tile of a page, in a list of the tiles of all pages.
-fn tile_at(tiles: &[Option<Tile>], page: u32) -> Option<Tile> {
-    *tiles.get(page as usize)?
-}
-
-/// The level of a tile, and 0 for none.
-fn level(tile: Option<Tile>) -> u8 {
-    match tile {
-        Some(tile) => tile.extent.size.level(),
-        None => 0,
-    }
-}
-
-/// Whether a page is the first one of its tile.
-fn begins(tile: Option<Tile>, page: u32) -> bool {
-    match tile {
-        Some(tile) => tile.extent.first == page,
-        None => false,
-    }
-}
-
-/// Whether a tile of the second list begins at a page, and it lay in no tile of the first one.
-fn comes_at(before: &[Option<Tile>], after: &[Option<Tile>], page: u32) -> bool {
-    match tile_at(after, page) {
-        Some(tile) => tile.extent.first == page
-            && level(tile_at(before, page)) < tile.extent.size.level(),
-        None => false,
-    }
-}
-
-/// How many tiles of the second list lay in no tile of the first one.
-fn came(before: &[Option<Tile>], after: &[Option<Tile>]) -> u32 {
-    let mut count = 0u32;
-    for page in 0..PAGES {
-        if comes_at(before, after, page) {
-            count = count.wrapping_add(1);
-        }
-    }
-    count
-}
-
-impl Beside {
-    pub(super) fn create(alloc: Global, sizes: Sizes) -> Result<Beside, NoMemory> {
-        Ok(Beside {
-            sizes,
-            base: Base::create(alloc, FRAMES)?,
-            pages: vec![in alloc; None; PAGES as usize]?,
-        })
+impl Pages {
+    fn create(rt: &impl Abort, alloc: Global) -> Pages {
+        let base = Base::create(alloc, FRAMES).expect(rt, NO_MEMORY);
+        Pages { base }
     }
 
-    /// Fills a page that has no frame with one that no page has.
-    pub(super) fn fill(&mut self, page: u32, mapping: Mapping) -> Told {
+    /// A page that isn't resident gets a frame that no page has.
+    fn fill(&mut self, page: u32, mapping: Mapping) -> Option<Changes> {
         if page >= PAGES || mapping.frame >= FRAMES || self.base.mapping(page).is_some() {
-            return Told::Nothing;
+            return None;
         }
         if !is_free(&self.base, mapping.frame) {
-            return Told::Nothing;
+            return None;
         }
-        if let Some(at) = self.pages.get_mut(page as usize) {
-            *at = Some(mapping);
-        }
-        Told::OfPage(after_fill::<Brand>(&mut self.base, page, mapping, Blank::new(1)))
+        Some(after_fill::<Brand>(&mut self.base, page, mapping, Blank::new(1)))
     }
 
-    fn remove(&mut self, page: u32) -> Told {
-        if let Some(at) = self.pages.get_mut(page as usize) {
-            *at = None;
-        }
-        Told::OfPage(after_remove::<Brand>(&mut self.base, page, Blank::new(1)))
+    fn remove(&mut self, page: u32) -> Changes {
+        after_remove::<Brand>(&mut self.base, page, Blank::new(1))
     }
 
-    fn set_dirty(&mut self, page: u32, dirty: bool) -> Told {
-        if let Some(Some(mapping)) = self.pages.get_mut(page as usize) {
-            mapping.dirty = dirty;
-        }
-        Told::OfPage(after_dirty::<Brand>(&mut self.base, page, dirty, Blank::new(1)))
+    fn set_dirty(&mut self, page: u32, dirty: bool) -> Changes {
+        after_dirty::<Brand>(&mut self.base, page, dirty, Blank::new(1))
     }
 
-    fn protect(&mut self, first: u32, length: u32, rights: Rights) -> Told {
+    /// Gives the pages of a range rights.
+    fn protect(&mut self, first: u32, length: u32, word: &str, sizes: Sizes) -> Option<Moves> {
         if first > PAGES || length > PAGES {
-            return Told::Nothing;
+            return None;
         }
-        for page in first..first + length {
-            if let Some(Some(mapping)) = self.pages.get_mut(page as usize) {
-                mapping.rights = rights;
-            }
-        }
-        Told::OfRange(self.base.after_rights(first, length, rights, self.sizes))
+        let rights = rights_of(word)?;
+        Some(self.base.after_rights(first, length, rights, sizes))
     }
 
-    /// Sets rights in a block of 64 pages and behind it.
-    fn protect_round(&mut self, page: u32, is_read: bool) -> Told {
-        let rights = if is_read { Rights::Read } else { Rights::Write };
-        self.protect(page / 64 * 64, 640, rights)
+    /// Fills the pages from one to before another. The promotions and demotions.
+    fn fill_all(&mut self, first: u32, end: u32, kind: u32, sizes: Sizes) -> Option<(u32, u32)> {
+        let (mut promotions, mut demotions) = (0u32, 0u32);
+        for page in first..end {
+            let moves = self.fill(page, mapping(page, kind))?.moves(sizes);
+            promotions = promotions.wrapping_add(moves.promotions);
+            demotions = demotions.wrapping_add(moves.demotions);
+        }
+        Some((promotions, demotions))
     }
 
-    /// A drawn change.
-    fn change(&mut self, random: &mut Generator) -> Told {
-        let page = random.draw(PAGES);
-        let is_odd = random.draw(2) == 1;
-        match random.draw(16) {
-            0 => self.remove(page),
-            1..=3 => self.set_dirty(page, is_odd),
-            4 => self.protect(page, random.draw(8), Rights::Read),
-            5 => self.protect_round(page, is_odd),
-            6 => self.protect(0, PAGES, Rights::Write),
-            7 => self.fill(page, mapping(page ^ 1)),
-            _ => self.fill(page, mapping(page)),
+    /// Makes the change of one page that a word names.
+    fn change(&mut self, call: &str, page: u32) -> Option<Changes> {
+        match call {
+            "put" => self.fill(page, mapping(page, 0)),
+            "remove" => Some(self.remove(page)),
+            "dirty" => Some(self.set_dirty(page, true)),
+            "clean" => Some(self.set_dirty(page, false)),
+            _ => None,
         }
     }
 
-    /// Whether a page has this tile in the base, which tells of one that begins at the page that it is a tile.
-    fn has(&self, page: u32, tile: Option<Tile>) -> bool {
-        if self.base.tile_of(page, self.sizes) != tile {
+    /// Whether the page's own tile, where it has one, is among the tiles that came, if some did.
+    fn has_own(&self, page: u32, changes: &Changes) -> bool {
+        let came = changes.came();
+        match self.base.tile_of(page, Sizes::all()) {
+            Some(tile) => came.is_empty() || (came.has(&tile) && came.has_page(page)),
+            None => !came.has_page(page),
+        }
+    }
+
+    /// How many tiles larger than a page have one of these pages.
+    fn meeting(&self, first: u32, length: u32, sizes: Sizes) -> Option<u32> {
+        if first > PAGES || length > PAGES {
+            return None;
+        }
+        Some(self.base.tiles_meeting(first, length, sizes))
+    }
+
+    /// The level, the first page and the first frame of a page's tile.
+    fn tile(&self, page: u32, sizes: Sizes) -> Option<(u32, u32, u32)> {
+        let tile = self.base.tile_of(page, sizes)?;
+        let level = u32::from(tile.extent.size.level());
+        Some((level, tile.extent.first, tile.frame))
+    }
+
+    /// Makes the change of a page that a row names. Whether what is told of it is as the row says.
+    fn changes(&mut self, row: &str, sizes: Sizes) -> bool {
+        let [call, page, promotions, demotions, first, length, gone, came] = words(row);
+        let page = count(page);
+        let Some(changes) = self.change(call, page) else {
             return false;
-        }
-        match tile {
-            Some(tile) if tile.extent.first == page => self.base.is_tile(&tile, self.sizes),
-            _ => true,
-        }
+        };
+        changes.moves(sizes) == moves(promotions, demotions, first, length)
+            && are_tiles(&changes, count(gone), count(came))
+            && self.has_own(page, &changes)
     }
 
-    /// Whether the base and the list have the same tiles.
-    fn is_alike(&self, tiles: &[Option<Tile>]) -> bool {
-        for page in 0..PAGES {
-            if !self.has(page, tile_at(tiles, page)) {
-                return false;
+    /// Makes the call of a row. Whether it goes as the row says.
+    fn goes(&mut self, row: &str, sizes: Sizes) -> bool {
+        let [call, one, two, three, four, five, six, _] = words(row);
+        let (first, second, third, fourth) = (count(one), count(two), count(three), count(four));
+        match call {
+            "fill" => {
+                let wanted = Some((fourth, count(five)));
+                self.fill_all(first, second, third, sizes) == wanted
             }
-        }
-        true
-    }
-}
-
-/// How many tiles there are of each size.
-fn counts(tiles: &[Option<Tile>]) -> [u32; 4] {
-    [
-        count_of(tiles, 0),
-        count_of(tiles, 1),
-        count_of(tiles, 2),
-        count_of(tiles, 3),
-    ]
-}
-
-/// Whether a tile of a level begins at a page.
-fn is_of(tiles: &[Option<Tile>], page: u32, of: u8) -> bool {
-    match tile_at(tiles, page) {
-        Some(tile) => tile.extent.first == page && tile.extent.size.level() == of,
-        None => false,
-    }
-}
-
-/// How many tiles there are of a level.
-fn count_of(tiles: &[Option<Tile>], of: u8) -> u32 {
-    let mut count = 0u32;
-    for page in 0..PAGES {
-        if is_of(tiles, page, of) {
-            count = count.wrapping_add(1);
-        }
-    }
-    count
-}
-
-/// Whether a tile above size 0 begins at a page, and has one from the first on.
-fn reaches(tiles: &[Option<Tile>], page: u32, first: u32) -> bool {
-    match tile_at(tiles, page) {
-        Some(tile) => tile.extent.first == page
-            && tile.extent.size.level() > 0
-            && page.wrapping_add(tile.extent.size.pages()) > first,
-        None => false,
-    }
-}
-
-/// How many tiles above size 0 have a page from the first on and before the end.
-fn large_meeting(tiles: &[Option<Tile>], first: u32, end: u32) -> u32 {
-    let mut count = 0u32;
-    for page in 0..end {
-        if reaches(tiles, page, first) {
-            count = count.wrapping_add(1);
-        }
-    }
-    count
-}
-
-/// The mapping of a page in the frame of its number, after the first 512 pages in those from 1,024 on.
-pub(super) fn mapping(page: u32) -> Mapping {
-    Mapping {
-        frame: if page < 512 { 1024 + page } else { page - 512 },
-        region: if page < 900 { 0 } else { 900 },
-        rights: Rights::Write,
-        dirty: false,
-    }
-}
-
-/// The base with all pages filled, to be compared by these sizes.
-fn filled(alloc: Global, sizes: Sizes) -> Result<Beside, NoMemory> {
-    let mut both = Beside::create(alloc, sizes)?;
-    for page in 0..PAGES {
-        both.fill(page, mapping(page));
-    }
-    Ok(both)
-}
-
-/// Whether this is what became of the first tiles by these sizes, where there are the second ones then. The tiles that a change of a page lists are
-/// those of all sizes.
-fn is_told(told: &Told, sizes: Sizes, before: &[Option<Tile>], after: &[Option<Tile>]) -> bool {
-    match told {
-        Told::Nothing => true,
-        Told::OfRange(moves) => are_moves(moves, before, after),
-        Told::OfPage(changes) => {
-            are_moves(&changes.moves(sizes), before, after)
-                && (sizes != Sizes::all() || are_listed(changes, before, after))
-        }
-    }
-}
-
-/// Whether a change lists the tiles that went and those that came.
-fn are_listed(changes: &Changes, before: &[Option<Tile>], after: &[Option<Tile>]) -> bool {
-    are_new(&changes.gone(), after, before) && are_new(&changes.came(), before, after)
-}
-
-/// Whether these are the moves from the first tiles to the second, and each tile that begins outside of what they touched is one still.
-fn are_moves(moves: &Moves, before: &[Option<Tile>], after: &[Option<Tile>]) -> bool {
-    moves.promotions == came(before, after)
-        && moves.demotions == came(after, before)
-        && keeps_outside(moves, before, after)
-}
-
-/// Whether each tile that begins outside of what was touched is a tile still.
-fn keeps_outside(moves: &Moves, before: &[Option<Tile>], after: &[Option<Tile>]) -> bool {
-    for page in 0..PAGES {
-        if let Some(tile) = other_at(before, after, page) {
-            if !begins_in(moves.touched, &tile) {
-                return false;
+            "read" | "write" => {
+                let wanted = Some(moves(three, four, five, six));
+                self.protect(first, second, call, sizes) == wanted
             }
+            "counts" => self.base.counts(sizes) == [first, second, third, fourth],
+            "meet" => self.meeting(first, second, sizes) == Some(third),
+            "tile" => self.tile(first, sizes) == tile_of(two, third, fourth),
+            _ => self.changes(row, sizes),
         }
     }
-    true
 }
 
-/// The tile that a page has in the first list, where it has another in the second, or none.
-fn other_at(first: &[Option<Tile>], second: &[Option<Tile>], page: u32) -> Option<Tile> {
-    let tile = tile_at(first, page);
-    if tile == tile_at(second, page) {
-        return None;
-    }
-    tile
+/// The level, the first page and the first frame of a tile, and none for a dash.
+fn tile_of(level: &str, first: u32, frame: u32) -> Option<(u32, u32, u32)> {
+    Some((number(level)?, first, frame))
 }
 
-/// Whether the list has each of the second tiles that is none of the first, once, and no other, and so their pages.
-fn are_new(list: &TileList, before: &[Option<Tile>], after: &[Option<Tile>]) -> bool {
-    list.len() == count_new(before, after)
-        && has_new(list, before, after)
-        && has_pages(list, before, after)
-}
-
-/// Whether the list has each of the second tiles that is none of the first.
-fn has_new(list: &TileList, before: &[Option<Tile>], after: &[Option<Tile>]) -> bool {
-    for page in 0..PAGES {
-        if let Some(tile) = other_at(after, before, page) {
-            if tile.extent.first == page && !list.has(&tile) {
-                return false;
-            }
-        }
-    }
-    true
-}
-
-/// Whether the pages of the list's tiles are those whose second tile is another one than the first.
-fn has_pages(list: &TileList, before: &[Option<Tile>], after: &[Option<Tile>]) -> bool {
-    for page in 0..PAGES {
-        if list.has_page(page) != other_at(after, before, page).is_some() {
-            return false;
-        }
-    }
-    true
-}
-
-/// How many of the second tiles are none of the first.
-fn count_new(before: &[Option<Tile>], after: &[Option<Tile>]) -> usize {
-    let mut count = 0usize;
-    for page in 0..PAGES {
-        if begins(other_at(after, before, page), page) {
-            count = count.wrapping_add(1);
-        }
-    }
-    count
-}
-
-/// Whether a tile begins in a range.
-fn begins_in(range: PageRange, tile: &Tile) -> bool {
-    tile.extent.first.wrapping_sub(range.first) < range.length
-}
-
-/// Makes a drawn change. Answers whether the tiles after it, which take the place of those before it, and what was told of it are those of a scan.
-fn goes_alike(
-    both: &mut Beside,
-    alloc: Global,
-    random: &mut Generator,
-    before: &mut Vec<Option<Tile>>,
-) -> Result<bool, NoMemory> {
-    let told = both.change(random);
-    let after = tiles(alloc, &both.pages, both.sizes)?;
-    let is_alike = both.is_alike(&after) && is_told(&told, both.sizes, before, &after);
-    *before = after;
-    Ok(is_alike)
-}
-
-/// Whether the base has as many tiles as a scan finds, of each size and below page 900.
-fn counts_alike(both: &Beside, alloc: Global) -> Result<bool, NoMemory> {
-    let tiles = tiles(alloc, &both.pages, both.sizes)?;
-    let large = both.base.tiles_meeting(100, 600, both.sizes);
-    let counted = both.base.counts(both.sizes) == counts(&tiles);
-    Ok(counted && large == large_meeting(&tiles, 100, 700))
-}
-
-/// Whether the base has the tiles that a scan finds.
-fn has_tiles(both: &Beside, alloc: Global) -> Result<bool, NoMemory> {
-    Ok(both.is_alike(&tiles(alloc, &both.pages, both.sizes)?))
-}
-
-/// Makes so many drawn changes, and asserts that the tiles and what was told are those of a scan.
-fn go_alike(rt: &impl Abort, alloc: Global, both: &mut Beside, changes: u32) {
-    let mut random = Generator::of(7);
-    let mut tiles = tiles(alloc, &both.pages, both.sizes).expect(rt, NO_MEMORY);
-    for change in 0..changes {
-        let alike = goes_alike(both, alloc, &mut random, &mut tiles);
-        assert!(rt; alike.expect(rt, NO_MEMORY), "change {change}");
+/// The moves that four words tell.
+fn moves(promotions: &str, demotions: &str, first: &str, length: &str) -> Moves {
+    Moves {
+        promotions: count(promotions),
+        demotions: count(demotions),
+        touched: PageRange {
+            first: count(first),
+            length: count(length),
+        },
     }
 }
 
-/// Compares so many drawn changes of pages that are all filled at first, by these sizes.
-fn compare(rt: &impl Abort, alloc: Global, sizes: Sizes, changes: u32) {
-    let mut both = filled(alloc, sizes).expect(rt, NO_MEMORY);
-    assert!(rt; has_tiles(&both, alloc).expect(rt, NO_MEMORY));
-    go_alike(rt, alloc, &mut both, changes);
-    assert!(rt; counts_alike(&both, alloc).expect(rt, NO_MEMORY));
+/// Whether so many tiles went and came.
+fn are_tiles(changes: &Changes, gone: u32, came: u32) -> bool {
+    changes.gone().len() == gone as usize && changes.came().len() == came as usize
+}
+
+/// Asserts that a table's rows go as they say, one after another.
+fn go_all(rt: &impl Abort, alloc: Global, table: &str, sizes: Sizes) {
+    let mut pages = Pages::create(rt, alloc);
+    for row in table.lines() {
+        assert!(rt; pages.goes(row, sizes), "{row}");
+    }
 }
 
 #[test]
-fn drawn_changes_leave_the_tiles_of_a_scan(rt: HostRuntime) {
-    compare(&rt, rt.alloc(), Sizes::all(), CHANGES);
-}
-
-#[test]
-fn drawn_changes_leave_the_tiles_by_each_set_of_sizes(rt: HostRuntime) {
-    for set in 0..7 {
-        let sizes = Sizes::of(set & 1 != 0, set & 2 != 0, set & 4 != 0);
-        compare(&rt, rt.alloc(), sizes, CHANGES / 3);
+fn a_change_makes_and_breaks_tiles(rt: HostRuntime) {
+    for (table, sizes) in [
+        (BY_ALL, Sizes::all()),
+        (BY_FIRST_AND_LAST, Sizes::of(false, false, true)),
+        (BY_MIDDLE, Sizes::of(false, true, false)),
+        (WITHOUT_MIDDLE, Sizes::of(true, false, true)),
+        (BY_BASE_PAGES, Sizes::of(false, false, false)),
+    ] {
+        go_all(&rt, rt.alloc(), table, sizes);
     }
-}
-
-/// The moves that were told of a change.
-fn moves_of(told: &Told) -> Moves {
-    match told {
-        Told::Nothing => NO_MOVES,
-        Told::OfPage(changes) => changes.moves(Sizes::all()),
-        Told::OfRange(moves) => *moves,
-    }
-}
-
-/// The promotions and demotions of a fill.
-fn moves_of_fill(both: &mut Beside, page: u32) -> (u32, u32) {
-    let moves = moves_of(&both.fill(page, mapping(page)));
-    (moves.promotions, moves.demotions)
-}
-
-/// Fills the first 512 pages, one by one.
-fn fill_half(rt: &impl Abort, both: &mut Beside) {
-    for page in 0..512 {
-        let promotions = u32::from(page % 8 == 7);
-        assert!(rt; moves_of_fill(both, page) == (promotions, 0), "{page}");
-    }
-}
-
-/// The base with the first 512 pages filled, to be compared by all sizes.
-fn half_filled(rt: &impl Abort, alloc: Global) -> Beside {
-    let mut both = Beside::create(alloc, Sizes::all()).expect(rt, NO_MEMORY);
-    fill_half(rt, &mut both);
-    both
-}
-
-/// How many tiles there are of each size before a page is dirty and then, and the demotions between.
-fn make_dirty(both: &mut Beside) -> ([u32; 4], u32, [u32; 4]) {
-    let before = both.base.counts(Sizes::all());
-    let demotions = moves_of(&both.set_dirty(100, true)).demotions;
-    (before, demotions, both.base.counts(Sizes::all()))
-}
-
-/// How many tiles above size 0 have one of these pages: all 512, eight, one and none.
-fn meeting(base: &Base) -> [u32; 4] {
-    [
-        base.tiles_meeting(0, 512, Sizes::all()),
-        base.tiles_meeting(60, 8, Sizes::all()),
-        base.tiles_meeting(300, 1, Sizes::all()),
-        base.tiles_meeting(300, 0, Sizes::all()),
-    ]
-}
-
-/// The demotions where some pages can only be read, and the promotions where all can, none of which is dirty.
-fn make_read_only(both: &mut Beside) -> (u32, u32) {
-    let demotions = moves_of(&both.protect(64, 192, Rights::Read)).demotions;
-    both.set_dirty(100, false);
-    (
-        demotions,
-        moves_of(&both.protect(0, 512, Rights::Read)).promotions,
-    )
-}
-
-#[test]
-fn a_change_touches_the_larger_of_its_tiles(rt: HostRuntime) {
-    let mut both = half_filled(&rt, rt.alloc());
-    assert!(rt; touched_by_one(&mut both) == [(0, 0), (600, 1), (0, 512), (101, 1), (64, 8)]);
-    assert!(rt; touched_by_rights(&mut both) == [(0, 0), (0, 0), (0, 512)]);
-}
-
-/// The range that each of some changes of one page touches: a page comes and joins no other, which touches none; it goes again; a flag changes in a
-/// tile of 512 pages, and then in one of one page; and a page of a tile of eight goes.
-fn touched_by_one(both: &mut Beside) -> [(u32, u32); 5] {
-    [
-        range_of(&both.fill(600, mapping(600))),
-        range_of(&both.remove(600)),
-        range_of(&both.set_dirty(100, true)),
-        range_of(&both.set_dirty(101, true)),
-        range_of(&both.remove(70)),
-    ]
-}
-
-/// The range that each of some changes of rights touches: of no page, to the rights that the pages have, and to others.
-fn touched_by_rights(both: &mut Beside) -> [(u32, u32); 3] {
-    [
-        range_of(&both.protect(8, 0, Rights::Read)),
-        range_of(&both.protect(8, 8, Rights::Write)),
-        range_of(&both.protect(8, 8, Rights::Read)),
-    ]
-}
-
-/// The first page and the length of the range that a change touched.
-fn range_of(told: &Told) -> (u32, u32) {
-    let moves = moves_of(told);
-    match moves.touched.length {
-        0 => (0, 0),
-        length => (moves.touched.first, length),
-    }
-}
-
-/// How many tiles went and came.
-fn tiles_told(told: &Told) -> (usize, usize) {
-    match told {
-        Told::OfPage(changes) => (changes.gone().len(), changes.came().len()),
-        Told::Nothing | Told::OfRange(_) => (0, 0),
-    }
-}
-
-/// The tiles that went and came as a page of a tile of 512 is dirty, is so again, and is clean, and as it goes and comes back.
-fn told_of_one(both: &mut Beside) -> [(usize, usize); 5] {
-    [
-        tiles_told(&both.set_dirty(100, true)),
-        tiles_told(&both.set_dirty(100, true)),
-        tiles_told(&both.set_dirty(100, false)),
-        tiles_told(&both.remove(100)),
-        tiles_told(&both.fill(100, mapping(100))),
-    ]
-}
-
-#[test]
-fn a_large_tile_comes_apart_and_together(rt: HostRuntime) {
-    let mut both = half_filled(&rt, rt.alloc());
-    assert!(rt; told_of_one(&mut both) == [(1, 22), (0, 0), (22, 1), (1, 21), (21, 1)]);
-}
-
-#[test]
-fn the_last_page_of_an_extent_makes_it_a_tile(rt: HostRuntime) {
-    let mut both = half_filled(&rt, rt.alloc());
-    assert!(rt; make_dirty(&mut both) == ([0, 0, 0, 1], 1, [8, 7, 7, 0]));
-    assert!(rt; meeting(&both.base) == [14, 2, 1, 0]);
-    assert!(rt; make_read_only(&mut both) == (0, 1));
 }

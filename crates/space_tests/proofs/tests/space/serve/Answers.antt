@@ -1,24 +1,31 @@
 use Rattle.std.proofs.Common.{◌≡◌, ℕ, length, sym, ap, ◌∙◌, arith, inl, inr}
 use Rattle.std.proofs.lemmas.Bool.{cases_eq}
 use Rattle.std.proofs.lemmas.Option.{none-some, same_Some}
-use Rattle.space_core.specs.Standing.{Kept, StandsFor, frame_at}
+use Rattle.space_core.specs.Standing.{Kept, StandsFor, frame_at, is_allowed}
 use Rattle.pager_model.proofs.SpaceEntries.{base-unnamed}
-use Rattle.space_tests.proofs.SpareFrames.{popped, rest_spare, still_spare, kept_others}
+use Rattle.space_tests.proofs.SpareFrames.{allowed_same, kept_others, popped, rest_spare, still_spare}
 use Rattle.space_tests.proofs.tests.space.serve.Goals as goal
 
 pub place-requires-clause-known : goal.place-requires-clause-known
-place-requires-clause-known c κs =
+place-requires-clause-known g c κs =
     let last = popped _ _ _ c.requires.spare.lowest c.in-Some.ensures.items in
     omega (arith, last, c.requires.spare.few, ap (λ (k : Kept). k.frames) c.in-NeedsFrame.ensures.same)
 
 pub place-requires-clause-other : goal.place-requires-clause-other
-place-requires-clause-other c κs p has =
+place-requires-clause-other g c κs p has =
     let last = popped _ _ _ c.requires.spare.lowest c.in-Some.ensures.items in
     let was = ap (λ (k : Kept). frame_at k p) (sym c.in-NeedsFrame.ensures.same) ∙ has in
     omega (arith, last, c.requires.spare.apart p _ was)
 
+pub finish-requires-clause-allowed : goal.finish-requires-clause-allowed
+finish-requires-clause-allowed g c κs =
+    let call = c.args.call.now in
+    allowed_same c.place.new.self c.read_in.new.self call c.in-Ok.ensures.read.same.same
+    ∙ allowed_same c.begin.new.self c.place.new.self call c.place.ensures.same ∙ ap (λ (k : Kept). is_allowed k call) c.in-NeedsFrame.ensures.same
+    ∙ c.in-NeedsFrame.ensures.needs.allowed
+
 pub returns-in-Answered-clause-spare : goal.returns-in-Answered-clause-spare
-returns-in-Answered-clause-spare c =
+returns-in-Answered-clause-spare g c =
     let spare = c.requires.spare in
     let answered = c.in-Answered.ensures in
     let stands = answered.answers.stands spare.state spare.stands 0 in
@@ -26,7 +33,7 @@ returns-in-Answered-clause-spare c =
     (λ p number has. sym (spare.stands.base p) ∙ sym (base-unnamed spare.state.base c.args.call.now p) ∙ stands.base p ∙ has) spare
 
 pub returns-in-Ok-clause-spare : goal.returns-in-Ok-clause-spare
-returns-in-Ok-clause-spare c =
+returns-in-Ok-clause-spare g c =
     let spare = c.requires.spare in
     let last = popped _ _ _ spare.lowest c.in-Some.ensures.items in
     let begun = c.in-NeedsFrame.ensures.same in
@@ -69,7 +76,7 @@ returns-in-Ok-clause-spare c =
     }
 
 pub returns-in-Err-clause-spare : goal.returns-in-Err-clause-spare
-returns-in-Err-clause-spare c =
+returns-in-Err-clause-spare g c =
     let spare = c.requires.spare in
     let last = popped _ _ _ spare.lowest c.in-Some.ensures.items in
     let begun = c.in-NeedsFrame.ensures.same in
@@ -88,7 +95,7 @@ returns-in-Err-clause-spare c =
     (rest_spare _ _ _ _ last spare)
 
 pub returns-in-NeedsEvict-clause-spare : goal.returns-in-NeedsEvict-clause-spare
-returns-in-NeedsEvict-clause-spare c =
+returns-in-NeedsEvict-clause-spare g c =
     let spare = c.requires.spare in
     let begun = c.in-NeedsEvict.ensures in
     let evicted = c.evict-frame.ensures in
@@ -96,3 +103,10 @@ returns-in-NeedsEvict-clause-spare c =
     (evicted.gave.same.frames ∙ begun.same.same.frames) (evicted.gave.same.processors ∙ begun.same.same.processors)
     (λ p number has. sym (begun.same.frame p) ∙ kept_others _ _ _ _ evicted.gave p number has)
     spare
+
+pub returns-in-Failed-clause-spare : goal.returns-in-Failed-clause-spare
+returns-in-Failed-clause-spare g c =
+    let spare = c.requires.spare in
+    let fails = c.in-Failed.ensures.fails in
+    still_spare _ _ _ _ fails.resting (fails.stands spare.state spare.stands 0) fails.same.same.frames fails.same.same.processors
+    (λ p number has. sym (fails.same.frame p) ∙ has) spare

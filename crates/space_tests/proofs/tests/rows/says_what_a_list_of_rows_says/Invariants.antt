@@ -1,4 +1,0 @@
-use Rattle.space_tests.proofs.tests.rows.says_what_a_list_of_rows_says.Given as goal
-
-abbrev pub ghosts-goes_through : goal.ghosts-goes_through
-ghosts-goes_through g a = record { name = a.blank.name; parts = a.blank.parts }

@@ -1,4 +1,0 @@
-use Rattle.space_tests.proofs.tests.tiling.Beside.remove.Given as goal
-
-abbrev pub ghosts-after_remove : goal.ghosts-after_remove
-ghosts-after_remove a = record { name = a.blank.name; parts = a.blank.parts }
