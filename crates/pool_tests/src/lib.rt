@@ -1,4 +1,4 @@
-//! Tests of the types, of the parts of the pool of frames and of the pool, and of the table of regions, by their public calls.
+//! Tests of the types, of the parts of the pool of frames and of the pool, by their public calls.
 #![tactic(auto)]
 
 #[cfg(test)]

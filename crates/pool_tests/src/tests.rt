@@ -1,4 +1,4 @@
-//! Each crate's tests in a module: worked rows, and drawn calls beside a slow plain copy.
+//! Each crate's tests in a module, in worked rows.
 ghost use Rattle.std.specs.Prelude.{◌≡◌, min};
 
 mod blocks;
@@ -7,11 +7,9 @@ mod numbers;
 mod pool;
 mod populations;
 mod preferences;
-mod regions;
 mod reserved;
 mod rooms;
 mod types;
-mod victims;
 
 use pager_model::Size;
 use std::str::SplitWhitespace;

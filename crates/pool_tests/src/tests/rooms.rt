@@ -4,34 +4,21 @@ use pager_model::Generator;
 use std::process::Abort;
 use word_rooms::{Room, rooms};
 
-/// How many rooms are taken away in a drawn order: those of two blocks, and two more.
-const DRAWN: u32 = 130;
+/// How many rooms are made, and the sum of the numbers below: of none, of one, of a block, and of more, up to two blocks and two more.
+const SUMS: [(usize, u64); 5] = [(0, 0), (1, 0), (64, 2016), (65, 2080), (130, 8385)];
 
-/// Of none, of one, of a block, and of more.
-const COUNTS: [usize; 5] = [0, 1, 64, 65, 130];
-
-#[test]
-fn rooms_begin_empty(rt: HostRuntime) {
-    for count in COUNTS {
-        let rooms = rooms(rt.alloc(), count).expect(&rt, NO_MEMORY);
-        let empty = are_empty(rooms.as_slice());
-        assert!(rt; rooms.len() == count && empty, "{count} rooms");
-    }
-}
-
-fn are_empty(rooms: &[Room]) -> bool {
-    for room in rooms {
-        if !room.is_empty() {
-            return false;
-        }
-    }
-    true
-}
-
-/// Fills a room, and writes this word at each place.
-fn write(room: &mut Room, word: u64) {
+/// Writes other words to a room, takes them away, and writes this word at each place. Answers whether the room had no words first and when
+/// they were taken away, and zeros when it was filled.
+fn write(room: &mut Room, word: u64) -> bool {
+    let was_empty = room.is_empty() && room.as_slice().is_empty();
     room.fill_zeros();
+    room.as_mut_slice().fill(!word);
+    room.clear();
+    let is_empty = room.is_empty();
+    room.fill_zeros();
+    let is_zero = word_of(room) == Some(0);
     room.as_mut_slice().fill(word);
+    was_empty && is_empty && is_zero
 }
 
 /// The word that a room has 1,024 times. None if it has other words.
@@ -44,35 +31,13 @@ fn word_of(room: &Room) -> Option<u64> {
     Some(word)
 }
 
-/// Whether a room that is written is empty when it was cleared, and zero when it is filled again.
-fn starts_anew(room: &mut Room) -> bool {
-    write(room, 9);
-    room.clear();
-    let cleared = (room.is_empty(), room.as_slice().len());
-    room.fill_zeros();
-    (cleared, room.is_empty(), word_of(room)) == ((true, 0), false, Some(0))
-}
-
-#[test]
-fn rooms_are_filled_and_cleared(rt: HostRuntime) {
-    let mut rooms = rooms(rt.alloc(), 2).expect(&rt, NO_MEMORY);
-    for room in rooms.iter_mut() {
-        assert!(rt; starts_anew(room));
-    }
-}
-
-/// Takes the room at a place away, or the last one where there is none at the place.
-fn take(rooms: &mut Vec<Room>, place: usize) -> Option<Room> {
-    if place < rooms.len() {
-        Some(rooms.swap_remove(place))
-    } else {
-        rooms.pop()
-    }
-}
-
-/// The word of a room that is taken away. None if it has other words than were written.
+/// Takes the room at a place away, or the last one where there is none at the place, and tells its word.
 fn take_word(rooms: &mut Vec<Room>, place: usize) -> Option<u64> {
-    let room = take(rooms, place)?;
+    let room = if place < rooms.len() {
+        rooms.swap_remove(place)
+    } else {
+        rooms.pop()?
+    };
     word_of(&room)
 }
 
@@ -81,17 +46,26 @@ fn take_all(rooms: &mut Vec<Room>) -> Option<u64> {
     let mut random = Generator::of(3);
     let mut sum = 0u64;
     for _ in 0..rooms.len() {
-        let place = random.draw(DRAWN) as usize;
+        let place = random.draw(130) as usize;
         sum = sum.wrapping_add(take_word(rooms, place)?);
     }
     Some(sum)
 }
 
-#[test]
-fn rooms_go_in_any_order(rt: HostRuntime) {
-    let mut rooms = rooms(rt.alloc(), DRAWN as usize).expect(&rt, NO_MEMORY);
-    for (room, word) in rooms.iter_mut().zip(0..) {
-        write(room, word);
+/// Whether so many rooms each keep their number until they are taken away.
+fn keep_numbers(rooms: &mut Vec<Room>, sum: u64) -> bool {
+    for (room, number) in rooms.iter_mut().zip(0..) {
+        if !write(room, number) {
+            return false;
+        }
     }
-    assert!(rt; take_all(&mut rooms) == Some(8385));
+    take_all(rooms) == Some(sum) && rooms.is_empty()
+}
+
+#[test]
+fn rooms_keep_their_words_and_go_in_any_order(rt: HostRuntime) {
+    for (count, sum) in SUMS {
+        let mut rooms = rooms(rt.alloc(), count).expect(&rt, NO_MEMORY);
+        assert!(rt; rooms.len() == count && keep_numbers(&mut rooms, sum));
+    }
 }
