@@ -164,7 +164,8 @@ judge drawn-with-ample-frames --seeds 1..40 --forms order,turns
 judge drawn-with-few-frames --seeds 251..290 --forms order,turns
 judge drawn-by-page-sizes --seeds 501..506 --sizes all
 judge drawn-short-of-frames --seeds 1..4 --short
-judge drawn-curves --seeds 1..8 --forms curve
+judge drawn-curves --seeds 1..6 --forms curve
+judge drawn-curves-by-sizes --seeds 1..2 --forms curve --sizes 02,0123
 judge drawn-plans --seeds 251..256 --forms plan1,plan2,plan3
 judge drawn-over-slots --seeds 251..256 --forms order,turns --swap 8
 
