@@ -1,14 +1,14 @@
 #!/bin/sh
 # Runs the built program on every example, and on words, inputs and outputs that it must not take, and compares its output, status
-# and message with what stands here. Then it does the same with tools/from-lackey, tools/compare and tools/explain, which need Python,
-# and ends with the runs of check-folders.sh.
+# and message with what stands here. Then it does the same with tools/from-lackey, tools/compare and tools/explain, which need Python, and makes
+# runs beside tools/judge. It ends with the texts of check_grammar.py and the runs of check-folders.sh.
 #
 #     examples/check.sh [PROGRAM]
 #
 # Each NAME.trace is run with the word `order`, ends with status 0, says nothing and prints NAME.text, unless a line of `cases` has
 # it as a run of the same name; that file has the other runs too. To add an example, add its two files; to add another run, add a
 # line to `cases`, or where it is one of tools/from-lackey to `conversions`, of tools/compare to `comparisons`, of tools/explain to
-# `explanations`.
+# `explanations`. To add a text that is refused, or just not, add a line to `grammar`.
 #
 # PROGRAM is crates/superpager/out/superpager where it isn't given. `rt ci` at the top leaves it there, built of what it proved, also
 # where nothing was kept from an earlier run, and then these runs take half a minute. Where it isn't there no run is made.
@@ -100,6 +100,29 @@ explain() {
     return "$status_of_run"
 }
 
+# Makes a run by these words with its history, over so many slots where a number is given, and compares it with that of tools/judge. The text
+# is long, and stands nowhere.
+judge() {
+    name=$1
+    trace=$2
+    slots=$3
+    shift 3
+    run "$trace" told ../tools/judge "$@" --history ${slots:+--swap "$slots"} "$trace"
+    mv "$made/output" "$made/judged"
+    run "$trace" told "$program" ${slots:+--swap "$slots"} "$@" --history
+    compare "$name" $? 0 '' "$made/judged"
+}
+
+# Counts with the others what a script tried, which ended its output by `N passed, M failed`. One more has failed where it didn't.
+count() {
+    sed '$d' "$made/tried"
+    read -r tried _ not_so _ <<END
+$(tail -n 1 "$made/tried")
+END
+    passed=$((passed + ${tried:-0}))
+    failed=$((failed + ${not_so:-1}))
+}
+
 # The lines of a table of runs.
 lines_of() {
     sed -e '/^#/d' -e '/^$/d' -e 's/ *| */|/g' "$1"
@@ -150,7 +173,7 @@ compare compared-in-use $? 0 '' compared-in-use.table
 runs_of explanations none explain ../tools/explain
 
 # Runs the program beside the slow checker on drawn traces, as docs/comparison.md says. What that prints is shown only where a run differs.
-judge() {
+compare_drawn() {
     name=$1
     shift
     run /dev/null told ../tools/judge compare "$@" --program "$program"
@@ -160,23 +183,26 @@ judge() {
     compare "$name" "$status" 0 '' ''
 }
 
-judge drawn-with-ample-frames --seeds 1..40 --forms order,turns
-judge drawn-with-few-frames --seeds 251..290 --forms order,turns
-judge drawn-by-page-sizes --seeds 501..506 --sizes all
-judge drawn-short-of-frames --seeds 1..4 --short
-judge drawn-curves --seeds 1..6 --forms curve
-judge drawn-curves-by-sizes --seeds 1..2 --forms curve --sizes 02,0123
-judge drawn-plans --seeds 251..256 --forms plan1,plan2,plan3
-judge drawn-over-slots --seeds 251..256 --forms order,turns --swap 8
+compare_drawn drawn-with-ample-frames --seeds 1..40 --forms order,turns
+compare_drawn drawn-with-few-frames --seeds 251..290 --forms order,turns
+compare_drawn drawn-by-page-sizes --seeds 501..506 --sizes all
+compare_drawn drawn-short-of-frames --seeds 1..4 --short
+compare_drawn drawn-curves --seeds 1..6 --forms curve
+compare_drawn drawn-curves-by-sizes --seeds 1..2 --forms curve --sizes 02,0123
+compare_drawn drawn-plans --seeds 251..256 --forms plan1,plan2,plan3
+compare_drawn drawn-over-slots --seeds 251..256 --forms order,turns --swap 8
 
-# The runs over folders are counted with the others; one more has failed where they can't be made.
-./check-folders.sh "$program" >"$made/folders" 2>&1
-sed '$d' "$made/folders"
-read -r over_folders _ not_so _ <<END
-$(tail -n 1 "$made/folders")
-END
-passed=$((passed + ${over_folders:-0}))
-failed=$((failed + ${not_so:-1}))
+# With the examples these show every kind of entry but a failed read: where all frames are under wired pages; and beside a daemon, where few
+# frames are left, and few slots too.
+judge all-wired wired.trace '' order
+../tools/judge short 18 1 >"$made/short"
+judge short-of-frames "$made/short" '' turns 18
+judge short-of-slots "$made/short" 4 turns 18
+
+./check_grammar.py "$program" >"$made/tried" 2>&1
+count
+./check-folders.sh "$program" >"$made/tried" 2>&1
+count
 
 printf '%s passed, %s failed\n' "$passed" "$failed"
 [ "$failed" = 0 ] && [ "$passed" != 0 ]
