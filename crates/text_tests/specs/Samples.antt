@@ -1,13 +1,11 @@
 -- Entries of a small history, for the tests.
-use Rattle.std.specs.Prelude.{ℕ, ◌≡◌, true, false, length, Some, None, [], ◌∷◌}
+use Rattle.std.specs.Prelude.{ℕ, ◌≡◌, false, length, Some, None, [], ◌∷◌}
 use Rattle.pager_model.specs.SizeSets.{all_sizes}
 use Rattle.pager_model.specs.Settings.{Given}
-use Rattle.pager_model.specs.declared.call.Call.TheVariants.{Load, Map}
+use Rattle.pager_model.specs.declared.call.Call.TheVariants.{Load}
 use Rattle.pager_model.specs.declared.entry.Entry.{Entry}
-use Rattle.pager_model.specs.declared.entry.What.TheVariants.{Answer, Take, Rest}
-use Rattle.pager_model.specs.declared.reply.Reply.TheVariants.{Unmapped, Done}
-use Rattle.pager_model.specs.declared.region.Kind.TheVariants.{Fixed}
-use Rattle.pager_model.specs.declared.region.Rights.TheVariants.{Write}
+use Rattle.pager_model.specs.declared.entry.What.TheVariants.{Answer}
+use Rattle.pager_model.specs.declared.reply.Reply.TheVariants.{Unmapped}
 use Rattle.pager_model.specs.Flat.{empty_space}
 use Rattle.pager_model.specs.Legal.{state_of_space, progress_in, entries_in}
 use Rattle.pager_model.specs.Order.{at_rest}
@@ -27,38 +25,6 @@ unmapped processor number =
 -- two processors that make calls, two spaces whose stores aren't told, and 512 frames
 abbrev pub sample : Given
 sample = record { sizes = all_sizes; frames = 512; marks = 0 ∷ 0 ∷ []; told = false ∷ false ∷ []; faults = 0 ∷ 0 ∷ [] }
-
--- one processor, one space whose store isn't told, and one frame
-abbrev pub small : Given
-small = record { sizes = all_sizes; frames = 1; marks = 0 ∷ []; told = false ∷ []; faults = 0 ∷ [] }
-
--- the answer to the mapping of a space's first page
-abbrev pub mapped : Entry
-mapped =
-    record {
-      processor = 0;
-      space = Some 0;
-      frames = false;
-      what = Answer 0 (Map 0 0 1 Fixed Write) (record { reply = Done; hit = false; size = None });
-    }
-
--- the page gets the only frame
-abbrev pub taking : Entry
-taking =
-    record {
-      processor = 0;
-      space = Some 0;
-      frames = true;
-      what = Take 0 0 (record { low = 0; high = 1; cap = 1; wired = false });
-    }
-
--- a processor that makes calls and a daemon of mark 2, one space whose store isn't told, and eight frames
-abbrev pub watched : Given
-watched = record { sizes = all_sizes; frames = 8; marks = 0 ∷ 2 ∷ []; told = false ∷ []; faults = 0 ∷ [] }
-
--- the daemon finds enough frames free, and rests
-abbrev pub rest : Entry
-rest = record { processor = 1; space = None; frames = true; what = Rest false }
 
 -- the space has no region, and anyone may make its next entry
 pub record IsEmptySpace (st : SpaceState) : Type 0 where

@@ -1,6 +1,5 @@
-//! Each crate's tests in a module: worked rows, and calls beside a slow plain copy.
+//! Each crate's tests in a module.
 
-mod histories;
 mod history;
 mod reader;
 mod rooms;

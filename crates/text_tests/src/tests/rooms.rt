@@ -27,21 +27,16 @@ fn sum_of(rooms: Vec<Room>) -> u64 {
     sum
 }
 
-/// Two threads write and drop rooms of the same blocks.
+/// Two threads write and drop rooms of the same blocks, every second one each.
 fn by_two<R: Threads + Sync + Abort>(rt: &R, alloc: Global, count: usize) -> (u64, u64) {
     let mut first = Vec::new(alloc);
     let mut second = Vec::new(alloc);
-    for (number, room) in rooms(alloc, count)
-        .expect(rt, NO_MEMORY)
-        .into_iter()
-        .enumerate()
-    {
-        let rooms = if number % 2 == 0 {
-            &mut first
+    for room in rooms(alloc, count).expect(rt, NO_MEMORY) {
+        if first.len() == second.len() {
+            first.push(room).expect(rt, NO_MEMORY);
         } else {
-            &mut second
-        };
-        rooms.push(room).expect(rt, NO_MEMORY);
+            second.push(room).expect(rt, NO_MEMORY);
+        }
     }
     join(rt, move || sum_of(first), move || sum_of(second))
 }
@@ -50,9 +45,6 @@ fn by_two<R: Threads + Sync + Abort>(rt: &R, alloc: Global, count: usize) -> (u6
 fn two_threads_have_rooms_of_the_same_blocks(rt: HostRuntime) {
     for count in [2, 64, 130] {
         let sum = 3 * 1024 * (count as u64 / 2);
-        assert!(rt;
-            by_two(&rt, rt.alloc(), count) == (sum, sum),
-            "{count} rooms"
-        );
+        assert!(rt; by_two(&rt, rt.alloc(), count) == (sum, sum));
     }
 }

@@ -1,163 +1,137 @@
-//! A store in memory beside a plain table of copies, a store over slots in rows of calls, and what other stores may answer.
-mod full;
-mod silent;
-mod slots;
-mod table;
+//! A store in memory and one over two slots, in rows of calls of which some fail.
 
 use super::NO_MEMORY;
-use full::Full;
-use pager_model::Generator;
-use silent::Silent;
-use std::alloc::{AllocError, Global};
+use std::alloc::Global;
 use std::process::Abort;
 use store_core::{Copied, MemoryStore, Store, StoreFailed, WriteRefused};
-use table::{PAGES, Table, image};
+use swap_slots::{MemoryBlocks, SlotStore};
 
-/// The words that a read of a page gives.
-fn words_read<S: Store>(store: &mut S, page: u32) -> Result<[u64; 1024], StoreFailed> {
+/// A call: `w` writes an image to a page, `r` reads one from it, `d` drops so many pages from it on, and `t` asks whether the store tells that
+/// all are zero. Then the page; the image's number, which is 0 for zero words; what the call answers; and how many faults the store has then.
+type Row = (char, u32, u32, &'static str, u64);
+
+/// The second read and the second write fail.
+static IN_MEMORY: [Row; 13] = [
+    ('t', 0, 0, "zero", 0),
+    ('r', 5, 0, "ok", 0),
+    ('w', 5, 1, "ok", 0),
+    ('r', 5, 1, "failed", 1),
+    ('r', 5, 1, "ok", 1),
+    ('w', 5, 2, "failed", 2),
+    ('d', 6, 9, "ok", 2),
+    ('t', 0, 0, "others", 2),
+    ('w', 5, 3, "ok", 2),
+    ('r', 5, 3, "ok", 2),
+    ('d', 0, 6, "ok", 2),
+    ('r', 5, 0, "ok", 2),
+    ('t', 0, 0, "zero", 2),
+];
+
+/// The device's second read and its fourth write fail. A page without a slot is not read from it, and a write that finds no slot is not one of
+/// its writes.
+static OVER_SLOTS: [Row; 18] = [
+    ('t', 0, 0, "zero", 0),
+    ('w', 5, 1, "ok", 0),
+    ('w', 9, 2, "ok", 0),
+    ('w', 7, 3, "failed", 1),
+    ('r', 7, 0, "ok", 1),
+    ('r', 5, 1, "ok", 1),
+    ('r', 9, 2, "failed", 2),
+    ('w', 5, 4, "ok", 2),
+    ('w', 5, 5, "failed", 3),
+    ('r', 5, 0, "ok", 3),
+    ('w', 7, 6, "ok", 3),
+    ('r', 7, 6, "ok", 3),
+    ('d', 9, 1, "ok", 3),
+    ('w', 1048575, 7, "ok", 3),
+    ('w', 1048576, 8, "nomemory", 3),
+    ('d', 0, 9, "ok", 3),
+    ('r', 1048575, 7, "ok", 3),
+    ('t', 0, 0, "others", 3),
+];
+
+/// Words that differ from place to place, and from number to number. Those of 0 are zero.
+fn image(number: u32) -> [u64; 1024] {
+    let mut words = [0; 1024];
+    let mut word = u64::from(number);
+    for place in &mut words {
+        *place = word;
+        word = word.wrapping_mul(3);
+    }
+    words
+}
+
+fn wrote<S: Store>(store: &mut S, page: u32, number: u32) -> &'static str {
+    match store.write(page, &image(number)) {
+        Ok(()) => "ok",
+        Err(WriteRefused::Failed) => "failed",
+        Err(WriteRefused::NoMemory) => "nomemory",
+    }
+}
+
+fn read<S: Store>(store: &mut S, page: u32, number: u32) -> &'static str {
     let mut words = [5; 1024];
-    match store.read(page, &mut words)? {
-        Copied::Words => Ok(words),
-        Copied::Zeros => Ok([0; 1024]),
+    match store.read(page, &mut words) {
+        Err(StoreFailed) => "failed",
+        Ok(Copied::Words) if words == image(number) => "ok",
+        Ok(Copied::Zeros) if number == 0 => "ok",
+        Ok(_) => "other words",
     }
 }
 
-/// Whether a read of a page answers as wanted, and gives the words of this image, where they are wanted.
-fn reads_alike<S: Store>(
-    store: &mut S,
-    page: u32,
-    wanted: Result<Option<u64>, StoreFailed>,
-) -> bool {
-    let read = words_read(store, page);
-    match wanted {
-        Ok(Some(seed)) => read == Ok(image(seed)),
-        Ok(None) => read.is_ok(),
-        Err(StoreFailed) => read.is_err(),
-    }
-}
-
-/// Makes a drawn call of a store and of the table, and says whether they answer the same.
-fn goes_alike<S: Store>(
-    store: &mut S,
-    table: &mut Table,
-    random: &mut Generator,
-    call: u32,
-) -> bool {
-    let page = random.draw(PAGES);
-    match random.draw(16) {
-        0..8 => {
-            let seed = u64::from(call) + 1;
-            store.write(page, &image(seed)) == table.write(page, seed)
-        }
-        8..13 => reads_alike(store, page, table.read(page)),
+/// What a call of a row answers.
+fn answer<S: Store>(store: &mut S, row: &Row) -> &'static str {
+    let (call, page, number, _, _) = *row;
+    match call {
+        'w' => wrote(store, page, number),
+        'r' => read(store, page, number),
+        't' if store.told() => "zero",
+        't' => "others",
         _ => {
-            let length = random.draw(4);
-            store.drop_pages(page, length);
-            table.drop_pages(page, length);
-            true
+            store.drop_pages(page, number);
+            "ok"
         }
     }
 }
 
-/// Whether a read of each page answers the same.
-fn all_read_alike<S: Store>(store: &mut S, table: &mut Table) -> bool {
-    for page in 0..PAGES {
-        if !reads_alike(store, page, table.read(page)) {
+/// Whether a store answers each row.
+fn answers_all<S: Store>(store: &mut S, rows: &[Row]) -> bool {
+    for row in rows {
+        if answer(store, row) != row.3 || store.faults() != row.4 {
             return false;
         }
     }
     true
 }
 
-/// The store's faults are the table's, and it tells that all copies are zero exactly where they are.
-fn tells_alike<S: Store>(store: &S, table: &Table) -> bool {
-    store.told() == table.told() && store.faults() == table.faults
-}
-
-/// The reads and the writes that fail.
-static FAILING: ([u64; 6], [u64; 9]) = ([2, 3, 7, 30, 31, 60], [1, 4, 5, 6, 20, 40, 41, 90, 110]);
-
-fn failing_store(alloc: Global) -> Result<MemoryStore, AllocError> {
-    let reads = FAILING.0.to_vec(alloc)?;
-    Ok(MemoryStore::of(alloc, reads, FAILING.1.to_vec(alloc)?))
-}
-
-fn failing_table(alloc: Global) -> Result<Table, AllocError> {
-    let reads = FAILING.0.to_vec(alloc)?;
-    Ok(Table::of(reads, FAILING.1.to_vec(alloc)?))
-}
-
-/// Whether so many drawn calls, and then a read of each page, are answered by the table's rules.
-fn go_alike<S: Store>(rt: &impl Abort, store: &mut S, table: &mut Table, calls: u32) -> bool {
-    let mut random = Generator::of(5);
-    for call in 0..calls {
-        let alike = goes_alike(store, table, &mut random, call) && tells_alike(store, table);
-        assert!(rt; alike, "call {call}");
-    }
-    all_read_alike(store, table)
+/// A store in memory whose second read and second write fail.
+fn in_memory(rt: &impl Abort, alloc: Global) -> MemoryStore {
+    let reads = [2].to_vec(alloc).expect(rt, NO_MEMORY);
+    let writes = [2].to_vec(alloc).expect(rt, NO_MEMORY);
+    MemoryStore::of(alloc, reads, writes)
 }
 
 #[test]
-fn goes_as_a_plain_table_of_copies(rt: HostRuntime) {
-    let mut store = failing_store(rt.alloc()).expect(&rt, NO_MEMORY);
-    let mut table = failing_table(rt.alloc()).expect(&rt, NO_MEMORY);
-    assert!(rt; go_alike(&rt, &mut store, &mut table, 400));
+fn a_store_in_memory_answers_each_row(rt: HostRuntime) {
+    assert!(rt; answers_all(&mut in_memory(&rt, rt.alloc()), &IN_MEMORY));
 }
 
-/// Drops the copy of a page, and says whether the store tells that all are zero then.
-fn told_without<S: Store>(store: &mut S, page: u32) -> bool {
-    store.drop_pages(page, 1);
-    store.told()
+/// A store over two slots of a device whose second read and fourth write fail.
+fn over_slots(rt: &impl Abort, alloc: Global) -> SlotStore<MemoryBlocks> {
+    let reads = [2].to_vec(alloc).expect(rt, NO_MEMORY);
+    let writes = [4].to_vec(alloc).expect(rt, NO_MEMORY);
+    let blocks = MemoryBlocks::create(alloc, 2, reads, writes).expect(rt, NO_MEMORY);
+    SlotStore::create(alloc, blocks).ok().expect(rt, NO_MEMORY)
 }
 
-/// A store in memory whose second and third write fail.
-fn two_fail(rt: &impl Abort, alloc: Global) -> MemoryStore {
-    let writes = [2, 3].to_vec(alloc).expect(rt, NO_MEMORY);
-    MemoryStore::of(alloc, Vec::new(alloc), writes)
-}
-
-/// Writes three images, of which two fail, and says what the writes answer, and the faults then.
-fn write_three<S: Store>(store: &mut S) -> ([Result<(), WriteRefused>; 3], u64) {
-    let writes = [
-        store.write(7, &image(1)),
-        store.write(7, &image(2)),
-        store.write(8, &image(3)),
-    ];
-    (writes, store.faults())
-}
-
-/// Whether a page that a failed write left can be written again.
-fn rewrites<S: Store>(store: &mut S, page: u32) -> bool {
-    store.write(page, &image(4)).is_ok() && reads_alike(store, page, Ok(Some(4)))
+/// Whether it answers each row, the slot of the last page then, and how many slots are free.
+fn answers_over_slots(rt: &impl Abort, alloc: Global) -> (bool, Option<u32>, u32) {
+    let mut store = over_slots(rt, alloc);
+    let alike = answers_all(&mut store, &OVER_SLOTS);
+    (alike, store.slot_of(1048575), store.free_slots())
 }
 
 #[test]
-fn a_failed_write_keeps_its_page_with_an_unknown_copy(rt: HostRuntime) {
-    let mut store = two_fail(&rt, rt.alloc());
-    let failed = Err(WriteRefused::Failed);
-    assert!(rt; store.told() && write_three(&mut store) == ([Ok(()), failed, failed], 2));
-    assert!(rt; !told_without(&mut store, 7) && told_without(&mut store, 8));
-    assert!(rt; rewrites(&mut store, 8));
-}
-
-#[test]
-fn a_store_may_find_no_memory(rt: HostRuntime) {
-    let mut store = Full::new();
-    assert!(rt; store.write(3, &image(1)) == Err(WriteRefused::NoMemory));
-    assert!(rt; reads_alike(&mut store, 3, Ok(Some(0))) && told_without(&mut store, 0));
-    assert!(rt; store.faults() == 0);
-}
-
-/// What a store that tells nothing answers to a write and a read, its faults then, and what it tells.
-fn silent_answers(fails: bool) -> (bool, bool, u64, bool) {
-    let mut store = Silent::of(fails);
-    let wrote = store.write(3, &image(1)).is_ok();
-    let gave = reads_alike(&mut store, 3, Ok(None));
-    (wrote, gave, store.faults(), told_without(&mut store, 0))
-}
-
-#[test]
-fn a_store_may_tell_nothing(rt: HostRuntime) {
-    assert!(rt; silent_answers(false) == (true, true, 0, false));
-    assert!(rt; silent_answers(true) == (false, false, 2, false));
+fn a_store_over_slots_answers_each_row(rt: HostRuntime) {
+    assert!(rt; answers_over_slots(&rt, rt.alloc()) == (true, Some(1), 1));
 }
