@@ -8,8 +8,8 @@ use std::process::Abort;
 /// How many frames there are.
 const FRAMES: u32 = 4096;
 
-/// Steps on new lists: `in` with a level, a stamp and a frame puts a member in, `to` with these moves it there, `out` with a frame takes one
-/// out, and `next` with a level takes the oldest out, which is that of the frame, or none.
+/// Steps on new lists: `in` with a level, a stamp and a frame puts a member in, `to` with these moves it there, `out` with a frame
+/// takes one out, and `next` with a level takes the oldest out, which is that of the frame, or none.
 static STEPS: [&str; 10] = [
     // The oldest comes first, whatever the order of insertion.
     "in 0 30 2, in 0 10 8, in 0 40 0, in 0 20 63, next 0 8, next 0 63, next 0 2, next 0 0, next 0 -",
@@ -33,14 +33,18 @@ static STEPS: [&str; 10] = [
     "in 0 7 1, to 2 7 1, next 0 -, to 1 7 1, next 2 -, next 1 1, to 1 3 5, next 1 5, next 1 -",
 ];
 
-/// Puts a member in, whose frame has none then.
-fn insert(lists: &mut Lists, level: u8, stamp: u64, frame: u32)
+/// Puts a member of a frame in, which has no other then, or moves it there.
+fn put(lists: &mut Lists, is_new: bool, level: u8, stamp: u64, frame: u32)
     requires level { level < 3 }
     requires known { frame < lists.old.frames }
     ensures { lists.new.frames ≡ lists.old.frames }
 {
-    lists.remove(frame);
-    lists.insert(size(level), stamp, frame);
+    if is_new {
+        lists.remove(frame);
+        lists.insert(size(level), stamp, frame);
+    } else {
+        lists.move_to(size(level), stamp, frame);
+    }
 }
 
 /// Takes the oldest of a size below the largest out, and tells its frame.
@@ -63,14 +67,9 @@ fn goes(rt: &impl Abort, lists: &mut Lists, step: &str) -> bool
     let [call, first, second, third, ..] = words(step);
     let (level, stamp, frame) = (level_of(first), u64::from(count(second)), count(third));
     match call {
-        "in" => {
+        "in" | "to" => {
             assert!(rt; level < 3 && frame < FRAMES);
-            insert(lists, level, stamp, frame);
-            true
-        }
-        "to" => {
-            assert!(rt; level < 3 && frame < FRAMES);
-            lists.move_to(size(level), stamp, frame);
+            put(lists, call == "in", level, stamp, frame);
             true
         }
         "out" => {

@@ -8,9 +8,9 @@ use std::process::Abort;
 
 /// The frames of a pool, whether it has pages of the sizes 1, 2 and 3, and steps in it, whose forms are
 ///
-/// - `take SPACE PAGE CAP FRAME` and `wire SPACE PAGE CAP FRAME`: a page of a region, which may be wired, takes this frame, or finds none;
-///   a reservation for it has at most CAP pages. So many pages behind it take the frames behind this one where a number follows, and at this
-///   distance where one more does;
+/// - `take SPACE PAGE CAP FRAME` and `wire SPACE PAGE CAP FRAME`: a page of a region, which may be wired, takes this frame, or finds
+///   none; a reservation for it has at most CAP pages. So many pages from it on take the frames from this one on where a number follows,
+///   and at this distance where one more does;
 /// - `give SPACE PAGE FRAME CLAIMER`: the page gives its frame up, which its claimer holds then. A number of pages may follow;
 /// - `claim PROCESSOR SPACE PAGE FRAME`: it claims the frame of this page. `none PROCESSOR WIRED CLAIMED HELD`: it finds none;
 /// - `unclaim PROCESSOR FRAME` and `drop PROCESSOR FRAME`;
@@ -73,8 +73,8 @@ take 0 960 512 8
 broken 2
 ",
     ),
-    // Pages of a space in the middle, and of the last one that there may be. Space 7's reservation is broken, whose latest page allocation is
-    // least recent; and the extent of 512 pages round its last page here meets what stayed of it.
+    // Pages of a space in the middle, and of the last one that there may be. Space 7's reservation is broken, whose latest page
+    // allocation is least recent; and the extent of 512 pages round its last page here meets what stayed of it.
     (
         1024,
         [true, true, true],
@@ -174,8 +174,8 @@ take 0 1 512 1
 broken 0
 ",
     ),
-    // With no size between a reservation of 512 frames is broken into single ones. The frames of three pages stay, and the others are taken by
-    // the blocks that are free then: smaller blocks before larger ones, and of equal ones the lower first.
+    // With no size between a reservation of 512 frames is broken into single ones. The frames of three pages stay, and the others are
+    // taken by the blocks that are free then: smaller blocks before larger ones, and of equal ones the lower first.
     (
         512,
         [false, false, true],
@@ -231,8 +231,8 @@ count 0 0 512 0 0 0
 broken 0
 ",
     ),
-    // Single frames that come back make up blocks again, and an extent is taken of the least one that holds it. Then the oldest of these three
-    // reservations is broken.
+    // Single frames that come back make up blocks again, and an extent is taken of the least one that holds it. Then the oldest of
+    // these three reservations is broken.
     (
         512,
         [true, false, false],
@@ -330,8 +330,8 @@ count 512 0 0 0 0 0
 broken 0
 ",
     ),
-    // All frames are used. Each of the pages that may go is claimed, and then none is left until the first gives its frame up, which isn't free
-    // until it is dropped.
+    // All frames are used. Each of the pages that may go is claimed, and then none is left until the first gives its frame up, which
+    // isn't free until it is dropped.
     (
         512,
         [true, true, true],
@@ -443,7 +443,8 @@ fn give(rt: &impl Abort, pool: &mut Pool, space: u32, page: u32, frame: Frame) -
     pool.give(space, page, frame)
 }
 
-/// Whether a frame was found for a processor to claim, and then the space, the page and the frame; or else how many are wired, claimed and held.
+/// Whether a frame was found for a processor to claim, and then the space, the page and the frame; or else how many are wired, claimed
+/// and held.
 fn claim(rt: &impl Abort, pool: &mut Pool, processor: u32) -> (bool, [u32; 3]) {
     assert!(rt; pool.has_room() && (processor as usize) < pool.processors());
     assert!(rt; pool.claimed_by(processor).is_none() && pool.held_by(processor).is_none());
@@ -563,11 +564,16 @@ fn go(rt: &impl Abort, pool: &mut Pool, frames: &mut [Option<Frame>], rows: &str
     }
 }
 
+/// Asserts that the steps of a scene go as their rows say, in a new pool.
+fn play(rt: &impl Abort, alloc: Global, count: u32, sizes: [bool; 3], rows: &str) {
+    let mut frames = no_frames(rt, alloc, count);
+    let mut pool = pool_of(rt, alloc, count, sizes);
+    go(rt, &mut pool, frames.as_mut_slice(), rows);
+}
+
 #[test]
 fn each_call_does_what_the_rules_say(rt: HostRuntime) {
-    for &(count, sizes, rows) in SCENES.iter() {
-        let mut frames = no_frames(&rt, rt.alloc(), count);
-        let mut pool = pool_of(&rt, rt.alloc(), count, sizes);
-        go(&rt, &mut pool, frames.as_mut_slice(), rows);
+    for &(frames, sizes, rows) in SCENES.iter() {
+        play(&rt, rt.alloc(), frames, sizes, rows);
     }
 }

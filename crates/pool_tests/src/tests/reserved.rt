@@ -117,11 +117,12 @@ fn kept_of(parts: &[Part; 8], level: u8, frame: u32) -> Option<u32> {
     Some(kept)
 }
 
-/// Reservations that are added, each with a level, its first page and frame, its stamp and the page that is populated first; and then steps,
-/// each with a first frame. By `fill` a page is populated with a stamp, and so many pages from it on where a number follows, at this distance
-/// where one more does. By `vacate` its place isn't used any more, where a 1 says that it was the last, after which `dissolve` takes the
-/// reservation away. `get` tells the level, first page and stamp, `yield` a level, and `split` the level of the parts and which of them aren't
-/// empty, a bit for each; `at` tells of a frame which reservation has it, and whether it is a used place.
+/// Reservations that are added, each with a level, its first page and frame, its stamp and the page that is populated first; and then
+/// steps, each with a first frame. By `fill` a page is populated with a stamp, and so many pages from it on where a number follows, at
+/// this distance where one more does. By `vacate` its place isn't used any more, where a 1 says that it was the last, after which
+/// `dissolve` takes the reservation away. `get` tells the level, first page and stamp, `yield` a level, and `split` the level of the
+/// parts and which of them aren't empty, a bit for each; `at` tells of a frame which reservation has it, and whether it is a used
+/// place.
 static SCENES: [(&str, &str); 12] = [
     (
         "1 24 64 3 29, 0 7 72 4 7",
