@@ -85,6 +85,16 @@ ls sixteen-folder | sort -t - -k 2n >output
 for number in 0 1 2 3 4 5 6 7 8 9 10 11 12 13 14 15; do echo "space-$number"; done >text
 compare files 0 0 text
 
+# A page's copy stands at its place in the file, the lowest byte of each word first.
+mkdir placed-folder
+trace_of 'map 0 0 2 fixed write' 'store 0 8200 72623859790382856' 'sync 0 1' >placed
+"$program" --folder placed-folder order <placed >told 2>message
+status_of_run=$?
+od -A d -t x1 placed-folder/space-0 >output
+zeros=' 00 00 00 00 00 00 00 00'
+printf '0000000%s%s\n*\n0008192%s 08 07 06 05 04 03 02 01\n0008208%s%s\n*\n0016384\n' "$zeros" "$zeros" "$zeros" "$zeros" "$zeros" >text
+compare placed "$status_of_run" 0 text
+
 # Without a folder that can be written to each write of a copy fails, and nothing else does: no word is lost.
 trace_of 'map 0 0 2 fixed write' 'store 0 0 5' 'sync 0 0' 'load 0 0' 'evict 0 0' 'load 0 0' 'load 0 8192' >failing
 {

@@ -1,7 +1,8 @@
 #!/bin/sh
 # Runs the built program on every example, and on words, inputs and outputs that it must not take, and compares its output, status
-# and message with what stands here. Then it does the same with tools/from-lackey, tools/compare and tools/explain, which need Python, and makes
-# runs beside tools/judge. It ends with the texts of check_grammar.py and the runs of check-folders.sh.
+# and message with what stands here. Then it does the same with tools/from-lackey, tools/compare and tools/explain, which need Python, makes
+# runs beside tools/judge, has it judge some in threads, and runs the longest trace. It ends with the texts of check_grammar.py and the runs of
+# check-folders.sh.
 #
 #     examples/check.sh [PROGRAM]
 #
@@ -198,6 +199,36 @@ judge all-wired wired.trace '' order
 ../tools/judge short 18 1 >"$made/short"
 judge short-of-frames "$made/short" '' turns 18
 judge short-of-slots "$made/short" 4 turns 18
+
+# In threads each run makes another history, so it is judged, and the laws after each of its entries.
+echo legal >"$made/legal"
+for name in daemon paged-out sixteen-spaces; do
+    run "$name.trace" told "$program" replay --history
+    mv "$made/output" "$made/history"
+    tool /dev/null told ../tools/judge history replay --laws "$name.trace" "$made/history"
+    compare "$name-in-threads" $? 0 '' "$made/legal"
+done
+
+# The longest trace over the most frames: loads, and as each 64th call a store, of four times as many pages as there are frames.
+awk 'BEGIN {
+    print "trace 1 32768 4 2\n0 map 0 0 65536 fixed write\n1 map 1 0 65536 fixed write"
+    for (i = 2; i < 262144; i++) {
+        address = i * 40503 % 65536 * 8192
+        if (i % 64) print i % 4 " load " i % 2 " " address
+        else print i % 4 " store " i % 2 " " address " 7"
+    }
+    print "end"
+}' >"$made/longest"
+run "$made/longest" told "$program" order
+status_of_run=$?
+{ wc -l <"$made/output"; tail -n 2 "$made/output"; } >"$made/ends"
+mv "$made/ends" "$made/output"
+printf '262151\nframes 0 0 32768\nend\n' >"$made/wanted"
+compare longest "$status_of_run" 0 '' "$made/wanted"
+
+# The drawn runs of run_tests walk each row of the table of steps.
+tool /dev/null told python3 ./walked_rows.py
+compare walked-rows $? 0 '' walked-rows.text
 
 ./check_grammar.py "$program" >"$made/tried" 2>&1
 count

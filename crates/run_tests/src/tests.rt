@@ -1,4 +1,5 @@
-//! Runs by the crate that makes them.
+//! Runs by the crate that makes them, and a store over files.
 mod command;
+mod folders;
 mod machine;
 mod replay;

@@ -1,14 +1,162 @@
-//! Whole runs over sources, sinks and stores that fail where a test says so, over as much as a trace may ask for, and over stores in files. What
-//! is printed else, and words of no form, are examples of the folder `examples/`, which the script there runs.
-mod curves;
-mod failing;
-mod folders;
-mod frames;
-mod large;
-mod made;
-mod plans;
-mod runs;
-mod short;
-mod slots;
-mod statuses;
-mod texts;
+//! Runs by the program's words, over sources and sinks that fail and over too few stores. What they print over good ones is in `examples`.
+ghost use Rattle.std.specs.Prelude.{◌<◌};
+
+use super::machine::{NO_MEMORY, stores_of, text_of};
+use io_core::{MemorySink, MemorySource};
+use pager_command::{DONE, Outcome, READ_FAULT, REFUSED, WRITE_FAULT, run};
+use std::process::Abort;
+use std::sync::Wait;
+use std::thread::Threads;
+use store_core::Store;
+use trace_reader::TraceFault;
+
+/// How many bytes the sink takes, and which read of the source and which write of the sink fail (none is 0).
+pub(super) type Streams = (usize, u64, u64);
+
+/// Room for any text here, and nothing fails.
+pub(super) const AMPLE: Streams = (16_384, 0, 0);
+
+/// The status of a run, and why its trace was refused.
+pub(super) type Told = (u8, Option<TraceFault>);
+
+/// What is told of a run.
+fn told<S: Store + Send + Drop>(outcome: Outcome<S>) -> Told {
+    (outcome.status, outcome.refusal)
+}
+
+/// A list of this number alone.
+fn list_of<R: Abort + AllocGlobal>(rt: &R, number: u64) -> Vec<u64> {
+    [number].to_vec(rt.alloc()).expect(rt, NO_MEMORY)
+}
+
+/// An empty sink of at most so many bytes, which fails at one write; none is write 0.
+fn sink_of<R: Abort + AllocGlobal>(rt: &R, limit: usize, failing: u64) -> MemorySink {
+    let room = Vec::with_capacity(rt.alloc(), limit).expect(rt, NO_MEMORY);
+    MemorySink::of(room, limit, list_of(rt, failing))
+}
+
+/// Runs the program with these words over the lines of a text, of which each read gives a byte: what is told of it, and what it printed.
+pub(super) fn ran<R: Abort + AllocGlobal + Threads + Wait + Sync, S: Store + Send + Drop>(
+    rt: &R,
+    words: &[&str],
+    lines: &str,
+    streams: Streams,
+    stores: Vec<S>,
+) -> (Told, MemorySink) {
+    let (limit, failing_read, failing_write) = streams;
+    let bytes = text_of(rt, lines).into_bytes();
+    let mut source = MemorySource::of(bytes, 1, list_of(rt, failing_read));
+    let mut sink = sink_of(rt, limit, failing_write);
+    let outcome = run(rt, rt.alloc(), words, &mut source, &mut sink, stores);
+    (told(outcome), sink)
+}
+
+/// Whether no run is made over these streams and so many stores, for this reason, and nothing printed.
+fn is_stopped<R: Abort + AllocGlobal + Threads + Wait + Sync>(
+    rt: &R,
+    words: &[&str],
+    lines: &str,
+    streams: Streams,
+    stores: &str,
+    wanted: Told,
+) -> bool {
+    let (told, sink) = ran(rt, words, lines, streams, stores_of(rt, stores));
+    told == wanted && sink.bytes().is_empty()
+}
+
+/// The trace of `examples/last-page`.
+const LAST_PAGE: &str = "trace 1 512 1 1; 0 map 0 1048575 1 fixed write; \
+0 store 0 8589934584 18446744073709551615; 0 load 0 8589934584; end";
+
+/// That of `examples/eight-pages`.
+const EIGHT_PAGES: &str =
+    "trace 1 512 1 1; 0 map 0 0 8 fixed write; 0 load 0 0; 7 times 8192: 0 load 0 #; end";
+
+/// Texts, and the first and the last of their reads that fail: of the traces each, of which the last finds the end. The others are no traces,
+/// and the read before their fault or behind it is told.
+static READS: [(&str, u64, u64); 4] = [
+    (LAST_PAGE, 1, 113),
+    (EIGHT_PAGES, 1, 160),
+    ("x; 0 load", 4, 4),
+    ("trace 1 512 1 1; end; end", 24, 24),
+];
+
+#[test]
+fn each_read_that_fails_ends_the_run_with_nothing_printed(rt: HostRuntime) {
+    let wanted = (READ_FAULT, Some(TraceFault::ReadFault));
+    for (lines, first, last) in &READS {
+        for read in *first..=*last {
+            let streams = (16_384, read, 0);
+            assert!(rt; is_stopped(&rt, &["order"], lines, streams, "writes", wanted));
+        }
+    }
+}
+
+/// A trace of two spaces, and the words by which it is run.
+const TWO_SPACES: &str =
+    "trace 1 512 1 2; 0 map 0 0 512 fixed write; 0 map 1 0 8 fixed write; 0 load 0 0; 0 load 1 0; end";
+
+/// A trace of two processors on two spaces.
+const TWO_PROCESSORS: &str = "trace 1 512 2 2; 0 map 0 0 8 fixed write; 1 load 1 0; end";
+
+#[test]
+fn too_few_stores_are_refused_behind_too_many_processors(rt: HostRuntime) {
+    let few = |stores, spaces| TraceFault::TooFewStores { stores, spaces };
+    let two = TraceFault::OneProcessor { processors: 2 };
+    for (words, lines, stores, fault) in [
+        (&["order"][..], TWO_SPACES, "writes", few(1, 2)),
+        (&["replay"], TWO_PROCESSORS, "writes", few(1, 2)),
+        (&["curve"], TWO_SPACES, "writes", few(1, 2)),
+        (&["curve"], TWO_PROCESSORS, "writes", two),
+        (&["curve"], TWO_PROCESSORS, "writes; writes", two),
+        (
+            &["large", "7", "3"],
+            "",
+            "writes; writes; writes",
+            few(3, 4),
+        ),
+    ] {
+        assert!(rt; is_stopped(&rt, words, lines, AMPLE, stores, (REFUSED, Some(fault))));
+    }
+}
+
+/// Words, a trace, how many bytes the sink takes and which write fails, and how many bytes are there then.
+type Cut = (&'static [&'static str], &'static str, usize, u64, usize);
+
+/// The text of the calls without a region is three writes long, of which the first two end with the last line that there was room for.
+static CUTS: [Cut; 14] = [
+    (&["order"], LAST_PAGE, 0, 0, 0),
+    (&["order"], LAST_PAGE, 4, 0, 4),
+    (&["order"], LAST_PAGE, 9, 0, 9),
+    (&["order"], LAST_PAGE, 144, 0, 144),
+    (&["order"], EIGHT_PAGES, 16_384, 1, 0),
+    (&["order"], NO_REGION, 16_384, 1, 0),
+    (&["order"], NO_REGION, 16_384, 2, 4090),
+    (&["order"], NO_REGION, 16_384, 3, 8185),
+    (&["plan", "3"], TWO_SPACES, 12, 0, 12),
+    (&["curve"], EIGHT_PAGES, 21, 0, 21),
+    (&["make", "7", "3", "1", "1", "512"], "", 0, 0, 0),
+    (&["make", "7", "3", "1", "1", "512"], "", 4, 0, 4),
+    (&["make", "7", "3", "1", "1", "512"], "", 121, 0, 121),
+    (&["make", "7", "3", "1", "1", "512"], "", 16_384, 1, 0),
+];
+
+/// Calls that no region has.
+const NO_REGION: &str = "trace 1 512 1 1; 700 times 8192: 0 load 0 #; end";
+
+/// Whether the run of a row prints so many of the bytes that it prints into an ample sink.
+fn is_cut<R: Abort + AllocGlobal + Threads + Wait + Sync>(rt: &R, row: &Cut) -> bool {
+    let (words, lines, limit, write, gone) = *row;
+    let (whole, all) = ran(rt, words, lines, AMPLE, stores_of(rt, "writes; writes"));
+    let streams = (limit, 0, write);
+    let (cut, sink) = ran(rt, words, lines, streams, stores_of(rt, "writes; writes"));
+    let ends = whole == (DONE, None) && cut == (WRITE_FAULT, None);
+    ends && gone < all.bytes().len() && sink.bytes() == &all.bytes()[..gone]
+}
+
+#[test]
+fn a_sink_that_fails_has_the_first_bytes(rt: HostRuntime) {
+    for row in &CUTS {
+        assert!(rt; is_cut(&rt, row), "{} bytes by {}", row.4, row.0[0]);
+    }
+}

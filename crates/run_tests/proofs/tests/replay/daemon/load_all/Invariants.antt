@@ -1,6 +1,0 @@
-use Rattle.std.proofs.Common.{◌-◌}
-use Rattle.run_tests.specs.Calling.{MayMakeCalls}
-use Rattle.run_tests.proofs.tests.replay.daemon.load_all.Given as goal
-
-abbrev pub invariant-loop-page : goal.invariant-loop-page
-invariant-loop-page g l = MayMakeCalls g.N.Named.journal l.pass (512 - l.page)
