@@ -30,15 +30,15 @@ fn gives<S: Store>(store: &mut S, page: u32, number: u64) -> bool {
 
 /// Whether a store does a step of a page: to `write` the words of a number, to `read` these, to `drop` the copies of so many pages from it on,
 /// and to leave it `unread` or `unwritten`, as the fault of a number.
-fn does<S: Store>(store: &mut S, call: &str, page: u32, number: u64) -> bool {
+fn does<S: Store>(store: &mut S, call: &str, page: u32, number: u32) -> bool {
     if call == "write" {
-        return store.write(page, &words_of(number)).is_ok();
+        return store.write(page, &words_of(u64::from(number))).is_ok();
     }
     if call == "read" {
-        return gives(store, page, number);
+        return gives(store, page, u64::from(number));
     }
     if call == "drop" {
-        store.drop_pages(page, number as u32);
+        store.drop_pages(page, number);
         return true;
     }
     let mut words = [0; WORDS];
@@ -47,7 +47,7 @@ fn does<S: Store>(store: &mut S, call: &str, page: u32, number: u64) -> bool {
     } else {
         store.write(page, &words).is_err()
     };
-    failed && store.faults() == number
+    failed && store.faults() == u64::from(number)
 }
 
 /// Whether it does all of these, in this order.
@@ -55,7 +55,7 @@ fn does_all<S: Store>(store: &mut S, steps: &str) -> bool {
     for step in steps.split("; ") {
         let (call, rest) = halves(step, " ");
         let (page, rest) = halves(rest, " ");
-        if !does(store, call, number(page) as u32, number(rest)) {
+        if !does(store, call, number(page), number(rest)) {
             return false;
         }
     }

@@ -46,8 +46,8 @@ fn field<'a>(lines: &mut Lines<'a>) -> &'a str {
 }
 
 /// The number of a word.
-pub(super) fn number(word: &str) -> u64 {
-    word.parse::<u64>().unwrap_or(0)
+pub(super) fn number(word: &str) -> u32 {
+    word.parse::<u32>().unwrap_or(0)
 }
 
 /// The numbers among these words.

@@ -54,3 +54,19 @@ fn calls_on_two_spaces_run_at_once(rt: HostRuntime) {
         }
     }
 }
+
+const FAILING: &str =
+    "trace 1 512 2 2; 0 map 0 0 8 fixed write; 0 load 0 0; 0 load 0 0; 1 map 1 0 8 fixed write; 1 store 1 0 5; \
+1 sync 1 0; 1 sync 1 0; end";
+
+const FAILING_TEXT: &str =
+    "0 0 done; 0 1 storefault 0 1; 0 2 value 0 miss 0; 1 0 done; 1 1 done miss 0; 1 2 storefault 1 1; \
+1 3 written; tiles 2 0 0 0; promotions 0; demotions 0; preemptions 0; images 0 2; frames 496 14 2; end";
+
+#[test]
+fn a_failure_is_answered_where_the_call_met_it(rt: HostRuntime) {
+    for _ in 0..TIMES {
+        let stores = stores_of(&rt, "reads 1 writes; reads writes 1");
+        assert!(rt; prints(&rt, FAILING, stores, FAILING_TEXT));
+    }
+}
