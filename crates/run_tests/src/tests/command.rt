@@ -92,7 +92,7 @@ fn each_read_that_fails_ends_the_run_with_nothing_printed(rt: HostRuntime) {
     }
 }
 
-/// A trace of two spaces, and the words by which it is run.
+/// A trace of two spaces.
 const TWO_SPACES: &str =
     "trace 1 512 1 2; 0 map 0 0 512 fixed write; 0 map 1 0 8 fixed write; 0 load 0 0; 0 load 1 0; end";
 
@@ -120,10 +120,15 @@ fn too_few_stores_are_refused_behind_too_many_processors(rt: HostRuntime) {
     }
 }
 
+/// Calls whose pages no region has. The text is three writes long, of which the first two end with the last line that there was room for.
+const NO_REGION: &str = "trace 1 512 1 1; 700 times 8192: 0 load 0 #; end";
+
+/// The words that make a trace of a map and two calls.
+const MAKE: &[&str] = &["make", "7", "3", "1", "1", "512"];
+
 /// Words, a trace, how many bytes the sink takes and which write fails, and how many bytes are there then.
 type Cut = (&'static [&'static str], &'static str, usize, u64, usize);
 
-/// The text of the calls without a region is three writes long, of which the first two end with the last line that there was room for.
 static CUTS: [Cut; 14] = [
     (&["order"], LAST_PAGE, 0, 0, 0),
     (&["order"], LAST_PAGE, 4, 0, 4),
@@ -135,14 +140,11 @@ static CUTS: [Cut; 14] = [
     (&["order"], NO_REGION, 16_384, 3, 8185),
     (&["plan", "3"], TWO_SPACES, 12, 0, 12),
     (&["curve"], EIGHT_PAGES, 21, 0, 21),
-    (&["make", "7", "3", "1", "1", "512"], "", 0, 0, 0),
-    (&["make", "7", "3", "1", "1", "512"], "", 4, 0, 4),
-    (&["make", "7", "3", "1", "1", "512"], "", 121, 0, 121),
-    (&["make", "7", "3", "1", "1", "512"], "", 16_384, 1, 0),
+    (MAKE, "", 0, 0, 0),
+    (MAKE, "", 4, 0, 4),
+    (MAKE, "", 121, 0, 121),
+    (MAKE, "", 16_384, 1, 0),
 ];
-
-/// Calls that no region has.
-const NO_REGION: &str = "trace 1 512 1 1; 700 times 8192: 0 load 0 #; end";
 
 /// Whether the run of a row prints so many of the bytes that it prints into an ample sink.
 fn is_cut<R: Abort + AllocGlobal + Threads + Wait + Sync>(rt: &R, row: &Cut) -> bool {

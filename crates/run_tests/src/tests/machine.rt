@@ -1,4 +1,9 @@
 //! Runs in listed turns, over stores that may fail. What each prints, entry by entry, and its counts are what an independent checker made.
+//!
+//! A run is a text of five lines. Behind its name stand its `turns`: how many of processor 0 come first, and whose come behind them, a digit a
+//! turn; after them it is always that of the lowest processor that can step. Then its `stores`: at which reads and writes that of each space
+//! fails, that over one slot where they begin with `slot`, or none finds memory where they are `full`. Then its `trace`, and the `report`: what is
+//! printed from the entry behind the first turns on, as `tools/judge schedule --history` prints it.
 ghost use Rattle.std.specs.Prelude.{◌<◌};
 ghost use Rattle.std.specs.List.{All};
 ghost use Rattle.pager_model.specs.Showing.{actors};
