@@ -63,4 +63,5 @@ fn takes_from_the_least_block_that_holds_the_size(rt: HostRuntime) {
     for row in TAKEN.lines() {
         assert!(rt; goes(&mut free, row), "{row}");
     }
+    drop(free);
 }

@@ -96,5 +96,6 @@ fn the_oldest_of_a_size_comes_first(rt: HostRuntime) {
     for steps in STEPS.iter() {
         let mut lists = Lists::create(rt.alloc(), FRAMES).expect(&rt, NO_MEMORY);
         go(&rt, &mut lists, steps);
+        drop(lists);
     }
 }

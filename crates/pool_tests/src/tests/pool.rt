@@ -569,6 +569,7 @@ fn play(rt: &impl Abort, alloc: Global, count: u32, sizes: [bool; 3], rows: &str
     let mut frames = no_frames(rt, alloc, count);
     let mut pool = pool_of(rt, alloc, count, sizes);
     go(rt, &mut pool, frames.as_mut_slice(), rows);
+    drop(pool);
 }
 
 #[test]

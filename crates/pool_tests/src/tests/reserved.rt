@@ -373,5 +373,6 @@ fn each_call_reads_or_changes_one_reservation(rt: HostRuntime) {
         let mut kept = none(&rt, rt.alloc());
         add_all(&rt, &mut kept, added);
         go(&rt, &mut kept, rows);
+        drop(kept);
     }
 }
