@@ -12,7 +12,7 @@
 # `explanations`. To add a text that is refused, or just not, add a line to `grammar`.
 #
 # PROGRAM is crates/superpager/out/superpager where it isn't given. `rt ci` at the top leaves it there, built of what it proved, also
-# where nothing was kept from an earlier run, and then these runs take half a minute. Where it isn't there no run is made.
+# where nothing was kept from an earlier run, and then these runs take a minute or two. Where it isn't there no run is made.
 #
 # The last line is `N passed, M failed`. The status is 1 where a run failed, or none was made.
 

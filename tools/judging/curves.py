@@ -1,5 +1,5 @@
 """The misses of images of each capacity, with the tiles of a run and with base pages alone (crates/miss_curves/specs/Curves.antt,
-crates/report_text/specs/CurveText.antt).
+crates/lru_stack/specs/Followers.antt, crates/report_text/specs/CurveText.antt).
 
 An image is walked for each capacity, by the rule of an image with another number in place of 128.
 """

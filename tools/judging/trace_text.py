@@ -1,4 +1,5 @@
-"""The text of a trace (TraceText.antt), and why a text is none (crates/trace_reader/specs/Refusals.antt, Forms.antt)."""
+"""The text of a trace (TraceText.antt), and why a text is none (crates/trace_reader/specs/Refusals.antt,
+crates/trace_lines/specs/Forms.antt)."""
 from typing import Callable, List, Optional, Sequence, Tuple, Union
 
 from .values import (ALL_SIZES, LAST_COUNT, MOST_BYTES, MOST_CALLS, SPACE_PAGES, Call, Daemon, Evict, Grow, Line, Load, Map, Protect, Sizes, Store,
