@@ -184,14 +184,15 @@ compare_drawn() {
     compare "$name" "$status" 0 '' ''
 }
 
-compare_drawn drawn-with-ample-frames --seeds 1..40 --forms order,turns
-compare_drawn drawn-with-few-frames --seeds 251..290 --forms order,turns
-compare_drawn drawn-by-page-sizes --seeds 501..506 --sizes all
-compare_drawn drawn-short-of-frames --seeds 1..4 --short
-compare_drawn drawn-curves --seeds 1..6 --forms curve
-compare_drawn drawn-curves-by-sizes --seeds 1..2 --forms curve --sizes 02,0123
-compare_drawn drawn-plans --seeds 251..256 --forms plan1,plan2,plan3
-compare_drawn drawn-over-slots --seeds 251..256 --forms order,turns --swap 8
+compare_drawn drawn-with-ample-frames --seeds 1..20 --forms order,turns
+compare_drawn drawn-with-few-frames --seeds 251..270 --forms order,turns
+compare_drawn drawn-by-page-sizes --seeds 501..504 --sizes all
+compare_drawn drawn-short-of-frames --seeds 1..3 --short
+compare_drawn drawn-short-of-slots-in-threads --seeds 18..18 --short --forms replay --swap 4
+compare_drawn drawn-curves --seeds 1..3 --forms curve
+compare_drawn drawn-curves-by-sizes --seeds 1..1 --forms curve --sizes 02,0123
+compare_drawn drawn-plans --seeds 251..253 --forms plan1,plan2,plan3
+compare_drawn drawn-over-slots --seeds 251..254 --forms order,turns --swap 8
 
 # With the examples these show every kind of entry but a failed read: where all frames are under wired pages; and beside a daemon, where few
 # frames are left, and few slots too.
