@@ -11,7 +11,7 @@ use Rattle.pager_model.specs.declared.entry.Numbered.{Numbered}
 use Rattle.pager_model.specs.declared.reply.Reply.{Reply}
 use Rattle.pager_model.specs.Entries.{entries_of}
 use Rattle.pager_model.specs.Legal.{entries_in}
-use Rattle.pager_model.specs.Order.{Progress, at_rest, progress_of, IsWhole}
+use Rattle.pager_model.specs.Order.{Progress, at_rest, IsWhole}
 use Rattle.pager_model.specs.Settings.{mark_of}
 use Rattle.pager_model.specs.Showing.{answers_in}
 use Rattle.pager_locks.specs.Calls.{MakesCall}

@@ -5,24 +5,12 @@ use Rattle.journal_core.specs.Journals.{JournalName, AuthorState}
 use Rattle.space_core.specs.Standing.{Kept}
 use Rattle.pager_locks.specs.Locked.{IsLockedSpace}
 
--- Which of the sixteen locks are there: at least those below the count.
-pub record AreThere (count : ℕ) (s0 s1 s2 s3 s4 s5 s6 s7 s8 s9 s10 s11 s12 s13 s14 s15 : Bool) : Type 0 where
-  pub there0 : 0 < count → s0 ≡ true
-  pub there1 : 1 < count → s1 ≡ true
-  pub there2 : 2 < count → s2 ≡ true
-  pub there3 : 3 < count → s3 ≡ true
-  pub there4 : 4 < count → s4 ≡ true
-  pub there5 : 5 < count → s5 ≡ true
-  pub there6 : 6 < count → s6 ≡ true
-  pub there7 : 7 < count → s7 ≡ true
-  pub there8 : 8 < count → s8 ≡ true
-  pub there9 : 9 < count → s9 ≡ true
-  pub there10 : 10 < count → s10 ≡ true
-  pub there11 : 11 < count → s11 ≡ true
-  pub there12 : 12 < count → s12 ≡ true
-  pub there13 : 13 < count → s13 ≡ true
-  pub there14 : 14 < count → s14 ≡ true
-  pub there15 : 15 < count → s15 ≡ true
+-- Which of the four locks from this number on are there: at least those below the count.
+pub record AreThere (count from : ℕ) (s0 s1 s2 s3 : Bool) : Type 0 where
+  pub there0 : from + 0 < count → s0 ≡ true
+  pub there1 : from + 1 < count → s1 ≡ true
+  pub there2 : from + 2 < count → s2 ≡ true
+  pub there3 : from + 3 < count → s3 ≡ true
 
 -- the spaces from this number on, the last first, each with its author
 pub record AreLeft (j : JournalName) (from : ℕ) (spaces : List Kept) (authors : List AuthorState) : Type 0 where

@@ -1,6 +1,6 @@
 //! The locks of the spaces. What lies behind one has the space's number in its type, so each space has a field of its own.
 
-ghost use Rattle.std.specs.Prelude.{◌≡◌, ◌<◌, ◌≤◌, ◌+◌, true, is_some, [], length, vec_capacity, Some, None};
+ghost use Rattle.std.specs.Prelude.{◌≡◌, ◌<◌, ◌≤◌, ◌+◌, ◌*◌, true, is_some, [], length, vec_capacity, Some, None};
 ghost use Rattle.pager_model.specs.Bounds.{most_spaces};
 ghost use Rattle.flight_core.specs.Rows.{row_of, space_under};
 ghost use Rattle.pager_locks.specs.Locked.{Departure, IsFlying};
@@ -8,41 +8,22 @@ ghost use Rattle.pager_locks.specs.Locks.{AreThere, AreLeft, AreParts};
 
 use crate::locked::{LockedPool, LockedSpace};
 use crate::naming::{Named, Place};
-use crate::numbers::{
-    Eight, Eleven, Fifteen, Five, Four, Fourteen, Nine, One, Seven, Six, Ten, Thirteen, Three,
-    Twelve, Two, Zero,
-};
+use crate::numbers::{InGroup, One, Three, Two, Zero};
 use flight_core::Flight;
 use journal_core::{Author, Journal, Pass};
 use space_core::Space;
 use std::sync::{Mutex, Wait};
 use store_core::Store;
 
-/// For each space a lock round it, with the author of its part. Those below the count of the spaces are there.
+/// For each space a lock round it, with the author of its part. Those below the count of the spaces are there. They stand in groups of four,
+/// so that what is proved of one group holds of all.
 #[derive(Drop)]
 pub struct Locks<N: Named, S: Store + Send + Drop> {
-    space0: Option<Mutex<LockedSpace<N, Zero, S>>>,
-    space1: Option<Mutex<LockedSpace<N, One, S>>>,
-    space2: Option<Mutex<LockedSpace<N, Two, S>>>,
-    space3: Option<Mutex<LockedSpace<N, Three, S>>>,
-    space4: Option<Mutex<LockedSpace<N, Four, S>>>,
-    space5: Option<Mutex<LockedSpace<N, Five, S>>>,
-    space6: Option<Mutex<LockedSpace<N, Six, S>>>,
-    space7: Option<Mutex<LockedSpace<N, Seven, S>>>,
-    space8: Option<Mutex<LockedSpace<N, Eight, S>>>,
-    space9: Option<Mutex<LockedSpace<N, Nine, S>>>,
-    space10: Option<Mutex<LockedSpace<N, Ten, S>>>,
-    space11: Option<Mutex<LockedSpace<N, Eleven, S>>>,
-    space12: Option<Mutex<LockedSpace<N, Twelve, S>>>,
-    space13: Option<Mutex<LockedSpace<N, Thirteen, S>>>,
-    space14: Option<Mutex<LockedSpace<N, Fourteen, S>>>,
-    space15: Option<Mutex<LockedSpace<N, Fifteen, S>>>,
+    from0: LockGroup<N, Zero, S>,
+    from4: LockGroup<N, One, S>,
+    from8: LockGroup<N, Two, S>,
+    from12: LockGroup<N, Three, S>,
     ghost few: { length N.journal.setting.told ≤ most_spaces },
-    ghost there: { AreThere (length N.journal.setting.told)
-        (is_some space0) (is_some space1) (is_some space2) (is_some space3)
-        (is_some space4) (is_some space5) (is_some space6) (is_some space7)
-        (is_some space8) (is_some space9) (is_some space10) (is_some space11)
-        (is_some space12) (is_some space13) (is_some space14) (is_some space15) },
 }
 
 impl<N: Named, S: Store + Send + Drop> Locks<N, S> {
@@ -54,22 +35,10 @@ impl<N: Named, S: Store + Send + Drop> Locks<N, S> {
         ensures room { (vec_capacity spaces.new ≡ vec_capacity spaces.old) × (vec_capacity authors.new ≡ vec_capacity authors.old) }
     {
         Locks {
-            space0: next(spaces, authors),
-            space1: next(spaces, authors),
-            space2: next(spaces, authors),
-            space3: next(spaces, authors),
-            space4: next(spaces, authors),
-            space5: next(spaces, authors),
-            space6: next(spaces, authors),
-            space7: next(spaces, authors),
-            space8: next(spaces, authors),
-            space9: next(spaces, authors),
-            space10: next(spaces, authors),
-            space11: next(spaces, authors),
-            space12: next(spaces, authors),
-            space13: next(spaces, authors),
-            space14: next(spaces, authors),
-            space15: next(spaces, authors),
+            from0: LockGroup::of(spaces, authors),
+            from4: LockGroup::of(spaces, authors),
+            from8: LockGroup::of(spaces, authors),
+            from12: LockGroup::of(spaces, authors),
         }
     }
 
@@ -91,23 +60,12 @@ impl<N: Named, S: Store + Send + Drop> Locks<N, S> {
         ensures left { (row_of flight.new).keeps ≡ None }
         ensures nearer { (row_of flight.new).steps < (row_of flight.old).steps }
     {
-        match space {
-            0 => fly_at(&self.space0, rt, journal, pool, flight, pass),
-            1 => fly_at(&self.space1, rt, journal, pool, flight, pass),
-            2 => fly_at(&self.space2, rt, journal, pool, flight, pass),
-            3 => fly_at(&self.space3, rt, journal, pool, flight, pass),
-            4 => fly_at(&self.space4, rt, journal, pool, flight, pass),
-            5 => fly_at(&self.space5, rt, journal, pool, flight, pass),
-            6 => fly_at(&self.space6, rt, journal, pool, flight, pass),
-            7 => fly_at(&self.space7, rt, journal, pool, flight, pass),
-            8 => fly_at(&self.space8, rt, journal, pool, flight, pass),
-            9 => fly_at(&self.space9, rt, journal, pool, flight, pass),
-            10 => fly_at(&self.space10, rt, journal, pool, flight, pass),
-            11 => fly_at(&self.space11, rt, journal, pool, flight, pass),
-            12 => fly_at(&self.space12, rt, journal, pool, flight, pass),
-            13 => fly_at(&self.space13, rt, journal, pool, flight, pass),
-            14 => fly_at(&self.space14, rt, journal, pool, flight, pass),
-            15 => fly_at(&self.space15, rt, journal, pool, flight, pass),
+        let place = space % 4;
+        match space / 4 {
+            0 => self.from0.fly(rt, place, journal, pool, flight, pass),
+            1 => self.from4.fly(rt, place, journal, pool, flight, pass),
+            2 => self.from8.fly(rt, place, journal, pool, flight, pass),
+            3 => self.from12.fly(rt, place, journal, pool, flight, pass),
             _ => unreachable!(),
         }
     }
@@ -119,22 +77,78 @@ impl<N: Named, S: Store + Send + Drop> Locks<N, S> {
         ensures parts { AreParts N.journal most_spaces spaces.new.items authors.new.items }
         ensures room { (vec_capacity spaces.new ≡ vec_capacity spaces.old) × (vec_capacity authors.new ≡ vec_capacity authors.old) }
     {
+        self.from0.into_parts(spaces, authors);
+        self.from4.into_parts(spaces, authors);
+        self.from8.into_parts(spaces, authors);
+        self.from12.into_parts(spaces, authors);
+    }
+}
+
+/// The locks of four spaces in a row, from that of space `4 * G.number` on.
+#[derive(Drop)]
+struct LockGroup<N: Named, G: Place, S: Store + Send + Drop> {
+    space0: Option<Mutex<LockedSpace<N, InGroup<G, Zero>, S>>>,
+    space1: Option<Mutex<LockedSpace<N, InGroup<G, One>, S>>>,
+    space2: Option<Mutex<LockedSpace<N, InGroup<G, Two>, S>>>,
+    space3: Option<Mutex<LockedSpace<N, InGroup<G, Three>, S>>>,
+    ghost there: { AreThere (length N.journal.setting.told) (4 * G.number)
+        (is_some space0) (is_some space1) (is_some space2) (is_some space3) },
+}
+
+impl<N: Named, G: Place, S: Store + Send + Drop> LockGroup<N, G, S> {
+    /// Puts the next four spaces, as far as there are any left, behind their locks.
+    fn of(spaces: &mut Vec<Space<S>>, authors: &mut Vec<Author>) -> LockGroup<N, G, S>
+        requires left { AreLeft N.journal (4 * G.number) spaces.old.items authors.old.items }
+        ensures left { AreLeft N.journal (4 * G.number + 4) spaces.new.items authors.new.items }
+        ensures room { (vec_capacity spaces.new ≡ vec_capacity spaces.old) × (vec_capacity authors.new ≡ vec_capacity authors.old) }
+    {
+        LockGroup {
+            space0: next(spaces, authors),
+            space1: next(spaces, authors),
+            space2: next(spaces, authors),
+            space3: next(spaces, authors),
+        }
+    }
+
+    /// Does the flight's steps in the space at this place of the four, until it leaves the space.
+    fn fly<R: Wait>(
+        &self,
+        rt: &R,
+        place: u32,
+        journal: &Journal,
+        pool: &Mutex<LockedPool<N>>,
+        flight: &mut Flight,
+        pass: Pass,
+    ) -> Pass
+        requires place { place < 4 }
+        requires journal { journal.now.name ≡ N.journal }
+        requires flying { (from : Departure) × IsFlying N.journal from flight.old pass }
+        requires under { space_under (row_of flight.old).needs ≡ Some (4 * G.number + place) }
+        requires keeps { (row_of flight.old).keeps ≡ None }
+        ensures flying { (from : Departure) → IsFlying N.journal from flight.old pass → IsFlying N.journal from flight.new result }
+        ensures left { (row_of flight.new).keeps ≡ None }
+        ensures nearer { (row_of flight.new).steps < (row_of flight.old).steps }
+    {
+        match place {
+            0 => fly_at(&self.space0, rt, journal, pool, flight, pass),
+            1 => fly_at(&self.space1, rt, journal, pool, flight, pass),
+            2 => fly_at(&self.space2, rt, journal, pool, flight, pass),
+            3 => fly_at(&self.space3, rt, journal, pool, flight, pass),
+            _ => unreachable!(),
+        }
+    }
+
+    /// Puts the four spaces, as far as they are there, and their authors behind the others.
+    fn into_parts(self, spaces: &mut Vec<Space<S>>, authors: &mut Vec<Author>)
+        requires parts { AreParts N.journal (4 * G.number) spaces.old.items authors.old.items }
+        requires room { (length N.journal.setting.told ≤ vec_capacity spaces.old) × (length N.journal.setting.told ≤ vec_capacity authors.old) }
+        ensures parts { AreParts N.journal (4 * G.number + 4) spaces.new.items authors.new.items }
+        ensures room { (vec_capacity spaces.new ≡ vec_capacity spaces.old) × (vec_capacity authors.new ≡ vec_capacity authors.old) }
+    {
         put_back(self.space0, spaces, authors);
         put_back(self.space1, spaces, authors);
         put_back(self.space2, spaces, authors);
         put_back(self.space3, spaces, authors);
-        put_back(self.space4, spaces, authors);
-        put_back(self.space5, spaces, authors);
-        put_back(self.space6, spaces, authors);
-        put_back(self.space7, spaces, authors);
-        put_back(self.space8, spaces, authors);
-        put_back(self.space9, spaces, authors);
-        put_back(self.space10, spaces, authors);
-        put_back(self.space11, spaces, authors);
-        put_back(self.space12, spaces, authors);
-        put_back(self.space13, spaces, authors);
-        put_back(self.space14, spaces, authors);
-        put_back(self.space15, spaces, authors);
     }
 }
 
