@@ -4,7 +4,7 @@ use Rattle.std.specs.Option.{option_or, option_and_then, option_map_or, IfSome, 
 use Rattle.std.proofs.lemmas.Bool.{cases_Bool, cases_eq, cond-true, cond-false, lt-ltb, le-ltb, eq-eqb, false≢true}
 use Rattle.pager_model.proofs.Ranges.{find_passes}
 use Rattle.pager_model.specs.declared.reservation.Reservation.{Reservation}
-use Rattle.pager_model.specs.Ages.{Lists, oldest_in}
+use Rattle.pager_model.specs.Ages.{Lists, first_oldest, list_at, oldest_in}
 use Rattle.pager_model.specs.Layouts.{Layout, split_layout, broken_at, oldest_of, oldest_from, split_on, record_at}
 use Rattle.pager_model.specs.Records.{is_used, has_empty, yield_in, part_size, part_count, part_at, same_size, lowest_as_wide, goes_on_at}
 use Rattle.pager_model.specs.SizeSets.{SizeSet}
@@ -12,7 +12,6 @@ use Rattle.pager_model.proofs.SizeFloors.{has_within, within_largest}
 use Rattle.pager_laws.proofs.PartYields.{same_size_from, IsWidest, IsWidest-from, from_widest, whole_not_empty}
 use Rattle.pager_laws.specs.Laid.{IsLaid}
 use Rattle.pager_laws.specs.Listed.{AreListed}
-use Rattle.reservation_lists.specs.Kept.{first_oldest}
 use Rattle.frame_pool.specs.ReservedChanges.{with_free}
 use Rattle.frame_pool.specs.Placed.{CanBreak, first_of}
 use Rattle.pager_laws.proofs.LayoutBreak.{Falls, Falls-goes_on, split_on-enough, part_size-most, record_at-part, kept_each, find_below}
@@ -26,10 +25,10 @@ IfNone-holds (Some x) P none holds = absurd (false≢true (sym none))
 
 -- the lists that are kept are those of the reservations
 pub first_oldest-listed : (l : Layout) (lists : Lists) → AreListed l.sizes lists l.used l.records → (k count : ℕ) → count ≤ 3 - k
-    → first_oldest lists k count ≡ oldest_from l k count
+    → first_oldest (list_at lists) k count ≡ oldest_from l k count
 first_oldest-listed l lists listed k zero few = refl
 first_oldest-listed l lists listed k (suc count) few =
-    ap (λ ms. option_or (oldest_in ms) (first_oldest lists (k + 1) count)) (listed k (omega arith))
+    ap (λ ms. option_or (oldest_in ms) (first_oldest (list_at lists) (k + 1) count)) (listed k (omega arith))
     ∙ ap (option_or (oldest_of l k)) (first_oldest-listed l lists listed (k + 1) count (omega arith))
 
 -- which frames are free is no matter of the lists

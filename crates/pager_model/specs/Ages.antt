@@ -1,5 +1,6 @@
 -- The lists of reservations by age: one for each yield from 0 to 2, in order of stamp and then of first frame.
-use Rattle.std.specs.Prelude.{ℕ, zero, suc, Bool, ◌&&◌, ◌||◌, ◌==◌, nat_lt, if◌then◌else◌, List, [], ◌∷◌, Option, Some, None}
+use Rattle.std.specs.Prelude.{ℕ, zero, suc, ◌+◌, Bool, ◌&&◌, ◌||◌, ◌==◌, nat_lt, if◌then◌else◌, List, [], ◌∷◌, Option, Some, None}
+use Rattle.std.specs.Option.{option_or}
 
 -- a reservation in a list: its stamp and its first frame
 pub record Member : Type 0 where
@@ -18,6 +19,11 @@ with_member new (m ∷ ms) = if is_before new m then new ∷ m ∷ ms else m ∷
 abbrev pub oldest_in : List Member → Option ℕ
 oldest_in [] = None
 oldest_in (m ∷ ms) = Some m.frame
+
+-- the first frame of the oldest member of the first list that isn't empty, of the count lists from list k on
+abbrev pub first_oldest : (ℕ → List Member) → ℕ → ℕ → Option ℕ
+first_oldest list k zero = None
+first_oldest list k (suc count) = option_or (oldest_in (list k)) (first_oldest list (k + 1) count)
 
 -- the three lists
 pub record Lists : Type 0 where

@@ -5,7 +5,7 @@ use Rattle.std.specs.List.{range_with_len, list_any, list_all}
 use Rattle.std.specs.Option.{option_or, option_and_then, option_map_or}
 use Rattle.pager_model.specs.declared.entry.Want.{Want}
 use Rattle.pager_model.specs.declared.reservation.Reservation.{Reservation}
-use Rattle.pager_model.specs.Ages.{Member, with_member, oldest_in}
+use Rattle.pager_model.specs.Ages.{Member, first_oldest, with_member, oldest_in}
 use Rattle.pager_model.specs.Extents.{extent_start}
 use Rattle.pager_model.specs.FreeBlocks.{choice, with_range}
 use Rattle.pager_model.specs.PreferredSize.{preferred_among}
@@ -116,14 +116,16 @@ abbrev pub list_of : SizeSet → List Bool → ℕ → List (Option Reservation)
 list_of z used k [] = []
 list_of z used k (r ∷ rs) = with_listed z used k r (list_of z used k rs)
 
+abbrev pub lists_of : Layout → ℕ → List Member
+lists_of l k = list_of l.sizes l.used k l.records
+
 -- the first frame of the oldest reservation of list k
 abbrev pub oldest_of : Layout → ℕ → Option ℕ
-oldest_of l k = oldest_in (list_of l.sizes l.used k l.records)
+oldest_of l k = oldest_in (lists_of l k)
 
 -- that of the first list that isn't empty, of the count lists from k on
 abbrev pub oldest_from : Layout → ℕ → ℕ → Option ℕ
-oldest_from l k zero = None
-oldest_from l k (suc count) = option_or (oldest_of l k) (oldest_from l (k + 1) count)
+oldest_from l k count = first_oldest (lists_of l) k count
 
 -- The reservation that is broken for an extent of size k: the oldest of the first of the lists k to 2 that isn't empty. A list of a
 -- size that there isn't is empty, and so is that of the largest size, since a reservation has a used place.

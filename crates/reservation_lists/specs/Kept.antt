@@ -1,8 +1,7 @@
 -- The lists of reservations as they are kept in memory that is taken once.
-use Rattle.std.specs.Prelude.{ℕ, zero, suc, ◌+◌, true, false, ◌≡◌, ◌≢◌, ◌<◌, ◌≤◌, Bool, ◌&&◌, ◌||◌, ◌==◌, not, filter, length, List, [], All, AllPairs, Option, Some, None, IfSome, slice_index_or}
+use Rattle.std.specs.Prelude.{ℕ, true, false, ◌≡◌, ◌≢◌, ◌<◌, ◌≤◌, Bool, ◌&&◌, ◌||◌, ◌==◌, not, filter, length, List, [], All, AllPairs, Option, Some, None, IfSome, slice_index_or}
 use Rattle.std.specs.List.{list_any}
-use Rattle.std.specs.Option.{option_or}
-use Rattle.pager_model.specs.Ages.{Member, Lists, is_before, list_at, oldest_in, with_list, with_member}
+use Rattle.pager_model.specs.Ages.{Member, Lists, is_before, list_at, with_list, with_member}
 use Rattle.reservation_lists.specs.declared.listed.Listed.{Listed}
 use Rattle.reservation_lists.specs.declared.Lists.TheInside.{Inside}
 
@@ -14,11 +13,6 @@ pub record KeptLists : Type 0 where
 -- the lists as the fields have them
 abbrev pub lists_in : Inside → Lists
 lists_in l = record { base = l.base.items; small = l.small.items; middle = l.middle.items }
-
--- the first frame of the oldest member of the first list that isn't empty, of the count lists from k on
-abbrev pub first_oldest : Lists → ℕ → ℕ → Option ℕ
-first_oldest lists k zero = None
-first_oldest lists k (suc count) = option_or (oldest_in (list_at lists k)) (first_oldest lists (k + 1) count)
 
 abbrev pub no_members : Lists
 no_members = record { base = []; small = []; middle = [] }

@@ -1,15 +1,16 @@
 //! The lists of reservations by age: one for each size of extent that a reservation can give back.
 //!
 //! A reservation that isn't full stands in the list of its yield, the largest size of an extent inside it without a used
-//! place. Each list is a vector in order of the stamp and then of the first frame, in memory that `create` took: its first
-//! member is the one to break, and a member's place is searched for by halves. Beside the lists stands for each frame which list
-//! has the reservation that begins at it, and by which stamp; so one is taken out with nothing asked but its first frame.
+//! place. Each list is a vector in order of the stamp and then of the first frame, in memory that `create` took. The reservation to break
+//! is the first member of the first list that isn't empty, from that of the wanted size on. A member's place is searched for by
+//! halves. Beside the lists stands for each frame which list has the reservation that begins at it, and by which stamp; so one is taken out
+//! with nothing asked but its first frame.
 #![tactic(auto)]
 
 ghost use Rattle.std.specs.Prelude.{◌≡◌, ◌-◌, ◌<◌, ◌≤◌, IfOk, vec_len, vec_capacity, true, false, if◌then◌else◌, Some};
 ghost use Rattle.std.specs.List.{prefix_len};
-ghost use Rattle.pager_model.specs.Ages.{is_before, list_at, oldest_in, with_list, with_member};
-ghost use Rattle.reservation_lists.specs.Kept.{Differ, IsInOrder, first_oldest, has_member_of, is_listed, moved_to, no_members, without_frame, without_member, without_member_of};
+ghost use Rattle.pager_model.specs.Ages.{first_oldest, is_before, list_at, oldest_in, with_list, with_member};
+ghost use Rattle.reservation_lists.specs.Kept.{Differ, IsInOrder, has_member_of, is_listed, moved_to, no_members, without_frame, without_member, without_member_of};
 
 mod listed;
 
@@ -224,9 +225,10 @@ impl Lists {
         list.first().map(|m| m.frame)
     }
 
-    /// The first frame of the oldest reservation of the first list that isn't empty, from that of a size on.
+    /// The first frame of the oldest reservation of the first list that isn't empty, from that of a size on; None where all these are
+    /// empty, and for the largest size, which has no list.
     pub fn first_oldest(&self, size: Size) -> Option<u32>
-        ensures { result ≡ first_oldest self.now.lists size (3 - size) }
+        ensures { result ≡ first_oldest (list_at self.now.lists) size (3 - size) }
     {
         for level in size.level()..3 {
             let oldest = self.oldest(Size::at_level(level));

@@ -11,7 +11,7 @@ returns-then-is_some c =
     let small : k < 3 = c.loop-level-test.true in
     let oldest : c.oldest-oldest.result ≡ oldest_in (list_at lists k) = c.oldest-oldest.ensures ∙ ap (λ s. oldest_in (list_at lists s)) c.at_level.ensures in
     let some : is_some (oldest_in (list_at lists k)) ≡ true = sym (ap is_some oldest) ∙ sym c.is_some.ensures ∙ c.if-is_some.true in
-    oldest ∙ sym (first_oldest-some lists k (3 - k) (omega arith) some) ∙ c.loop-level.invariant
+    oldest ∙ sym (first_oldest-some (list_at lists) k (3 - k) (omega arith) some) ∙ c.loop-level.invariant
 
 pub loop-level-preserved : goal.loop-level-preserved
 loop-level-preserved c =
@@ -21,4 +21,4 @@ loop-level-preserved c =
     let oldest : c.oldest-oldest.result ≡ oldest_in (list_at lists k) = c.oldest-oldest.ensures ∙ ap (λ s. oldest_in (list_at lists s)) c.at_level.ensures in
     let none : is_some (oldest_in (list_at lists k)) ≡ false = sym (ap is_some oldest) ∙ sym c.is_some.ensures ∙ c.if-is_some.false in
     let count : 3 - k ≡ suc (3 - (k + 1)) = omega arith in
-    sym (first_oldest-later lists k (3 - k) (3 - (k + 1)) count none) ∙ c.loop-level.invariant
+    sym (first_oldest-later (list_at lists) k (3 - k) (3 - (k + 1)) count none) ∙ c.loop-level.invariant
