@@ -3,3 +3,4 @@ mod command;
 mod folders;
 mod machine;
 mod replay;
+mod shared;

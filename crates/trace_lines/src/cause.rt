@@ -11,7 +11,7 @@ pub enum LineCause {
     Number,
     /// The leftmost place at fault holds a number that is out of its range.
     Range,
-    /// It stands behind the line `end`.
+    /// It stands behind the line `end`. No function here tells it: who reads the whole text does.
     After,
 }
 

@@ -9,8 +9,9 @@ use std::process::Abort;
 const FRAMES: u32 = 4096;
 
 /// Steps on new lists: `in` with a level, a stamp and a frame puts a member in, `to` with these moves it there, `out` with a frame
-/// takes one out, and `next` with a level takes the oldest out, which is that of the frame, or none.
-static STEPS: [&str; 10] = [
+/// takes one out, and `next` with a level takes the oldest out, which is that of the frame, or none. `first` with a
+/// level tells the oldest of the first list that isn't empty, from that level on, or none, and takes none out.
+static STEPS: [&str; 11] = [
     // The oldest comes first, whatever the order of insertion.
     "in 0 30 2, in 0 10 8, in 0 40 0, in 0 20 63, next 0 8, next 0 63, next 0 2, next 0 0, next 0 -",
     // Of equal stamps the lowest frame comes first.
@@ -31,6 +32,8 @@ static STEPS: [&str; 10] = [
     "in 0 7 1, in 0 8 2, to 0 9 1, to 0 6 1, next 0 1, next 0 2, in 0 5 4, in 0 6 8, to 0 5 8, to 0 5 3, next 0 3, next 0 4, next 0 8",
     // One goes from list to list, and one that stood in none comes in.
     "in 0 7 1, to 2 7 1, next 0 -, to 1 7 1, next 2 -, next 1 1, to 1 3 5, next 1 5, next 1 -",
+    // An earlier list comes before a later one, though that has an older member; the largest size has no list.
+    "first 0 -, in 2 1 8, in 1 9 16, first 0 16, first 1 16, first 2 8, first 3 -, in 0 10 1, first 0 1, first 1 16",
 ];
 
 /// Puts a member of a frame in, which has no other then, or moves it there.
@@ -78,6 +81,7 @@ fn goes(rt: &impl Abort, lists: &mut Lists, step: &str) -> bool
             lists.remove(frame);
             true
         }
+        "first" => lists.first_oldest(size(level)) == number(second),
         _ => take_oldest(lists, level) == number(second),
     }
 }
