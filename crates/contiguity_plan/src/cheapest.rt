@@ -1,6 +1,6 @@
 //! Which of a size's extents is emptied at the least cost.
 
-ghost use Rattle.std.specs.Prelude.{◌≡◌, ℕ, ◌+◌, ◌*◌, ◌/◌, ◌<◌, ◌≤◌, ◌^◌, ◌++◌, Option, OnOk, IfOk, if◌then◌else◌, is_some};
+ghost use Rattle.std.specs.Prelude.{◌≡◌, ℕ, ◌+◌, ◌*◌, ◌/◌, ◌<◌, ◌≤◌, ◌++◌, Option, OnOk, IfOk, if◌then◌else◌, is_some};
 ghost use Rattle.std.specs.List.{list_any, range_with_len};
 ghost use Rattle.pager_model.specs.Options.{is_that};
 ghost use Rattle.contiguity_plan.specs.Costs.{is_kept, stays, has_use, page_list, pages_in, emptying, IsBest};

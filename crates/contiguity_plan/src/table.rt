@@ -1,18 +1,18 @@
 //! The use of each frame, as a history leaves it.
 
-ghost use Rattle.std.specs.Prelude.{◌≡◌, ◌≢◌, ℕ, ◌+◌, ◌^◌, ◌<◌, ◌≤◌, ◌++◌, ◌∷◌, [], List, length, Some, None, IfOk, IfSome, OnOk, IsSome, IsSomeAnd, slice_index_or, slice_set};
+ghost use Rattle.std.specs.Prelude.{◌≡◌, ℕ, ◌+◌, ◌^◌, ◌<◌, ◌≤◌, ◌++◌, ◌∷◌, [], List, length, Some, None, IfOk, OnOk, IsSome, IsSomeAnd, slice_set};
 ghost use Rattle.std.specs.List.{All};
 ghost use Rattle.pager_model.specs.Bounds.{most_spaces, most_actors};
 ghost use Rattle.pager_model.specs.declared.entry.Entry.{Entry as Item};
 ghost use Rattle.pager_model.specs.declared.entry.Numbered.{Numbered as NumberedItem};
-ghost use Rattle.pager_model.specs.FrameStates.{FrameState, start_frames, frame_of, take_frame, state_taken, held_given, give_if_used, give_range, claimed, dropped, moved_by_answer, moved, counted, AllowsAnswer, FramesAllow, named_space};
+ghost use Rattle.pager_model.specs.FrameStates.{FrameState, start_frames, frame_of, take_frame, state_taken, held_given, give_if_used, give_range, claimed, dropped, moved_by_answer, moved, AllowsAnswer, FramesAllow, named_space};
 ghost use Rattle.pager_model.specs.Legal.{IsLegal, MayFollow, frames_at, entries_in};
 ghost use Rattle.pager_model.specs.Settings.{Given};
 ghost use Rattle.pager_model.specs.SizeSets.{SizeSet};
 ghost use Rattle.pager_laws.specs.Laid.{IsSound};
 ghost use Rattle.contiguity_plan.specs.Emptying.{IsPlanned};
 ghost use Rattle.contiguity_plan.specs.Places.{place_in, place_count};
-ghost use Rattle.contiguity_plan.specs.Tables.{use_in, use_for, claim_of, reclaimed, evicted, IsRight};
+ghost use Rattle.contiguity_plan.specs.Tables.{use_in, claim_of, reclaimed, evicted, IsRight};
 
 use crate::cheapest::{cheapest, pages_of};
 use crate::places::{self, Places};

@@ -2,7 +2,6 @@
 
 ghost use Rattle.std.specs.Prelude.{◌<◌, length};
 ghost use Rattle.std.specs.List.{AllByRecursion};
-ghost use Rattle.pager_core.specs.Running.{IsLawful};
 ghost use Rattle.replay_core.specs.Turns.{IsStuck, FirstStepped};
 
 use pager_core::{Machine, Turn};

@@ -1,4 +1,4 @@
-ghost use Rattle.std.specs.Prelude.{◌≡◌, ◌≢◌, ◌∷◌, [], length, map, slice_set, slice_index_or, ℕ, ◌+◌, ◌<◌, ◌≤◌, Bool, true, false, Some, None, IfOk, IfErr, IfSome, IfNone, IsSome};
+ghost use Rattle.std.specs.Prelude.{◌≡◌, ◌≢◌, ◌∷◌, [], length, map, ℕ, ◌+◌, ◌<◌, ◌≤◌, Bool, true, false, Some, None, IfOk, IfErr, IfSome, IfNone, IsSome};
 ghost use Rattle.pager_model.specs.declared.region.Region.{Region as Item};
 ghost use Rattle.pager_model.specs.Flat.{page_of, space_of_call};
 ghost use Rattle.pager_model.specs.Order.{is_access};

@@ -1,12 +1,11 @@
 //! The image of one processor. It takes all its memory where it is created.
 
-ghost use Rattle.std.specs.Prelude.{◌≡◌, ◌<◌, ◌≤◌, [], ◌∷◌, ◌||◌, ◌+◌, not, Bool, true, false, Some, length, filter, count_by, slice_index_or, remove, IfOk};
+ghost use Rattle.std.specs.Prelude.{◌≡◌, ◌<◌, ◌≤◌, [], ◌∷◌, ◌+◌, Bool, true, false, Some, length, filter, count_by, slice_index_or, remove, IfOk};
 ghost use Rattle.std.specs.Fn.{FnReturnsAt};
 ghost use Rattle.std.specs.Option.{option_to_list};
 ghost use Rattle.std.specs.List.{list_any, position};
 ghost use Rattle.pager_model.specs.declared.tile.Tile.{Tile as Item};
 ghost use Rattle.pager_model.specs.Images.{image_room, is_in_image, touched};
-ghost use Rattle.pager_model.specs.Regions.{in_range};
 ghost use Rattle.pager_model.specs.Tiles.{same_tile};
 ghost use Rattle.tlb_images.specs.Image.{IsImage, AnswersTest, begins_in};
 

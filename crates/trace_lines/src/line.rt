@@ -1,7 +1,7 @@
 //! Lines: the first one, a daemon's, and those of calls.
-ghost use Rattle.std.specs.Prelude.{◌≡◌, ◌<◌, ◌≤◌, ◌%◌, ◌∷◌, [], List, ℕ, true, false, Some, IfSome, IfNone, Ok, IfOk, IfErr, OnOk, codes, decimal};
+ghost use Rattle.std.specs.Prelude.{◌≡◌, ◌<◌, ◌≤◌, ◌∷◌, [], List, ℕ, false, Some, IfSome, IfNone, Ok, IfOk, IfErr, codes, decimal};
 ghost use Rattle.std.specs.Str.{bytes_eq};
-ghost use Rattle.pager_model.specs.TraceText.{IsDaemon, IsLine, IsVersion, line_words, first_words, daemon_words};
+ghost use Rattle.pager_model.specs.TraceText.{IsDaemon, IsVersion, first_words, daemon_words};
 ghost use Rattle.trace_lines.specs.Forms.{Place, Number, number_in, fits, leftmost, line_fault, first_forms, first_places, daemon_form, page, pages, map_form, grow_form, protect_form, load_form, store_form, call_forms};
 ghost use Rattle.trace_lines.specs.declared.line.Name.{Name};
 ghost use Rattle.trace_lines.specs.Heads.{IsInRange, IsRead, word_of_name};
@@ -23,10 +23,15 @@ const ADDRESSES: u64 = 8_589_934_592;
 /// What a trace's first line says.
 #[derive(Drop)]
 pub struct Head {
+    /// 1 or 2.
     pub version: u32,
+    /// A multiple of 512, from 512 to 32,768.
     pub frames: u32,
+    /// From 1 to 16.
     pub processors: u32,
+    /// From 1 to 16.
     pub spaces: u32,
+    /// All four in version 1.
     pub sizes: Sizes,
 }
 

@@ -24,7 +24,7 @@ pub(crate) struct Note {
 const _: () = prove!(size_of::<Note>() == 16);
 
 impl Model for Note {
-    ghost use Rattle.std.specs.Prelude.{ℕ, Option, None, false, is_some, unwrap_or};
+    ghost use Rattle.std.specs.Prelude.{Option, false, is_some, unwrap_or};
     ghost use Rattle.std.specs.Option.{option_map};
     ghost use Rattle.pager_model.specs.declared.reservation.Used.{Used};
     ghost use Rattle.pager_model.specs.FrameStates.{claim_in};

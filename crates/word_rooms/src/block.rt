@@ -1,5 +1,5 @@
 //! A block of memory that rooms share: 65,537 words, of which the first counts the rooms.
-ghost use Rattle.std.specs.Prelude.{◌≡◌, ◌+◌, ◌<◌, ◌≤◌, [], length, IfOk};
+ghost use Rattle.std.specs.Prelude.{◌≡◌, ◌+◌, ◌<◌, ◌≤◌, [], IfOk};
 ghost use Rattle.std.specs.Vec.{vec_ptr, vec_capacity};
 ghost use Rattle.std.specs.Borrow.{sem, u64};
 ghost use denote.RawPtr.{Ptr};

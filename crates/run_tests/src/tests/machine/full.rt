@@ -1,6 +1,6 @@
 //! A store whose writes find no memory.
 
-ghost use Rattle.std.specs.Prelude.{true, List, [], Some};
+ghost use Rattle.std.specs.Prelude.{true, [], Some};
 
 use store_core::{Copied, Store, StoreFailed, WriteRefused};
 

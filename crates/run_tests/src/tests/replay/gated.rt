@@ -1,6 +1,6 @@
 //! A store whose calls wait for a call of another store.
 
-ghost use Rattle.std.specs.Prelude.{◌-◌, ◌^◌, ◌≤◌, false, List, [], None};
+ghost use Rattle.std.specs.Prelude.{◌-◌, ◌^◌, ◌≤◌, false, [], None};
 
 use crate::tests::machine::NO_MEMORY;
 use std::process::Abort;
