@@ -20,8 +20,8 @@ use crate::changed::Changed;
 use crate::reply::is_lawful;
 use page_rights::PageRights;
 use pager_model::{
-    Call, Entry, Kind, Mapping, NoMemory, PageRange, Region, Reply, Rights, Sizes, Tile, What,
-    page_of,
+    Call, Entry, Kind, LARGEST, Mapping, NoMemory, PageRange, Region, Reply, Rights, Sizes, Tile,
+    What, page_of,
 };
 use region_table::Regions;
 use std::alloc::Global;
@@ -29,9 +29,6 @@ use std::marker::{Brand, Model};
 use std::sync::ledger::Blank;
 use tiles::Base;
 use tiles::counted::{after_dirty, after_fill, after_remove};
-
-/// The pages of the largest extent.
-const BLOCK: u32 = 512;
 
 /// The regions of a space, the rights of its pages and its resident pages with their tiles.
 #[derive(Drop)]
@@ -345,8 +342,8 @@ fn blocks_round(first: u32, length: u32) -> PageRange
     ensures in_space { IsInSpace result }
     ensures round { (p q : ℕ) → in_range first length p ≡ true → q / 512 ≡ p / 512 → is_touched result q ≡ true }
 {
-    let from = first / BLOCK * BLOCK;
-    let end = (first + length).div_ceil(BLOCK) * BLOCK;
+    let from = first / LARGEST * LARGEST;
+    let end = (first + length).div_ceil(LARGEST) * LARGEST;
     PageRange {
         first: from,
         length: end - from,

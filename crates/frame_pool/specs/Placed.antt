@@ -19,23 +19,12 @@ CanBreak l id = IsSomeAnd (record_at l id) (λ r. (0 < r.size) × IsSome (yield_
 
 -- the layout without the frames of the extent that was found in it
 abbrev pub without_extent : Found → Layout
-without_extent found =
-    record {
-      sizes = found.layout.sizes;
-      free = with_range found.layout.free found.first (8 ^ found.size) false;
-      records = found.layout.records;
-      used = found.layout.used;
-    }
+without_extent found = record found.layout { free = with_range found.layout.free found.first (8 ^ found.size) false }
 
 -- the layout with one reservation more, whose used place is the page's
 abbrev pub with_reservation : Reservation → ℕ → Layout → Layout
 with_reservation r page l =
-    record {
-      sizes = l.sizes;
-      free = l.free;
-      records = slice_set l.records r.frame (Some r);
-      used = slice_set l.used (frame_for page r) true;
-    }
+    record l { records = slice_set l.records r.frame (Some r); used = slice_set l.used (frame_for page r) true }
 
 -- The extent is the one that the definition finds: its frames are free no more, and in no reservation yet.
 pub record FindsExtent (new : Layout) (finds : Option Found) (size first broken : ℕ) : Type 0 where

@@ -8,7 +8,7 @@ use Rattle.pager_model.specs.SizeSets.{SizeSet}
 
 -- the layout with these free frames
 abbrev pub with_free : List Bool → Layout → Layout
-with_free free l = record { sizes = l.sizes; free = free; records = l.records; used = l.used }
+with_free free l = record l { free = free }
 
 -- over so many frames, by these sizes, no frame is free and there is no reservation
 abbrev pub none_reserved : SizeSet → ℕ → Layout
@@ -17,12 +17,7 @@ none_reserved z frames = record { sizes = z; free = replicate frames false; reco
 -- a used place of a reservation is used no more, and a reservation without a used place is none any more
 abbrev pub without_place : ℕ → Reservation → Layout → Layout
 without_place frame r l =
-    record {
-      sizes = l.sizes;
-      free = l.free;
-      records = if is_last frame r l then slice_set l.records r.frame None else l.records;
-      used = slice_set l.used frame false;
-    }
+    record l { records = if is_last frame r l then slice_set l.records r.frame None else l.records; used = slice_set l.used frame false }
 
 -- The used frame is a used place no more. Where its reservation had no other used place, it went, and its frames are told.
 pub record Vacates (old new : Layout) (frame : ℕ) (told : Option Extent) : Type 0 where

@@ -80,6 +80,7 @@ pub fn create(alloc: Global, setting: Setting, rooms: &[usize]) -> Result<Opened
     })
 }
 
+/// The room of all passes.
 fn total(rooms: &[usize]) -> usize
     requires { (length rooms.now ≤ most_actors) × All (λ r. r ≤ 2 ^ 31) rooms.now }
     ensures { result ≡ sum rooms.now }

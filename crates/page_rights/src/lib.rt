@@ -18,12 +18,9 @@ ghost use Rattle.page_rights.specs.declared.block.Block.TheVariants.{Mixed};
 mod block;
 
 use block::Block;
-use pager_model::{NoMemory, Rights};
+use pager_model::{LARGEST, NoMemory, Rights};
 use std::alloc::Global;
 use std::marker::Model;
-
-/// The pages of a block.
-const BLOCK_PAGES: u32 = 512;
 
 /// The blocks of a space.
 const BLOCKS: usize = 2048;
@@ -63,9 +60,9 @@ impl PageRights {
         requires { page < space_pages }
         ensures { result ≡ rights_of self.now page }
     {
-        match self.blocks[(page / BLOCK_PAGES) as usize] {
+        match self.blocks[(page / LARGEST) as usize] {
             Block::Uniform { rights, .. } => rights,
-            Block::Mixed { leaf } => self.leaves[leaf as usize][(page % BLOCK_PAGES) as usize],
+            Block::Mixed { leaf } => self.leaves[leaf as usize][(page % LARGEST) as usize],
         }
     }
 
@@ -74,7 +71,7 @@ impl PageRights {
         requires { first + length ≤ space_pages }
         ensures { (p : ℕ) → rights_of self.new p ≡ (if in_range first length p then rights else rights_of self.old p) }
     {
-        for block in first / BLOCK_PAGES..(first + length).div_ceil(BLOCK_PAGES) {
+        for block in first / LARGEST..(first + length).div_ceil(LARGEST) {
             self.set_in_block(block, first, length, rights);
         }
     }
@@ -87,10 +84,10 @@ impl PageRights {
         requires to { block * 512 ≤ first + length }
         ensures { (p : ℕ) → rights_of self.new p ≡ (if in_range first length p && (p / 512 == block) then rights else rights_of self.old p) }
     {
-        let start = block * BLOCK_PAGES;
+        let start = block * LARGEST;
         let from = first.max(start) - start;
-        let end = (first + length).min(start + BLOCK_PAGES) - start;
-        if from == 0 && end == BLOCK_PAGES {
+        let end = (first + length).min(start + LARGEST) - start;
+        if from == 0 && end == LARGEST {
             self.set_whole(block, rights);
         } else {
             self.set_part(block, from, end, rights);

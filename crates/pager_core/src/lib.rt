@@ -7,5 +7,5 @@ mod jobs;
 mod machine;
 mod run_parts;
 
-pub use machine::{Machine, Turn};
+pub use machine::{ENTRIES_OF_CALL, Machine, Turn};
 pub use run_parts::{Gathered, RunRoom, SpaceRooms, jobs_by_processor, marks_of};

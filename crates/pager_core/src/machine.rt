@@ -238,7 +238,7 @@ impl<'a, S: Store + Send + Drop> Machine<'a, S> {
 }
 
 /// At most how many entries a call makes.
-const ENTRIES_OF_CALL: usize = 8;
+pub const ENTRIES_OF_CALL: usize = 8;
 
 /// What a machine is made of, beside its stores.
 #[derive(Drop)]

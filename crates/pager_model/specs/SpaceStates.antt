@@ -142,12 +142,10 @@ used_tile z pages what = None
 
 abbrev pub space_after : SpaceState → Entry → SpaceState
 space_after st e =
-    record {
-      sizes = st.sizes;
+    record st {
       flat = flat_after st.flat e.what;
       base = base_after st.base e.frames e.what;
       next = next_after e.processor e.what;
-      told = st.told;
       tied = tied_after st.tied e.what;
       highest = highest_after st.highest e.what;
       images = images_with st.sizes (pages_after st e.frames e.what) e.processor

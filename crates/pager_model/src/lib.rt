@@ -30,7 +30,7 @@ pub use address::{PAGE_BYTES, WORD_BYTES, page_of, word_of};
 pub use bounds::{MOST_ACTORS, MOST_CALLS, MOST_FRAMES, MOST_PROCESSORS, MOST_SPACES};
 pub use call::{Call, Line};
 pub use entry::{Entry, Need, Numbered, Victim, Want, What};
-pub use extent::{Extent, PAGES};
+pub use extent::{Extent, LARGEST, PAGES};
 pub use frame::{Frame, NoMemory, WORDS, frames_of};
 pub use generator::Generator;
 pub use optional_index::OptionalIndex;

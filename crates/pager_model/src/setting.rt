@@ -48,13 +48,6 @@ impl Setting {
         Setting { sizes, ..self }
     }
 
-    /// Which page sizes there are.
-    pub fn sizes(&self) -> Sizes
-        ensures { result ≡ self.now.sizes }
-    {
-        self.sizes
-    }
-
     /// The number of spaces.
     pub fn spaces(&self) -> usize
         ensures { result ≡ length self.now.told }

@@ -26,9 +26,6 @@ use std::alloc::Global;
 use std::marker::{Brand, Model};
 use std::sync::ledger::{Blank, Ledger};
 
-/// How many spaces a map has at most.
-pub const MOST_SPACES: u32 = 1024;
-
 /// The extents of 512 pages of a space.
 const ROOTS: u32 = 2048;
 
@@ -65,7 +62,7 @@ fn page_at(space: u32, page: u32) -> u32
 }
 
 impl PopulationMap {
-    /// A map over this many spaces, at most `MOST_SPACES`, in which no extent is placed, with room to place extents of this many pages
+    /// A map over this many spaces, at most 1,024, in which no extent is placed, with room to place extents of this many pages
     /// together.
     pub fn create(alloc: Global, spaces: u32, frames: u32) -> Result<PopulationMap, NoMemory>
         requires spaces { spaces ≤ 1024 }

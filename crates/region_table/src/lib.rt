@@ -11,8 +11,7 @@ ghost use Rattle.region_table.specs.Table.{IsTable, region_of};
 ghost use Rattle.pager_model.specs.Bounds.{space_pages};
 
 use arrayvec::ArrayVec;
-pub use pager_model::Region;
-use pager_model::{Kind, PAGES, Reply, Rights};
+use pager_model::{Kind, PAGES, Region, Reply, Rights};
 use std::marker::Model;
 
 /// The most regions that a space may have.

@@ -10,7 +10,7 @@ ghost use Rattle.replay_core.specs.Jobs.{jobs_in, room_for};
 ghost use Rattle.replay_core.specs.Replays.{IsReplay, AreItsCounts};
 
 use crate::jobs::{Worker, run_jobs};
-use pager_core::{Gathered, jobs_by_processor, marks_of};
+use pager_core::{ENTRIES_OF_CALL, Gathered, jobs_by_processor, marks_of};
 use pager_locks::Prepared;
 use pager_model::{Job, NoMemory, Trace};
 use std::alloc::Global;
@@ -18,9 +18,6 @@ use std::marker::Brand;
 use std::sync::Wait;
 use std::thread::Threads;
 use store_core::Store;
-
-/// At most how many entries a call makes.
-const ENTRIES_OF_CALL: usize = 8;
 
 /// Runs a trace with a thread for each processor, which makes its calls in order, and one for the daemon, which makes its turns; the order of
 /// their steps is the one in which the threads come to the locks. There are at least as many stores as spaces, and they come back for want of

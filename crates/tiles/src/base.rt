@@ -18,13 +18,10 @@ use crate::moves::Moves;
 use crate::pages::Pages;
 use crate::tile_list::part_from;
 use page_map::Entry;
-use pager_model::{Mapping, NoMemory, PageRange, Rights, Size, Sizes, Steps, Tile};
+use pager_model::{LARGEST, Mapping, NoMemory, PageRange, Rights, Size, Sizes, Steps, Tile};
 use std::alloc::Global;
 use std::marker::{Brand, Model};
 use std::sync::ledger::{Blank, Ledger};
-
-/// The pages of the largest extent.
-const BLOCK: u32 = 512;
 
 /// What a resident page is mapped by: its mapping, and the tile that it lies in.
 #[derive(Clone, Copy, Debug, PartialEq, Eq)]
@@ -299,8 +296,8 @@ impl Base {
         ensures sizes { AreSizesOfBlock sizes block result (mapping_at self.now) }
         ensures small { (i : ℕ) → i < 64 → slice_index result i ≤ 3 }
     {
-        let first = block * BLOCK;
-        let end = first + BLOCK;
+        let first = block * LARGEST;
+        let end = first + LARGEST;
         let mut levels = [0; 64];
         let mut from = first;
         while let Some(entry) = self.pages.next(from, end) {
@@ -327,13 +324,13 @@ impl Base {
         let after = self.sizes_of_block(block, sizes);
         let mut moves = Moves::NONE;
         for i in 0..64 {
-            let page = block * BLOCK + 8 * i as u32;
+            let page = block * LARGEST + 8 * i as u32;
             moves = moves.and(Moves::at(page, before[i], after[i]));
         }
         Moves {
             touched: PageRange {
-                first: block * BLOCK,
-                length: BLOCK,
+                first: block * LARGEST,
+                length: LARGEST,
             },
             ..moves
         }
@@ -355,8 +352,8 @@ impl Base {
         ensures protects { ProtectsInBlock block first length rights self.old self.new }
         ensures moves { AreMovesIn sizes (mapping_at self.old) (mapping_at self.new) result }
     {
-        let from = first.max(block * BLOCK);
-        let end = (first + length).min(block * BLOCK + BLOCK);
+        let from = first.max(block * LARGEST);
+        let end = (first + length).min(block * LARGEST + LARGEST);
         if !self.any_has_other_rights(from, end, rights) {
             return Moves::NONE;
         }
@@ -375,9 +372,9 @@ impl Base {
     {
         let end = first + length;
         let mut moves = Moves::NONE;
-        let mut from = first / BLOCK;
-        while let Some(page) = self.next_resident(first.max(from * BLOCK), end) {
-            let block = page / BLOCK;
+        let mut from = first / LARGEST;
+        while let Some(page) = self.next_resident(first.max(from * LARGEST), end) {
+            let block = page / LARGEST;
             moves = moves.and(self.after_rights_in_block(block, first, length, rights, sizes));
             from = block + 1;
         }

@@ -13,5 +13,4 @@ mod text;
 
 pub use fault::TraceFault;
 pub use input::read_trace;
-pub use text::{MAX_BYTES, MAX_CALLS, parse};
 pub use trace_lines::LineCause;
