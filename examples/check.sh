@@ -188,7 +188,7 @@ compare_drawn drawn-with-ample-frames --seeds 1..20 --forms order,turns
 compare_drawn drawn-with-few-frames --seeds 251..270 --forms order,turns
 compare_drawn drawn-by-page-sizes --seeds 501..504 --sizes all
 compare_drawn drawn-short-of-frames --seeds 1..3 --short
-compare_drawn drawn-short-of-slots-in-threads --seeds 18..18 --short --forms replay --swap 4
+compare_drawn drawn-short-of-slots-in-threads --seeds 1..25 --short --forms replay --swap 4
 compare_drawn drawn-curves --seeds 1..3 --forms curve
 compare_drawn drawn-curves-by-sizes --seeds 1..1 --forms curve --sizes 02,0123
 compare_drawn drawn-plans --seeds 251..253 --forms plan1,plan2,plan3
