@@ -142,6 +142,8 @@ impl Store for MemoryStore {
 
     ghost reads = { λ s. s.reads };
 
+    ghost writes = { λ s. s.writes };
+
     fn read(&mut self, page: u32, words: &mut [u64]) -> Result<Copied, StoreFailed>
         requires count { length words.old ≡ 1024 }
 
@@ -151,6 +153,8 @@ impl Store for MemoryStore {
             → IfSome (copy_at (stored_of self.old) page) (λ copy. copied_words copied words.new ≡ copy)) }
         ensures same { SameCopies (stored_of self.old) (stored_of self.new) }
         ensures counted { self.new.reads ≡ one_more self.old.reads }
+        ensures unwritten { self.new.writes ≡ self.old.writes }
+        ensures unfailed { IfOk result (λ _. self.new.faults ≡ self.old.faults) }
         ensures rose { OnErr result (Rises self.old.faults self.new.faults) }
         ensures never_falls { self.old.faults ≤ self.new.faults }
         ensures capped { self.new.faults ≤ 2 ^ 64 - 1 }
@@ -185,7 +189,9 @@ impl Store for MemoryStore {
         ensures no_memory { result ≡ Err WriteRefused.NoMemory
             → (keeps_at (stored_of self.old) page ≡ false) × SameCopies (stored_of self.old) (stored_of self.new)
             × (self.new.faults ≡ self.old.faults) }
+        ensures counted { self.new.writes ≡ one_more self.old.writes }
         ensures unread { self.new.reads ≡ self.old.reads }
+        ensures unfailed { IfOk result (λ _. self.new.faults ≡ self.old.faults) }
         ensures never_falls { self.old.faults ≤ self.new.faults }
         ensures capped { self.new.faults ≤ 2 ^ 64 - 1 }
 
@@ -218,6 +224,7 @@ impl Store for MemoryStore {
         // As at any store.
         ensures dropped { DropsCopies first length (stored_of self.old) (stored_of self.new) }
         ensures unread { self.new.reads ≡ self.old.reads }
+        ensures unwritten { self.new.writes ≡ self.old.writes }
 
         // It keeps none of the pages.
         ensures state { self.new ≡ record self.old {

@@ -43,14 +43,17 @@ impl From<NoMemory> for WriteRefused {
 
 /// What keeps a copy of each page of a space. Each page begins with a copy of zero words.
 ///
-/// It counts its faults: a call that fails raises the count, so whoever passes a failure on can show where it came from. And it counts its
-/// reads, so whoever says that it read once can be held to it.
+/// It counts its faults: a call that fails raises the count, and no other does, so whoever passes a failure on can show where it came from. And it
+/// counts its reads and its writes, so whoever says that it read or wrote once can be held to it.
 pub trait Store {
     // What contracts see of it.
     ghost seen: { Self → Stored };
 
     // How many reads there were of it.
     ghost reads: { Self → ℕ };
+
+    // How many writes there were of it, those that were refused among them.
+    ghost writes: { Self → ℕ };
 
     /// Reads the copy of a page into `words`, or tells that it is zero. Where it fails, or the copy is unknown, `words` may be anything.
     fn read(&mut self, page: u32, words: &mut [u64]) -> Result<Copied, StoreFailed>
@@ -62,6 +65,8 @@ pub trait Store {
 
         ensures same { SameCopies (seen self.old) (seen self.new) }
         ensures counted { reads self.new ≡ one_more (reads self.old) }
+        ensures unwritten { writes self.new ≡ writes self.old }
+        ensures unfailed { IfOk result (λ _. (seen self.new).faults ≡ (seen self.old).faults) }
         ensures rose { OnErr result (Rises (seen self.old).faults (seen self.new).faults) }
         ensures never_falls { (seen self.old).faults ≤ (seen self.new).faults }
         ensures capped { (seen self.new).faults ≤ 2 ^ 64 - 1 };
@@ -76,14 +81,17 @@ pub trait Store {
         ensures no_memory { result ≡ Err WriteRefused.NoMemory
             → (keeps_at (seen self.old) page ≡ false) × SameCopies (seen self.old) (seen self.new)
             × ((seen self.new).faults ≡ (seen self.old).faults) }
+        ensures counted { writes self.new ≡ one_more (writes self.old) }
         ensures unread { reads self.new ≡ reads self.old }
+        ensures unfailed { IfOk result (λ _. (seen self.new).faults ≡ (seen self.old).faults) }
         ensures never_falls { (seen self.old).faults ≤ (seen self.new).faults }
         ensures capped { (seen self.new).faults ≤ 2 ^ 64 - 1 };
 
     /// Makes the copies of `length` pages from `first` on zero.
     fn drop_pages(&mut self, first: u32, length: u32)
         ensures dropped { DropsCopies first length (seen self.old) (seen self.new) }
-        ensures unread { reads self.new ≡ reads self.old };
+        ensures unread { reads self.new ≡ reads self.old }
+        ensures unwritten { writes self.new ≡ writes self.old };
 
     /// Whether it says that it tells its copies and that all of them are zero.
     fn told(&self) -> bool
