@@ -14,5 +14,6 @@ returns c =
       dropped = drops_copies _ _ _ _ c.drop_copies.new.copies.entries (ap (λ s. s.copies) c.self.view_is) _ _ left
           (ap (λ s. s.faults) c.self.view_is);
       unread = ap (λ s. s.reads) c.self.view_is;
+      unwritten = ap (λ s. s.writes) c.self.view_is;
       state = rw (← c.self.view_is, copies) refl;
     }
