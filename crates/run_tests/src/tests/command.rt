@@ -64,11 +64,11 @@ fn is_stopped<R: Abort + AllocGlobal + Threads + Wait + Sync>(
     told == wanted && sink.bytes().is_empty()
 }
 
-/// The trace of `examples/last-page`.
+/// The trace of `examples/runs/last-page`.
 const LAST_PAGE: &str = "trace 1 512 1 1; 0 map 0 1048575 1 fixed write; \
 0 store 0 8589934584 18446744073709551615; 0 load 0 8589934584; end";
 
-/// That of `examples/eight-pages`.
+/// That of `examples/lesson/eight-pages`.
 const EIGHT_PAGES: &str =
     "trace 1 512 1 1; 0 map 0 0 8 fixed write; 0 load 0 0; 7 times 8192: 0 load 0 #; end";
 

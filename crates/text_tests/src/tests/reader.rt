@@ -1,5 +1,5 @@
 //! Texts that are read and written again, reads that fail, and what is said of a fault. What text is a trace's, and how each other one is
-//! refused, is tried by `examples/grammar`.
+//! refused, is tried by `examples/refused/grammar`.
 
 use super::NO_MEMORY;
 use super::streams::sink_of;
