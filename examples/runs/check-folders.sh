@@ -2,7 +2,7 @@
 # Runs the built program with copies in files of a folder, as `--folder DIR` asks, and compares each run with the same over memory, or with
 # what stands here: over folders that are new, were used before, are missing, can't be written to or fill up, and after a run was killed.
 #
-#     examples/check-folders.sh PROGRAM
+#     examples/runs/check-folders.sh PROGRAM
 #
 # The folders are made in a temporary one. The last line is `N passed, M failed`, after a line for each run that could not be tried here.
 # The status is 1 where a run failed, or none was made.

@@ -1,6 +1,6 @@
 #!/bin/sh
 ''':'
-. "$(dirname "$0")/../tools/start.sh"
+. "$(dirname "$0")/../../tools/start.sh"
 '''
 # Prints a random trace in which every call has its turn and frames soon run short. `random_trace.py --help` says how.
 import argparse
@@ -8,13 +8,13 @@ import os
 import random
 import sys
 
-sys.path.insert(0, os.path.join(os.path.dirname(os.path.abspath(__file__)), os.pardir, 'tools'))
+sys.path.insert(0, os.path.join(os.path.dirname(os.path.abspath(__file__)), os.pardir, os.pardir, 'tools'))
 from common import end, number_in  # noqa: E402: it stands beside the tools
 
 HELP = """\
 Prints a random trace in which every call has its turn and frames soon run short.
 
-    examples/random_trace.py SEED CALLS FRAMES PROCESSORS SPACES LOADS [SIZES] >random.trace
+    examples/drawn/random_trace.py SEED CALLS FRAMES PROCESSORS SPACES LOADS [SIZES] >random.trace
 
 It begins with LOADS loads of as many pages, so that few frames are left, and has CALLS more calls, and a few beyond them where the last
 draw is a run of loads. Equal words give equal bytes. CALLS and LOADS are at most 130000 each, so that there are no more calls than a trace

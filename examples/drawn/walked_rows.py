@@ -1,7 +1,7 @@
 """Says which rows of the table of steps in docs/steps.md the drawn runs of run_tests don't walk: each is to be walked where a call has no
 victim or one in its own space, and where its victim is in another space, if it can be.
 
-    python3 examples/walked_rows.py
+    python3 examples/drawn/walked_rows.py
 
 A row shows in two entries of a call that come one behind the other; one that makes no entry shows in the entry that comes next.
 """
@@ -9,7 +9,7 @@ import os
 import re
 import sys
 
-RUNS = os.path.join(os.path.dirname(__file__), '..', 'crates', 'run_tests', 'src', 'tests', 'machine', 'drawn.rt')
+RUNS = os.path.join(os.path.dirname(__file__), '..', '..', 'crates', 'run_tests', 'src', 'tests', 'machine', 'drawn.rt')
 
 # The kinds of two entries, and the rows that lead from the first to the second.
 WALKS = """\

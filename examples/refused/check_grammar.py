@@ -1,6 +1,6 @@
 #!/bin/sh
 ''':'
-. "$(dirname "$0")/../tools/start.sh"
+. "$(dirname "$0")/../../tools/start.sh"
 '''
 # Tries the texts of `grammar` and some long ones on the built program. `check_grammar.py --help` says how.
 import argparse
@@ -12,7 +12,7 @@ import sys
 from typing import Iterator, List, Optional, Tuple
 
 EXAMPLES = os.path.dirname(os.path.abspath(__file__))
-TOOLS = os.path.join(EXAMPLES, os.pardir, 'tools')
+TOOLS = os.path.join(EXAMPLES, os.pardir, os.pardir, 'tools')
 sys.path.insert(0, TOOLS)
 from common import end, program_at  # noqa: E402: it stands beside the tools
 from judging.machine import Machine, store_of  # noqa: E402
@@ -24,7 +24,7 @@ HELP = """\
 Runs the built program on texts by the grammar and against it, and compares
 what it says and prints.
 
-    examples/check_grammar.py [PROGRAM]
+    examples/refused/check_grammar.py [PROGRAM]
 
 The texts are those of `grammar`; a trace, and the same cut off behind each of
 its bytes; and texts that are as long as one may be, or longer. What is said of
