@@ -46,18 +46,26 @@ compare_drawn drawn-over-slots --seeds 251..254 --forms order,turns --swap 8
 # With the examples these show every kind of entry but a failed read: where all frames are under wired pages; and beside a daemon, where few
 # frames are left, and few slots too.
 judge all-wired ../runs/wired.trace '' order
+judge paged-out ../lesson/paged-out.trace '' order
+judge daemon-at-the-end ../runs/daemon-at-the-end.trace '' order
+judge one-to-spare-in-turns ../runs/one-to-spare-for-two.trace '' turns 3
 ../../tools/judge short 18 1 >"$made/short"
 judge short-of-frames "$made/short" '' turns 18
 judge short-of-slots "$made/short" 4 turns 18
+../../tools/judge make 7 2000 4 4 8192 >"$made/calls"
+judge made-in-turns "$made/calls" '' turns 3
 
 # In threads each run makes another history, so it is judged, and the laws after each of its entries.
 echo legal >"$made/legal"
-for trace in ../lesson/paged-out.trace ../runs/daemon.trace ../runs/sixteen-spaces.trace; do
+for trace in ../lesson/paged-out.trace ../runs/daemon.trace ../runs/sixteen-spaces.trace ../runs/one-to-spare-for-two.trace; do
     run "$trace" told "$program" replay --history
     mv "$made/output" "$made/history"
     run /dev/null told ../../tools/judge history replay --laws "$trace" "$made/history"
     compare "$trace in threads" $? 0 '' "$made/legal"
 done
+# In the last, wired pages and processors are fewer than the frames, so no access is refused for want of one.
+run "$made/history" told grep noframes
+compare none-short-in-threads $? 1 '' ''
 
 # The longest trace over the most frames: loads, and as each 64th call a store, of four times as many pages as there are frames.
 awk 'BEGIN {

@@ -11,5 +11,12 @@ cd "$examples/refused" || exit 1
 not_utf_8=$(printf '\377')
 
 runs_of cases text run "$program"
+
+# No trace is passed over.
+for trace in *.trace; do
+    run cases told grep -q "| *$trace *|"
+    compare "$trace in cases" $? 0 '' ''
+done
+
 count ./check_grammar.py
 end_of_check

@@ -10,5 +10,20 @@ cd "$examples/runs" || exit 1
 
 traces_in_order
 runs_of cases text run "$program"
+
+# A made trace in drawn turns prints the same each time.
+run closed told "$program" make 7 2000 4 4 8192
+mv "$made/output" "$made/calls"
+run "$made/calls" told "$program" turns 3
+mv "$made/output" "$made/first"
+run "$made/calls" told "$program" turns 3
+compare made-in-turns-twice $? 0 '' "$made/first"
+
+# The curve of 20,000 calls takes no minute: one look at the history does for all capacities.
+run closed told "$program" make 7 20000 1 4 8192
+mv "$made/output" "$made/calls"
+run "$made/calls" told timeout 60 "$program" curve
+compare made-curve $? 0 '' made-curve.text
+
 count ./check-folders.sh
 end_of_check
