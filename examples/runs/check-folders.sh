@@ -83,8 +83,7 @@ on_a_small_system() {
     unshare -m sh -c 'mount -t tmpfs -o size=48k none full-folder && exec "$@"' sh "$@"
 }
 for how in under_a_limit on_a_small_system; do
-    run /dev/null told "$how" true
-    if [ $? = 0 ]; then
+    if run /dev/null told "$how" true; then
         run "$runs/seven-copies.trace" told "$how" "$program" --folder full-folder order
         compare "full-folder, $how" $? 0 '' "$runs/seven-copies-over-48k.text"
     fi
