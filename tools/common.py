@@ -35,7 +35,7 @@ def program_at(given: Optional[str] = None) -> str:
     """The path of the program that is given, or else of the built one."""
     program = PROGRAM if given is None else os.path.abspath(given)
     if not os.path.isfile(program) or not os.access(program, os.X_OK):
-        raise Stopped('no program at %s. Build it: `cd crates/superpager && rt run -- order <../../examples/preempted.trace`' % program)
+        raise Stopped('no program at %s. Build it: `cd crates/superpager && rt run -- order <../../examples/lesson/preempted.trace`' % program)
     return program
 
 

@@ -1,4 +1,4 @@
-"""Comparing the program's texts with the checker's, on traces that examples/random_trace.py draws, or that are short of frames."""
+"""Comparing the program's texts with the checker's, on traces that examples/drawn/random_trace.py draws, or that are short of frames."""
 import multiprocessing
 import os
 import signal
@@ -19,7 +19,7 @@ from .showing import wrong_with_answers, wrong_with_filing, wrong_with_turns
 from .trace_text import Refusal, text_of, trace_of
 from .values import Trace, setting_of
 
-sys.path.insert(0, os.path.join(TOP, 'examples'))
+sys.path.insert(0, os.path.join(TOP, 'examples', 'drawn'))
 from random_trace import write_trace  # noqa: E402: it stands beside the examples
 
 FORMS = ('order', 'turns', 'replay')
@@ -70,7 +70,7 @@ def sized_words(seed: int) -> List[int]:
 
 
 def trace_words(seed: int, form: str) -> List[int]:
-    """The words of examples/random_trace.py for a seed: the seed, how many calls, frames, processors and spaces, and how many loads come
+    """The words of examples/drawn/random_trace.py for a seed: the seed, how many calls, frames, processors and spaces, and how many loads come
     first. A curve is of one processor, and of every second seed few frames are left."""
     spaces, frames = 1 + seed // 4 % 3, 1024 if seed % 5 == 4 else 512
     if form == CURVE:

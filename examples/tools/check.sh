@@ -1,0 +1,59 @@
+#!/bin/sh
+# Runs tools/from-lackey, tools/compare and tools/explain, which need Python, as `conversions`, `comparisons` and `explanations` list it, and compares what
+# they print and say, and the status, with what stands here. The built program runs on each trace of this room by `order`, which prints NAME.text.
+#
+#     examples/tools/check.sh [PROGRAM]
+#
+# The last line is `N passed, M failed`.
+examples=$(cd "$(dirname "$0")/.." && pwd) || exit 1
+. "$examples/common.sh"
+cd "$examples/tools" || exit 1
+
+# Runs a tool as `run` does. Its message becomes one line, without that of its usage.
+tool() {
+    run "$@"
+    status_of_run=$?
+    line=$(sed '/^usage: /d' "$made/message" | paste -s -d ' ' -)
+    if [ -n "$line" ]; then printf '%s\n' "$line"; fi >"$made/message"
+    return "$status_of_run"
+}
+
+# Runs a tool as `tool` does, on a text as printf writes it. All that is printed becomes one line of the message, with what the program
+# says of the text where that differs.
+explain() {
+    printf "$1" >"$made/text"
+    shift
+    tool "$made/text" "$@"
+    status_of_run=$?
+    "$program" order <"$made/text" 2>&1 >/dev/null | sed 's/^superpager: //' >"$made/told"
+    if [ "$status_of_run" = 3 ] && ! head -n 1 "$made/output" | cmp -s - "$made/told"; then
+        cat "$made/told" >>"$made/output"
+    fi
+    cat "$made/message" "$made/output" | paste -s -d ' ' - >"$made/line"
+    mv "$made/line" "$made/message"
+    : >"$made/output"
+    return "$status_of_run"
+}
+
+traces_in_order
+
+runs_of conversions trace tool ../../tools/from-lackey
+
+# As many pages as these, each at the start of its 4 MiB, need more than a space.
+awk 'BEGIN { for (i = 100000; i < 102100; i++) printf " L %d000000,1\n", i }' >"$made/scattered"
+tool "$made/scattered" told ../../tools/from-lackey
+compare scattered $? 1 'from-lackey: the 2100 touched pages have no room in a space of 1048576' scattered.trace
+
+runs_of comparisons table tool ../../tools/compare --program "$program"
+
+# All frames are under these pages. The first is used again, so that it stands in the image when it is paged out for a page of space 1.
+awk 'BEGIN {
+    print "trace 1 512 1 2\n0 map 0 0 512 fixed read\n0 map 1 0 1 fixed read"
+    for (i = 0; i < 512; i++) print "0 load 0 " i * 8192
+    print "0 load 0 0\n0 load 1 0\n0 load 0 0\nend"
+}' >"$made/in-use"
+tool "$made/in-use" told ../../tools/compare --program "$program" --csv /dev/stdin
+compare compared-in-use $? 0 '' compared-in-use.table
+
+runs_of explanations none explain ../../tools/explain
+end_of_check
