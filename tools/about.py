@@ -31,14 +31,23 @@ class About(NamedTuple):
         """Whether the trace has a part of the program's accesses."""
         return self.first_line > 1 or self.end in ('cut', 'left')
 
+    def least_image(self) -> int:
+        """The fewest translations of an image of which the trace tells: one of fewer may have missed what --fold N left out."""
+        return max(1, self.fold)
+
     def share(self) -> str:
         """How much of the input was read, where that is known."""
-        return ', %d %% of the input' % (100 * self.bytes_read // self.bytes_there) if self.bytes_there else ''
+        return ', %d %% of it' % (100 * self.bytes_read // self.bytes_there) if self.bytes_there else ''
 
     def part(self) -> str:
         """Of which part of the input the trace is, in words."""
         why = {'cut': '; the input ends before the program', 'left': '; more stands behind them'}.get(self.end, '')
-        return 'lines %d to %d of what lackey told%s%s' % (self.first_line, self.last_line, self.share() if self.end == 'left' else '', why)
+        return 'lines %d to %d of the input%s%s' % (self.first_line, self.last_line, self.share() if self.end == 'left' else '', why)
+
+    def said(self) -> List[str]:
+        """What there is to know of a picture of the trace, in sentences."""
+        folded = 'Not in the trace are %d of %d accesses, folded by --fold %d.' % (self.folded, self.accesses, self.fold)
+        return ['A part of the program: %s.' % self.part()] * self.is_cut() + [folded] * (self.folded > 0)
 
 
 def check_of(trace: bytes) -> int:

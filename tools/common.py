@@ -71,9 +71,12 @@ def printed(program: str, words: Sequence[str], trace: bytes, name: str) -> str:
     ran = subprocess.run([program, *words], input=trace, stdout=subprocess.PIPE, stderr=subprocess.PIPE)
     if ran.returncode == 0:
         return ran.stdout.decode(errors='backslashreplace')
-    said = ran.stderr.decode(errors='backslashreplace').strip() or 'the program ended with status %d' % ran.returncode
-    more = '; `tools/explain %s` says why' % name if REFUSAL.search(said) else ''
-    raise Stopped('%s: %s%s' % (name, said, more))
+    raise Stopped(told_of(name, ran.stderr.decode(errors='backslashreplace').strip() or 'the program ended with status %d' % ran.returncode))
+
+
+def told_of(name: str, said: str) -> str:
+    """What was said of the trace of this name, and where a program refused it, what tells more."""
+    return '%s: %s%s' % (name, said, '; `tools/explain %s` says why' % name if REFUSAL.search(said) else '')
 
 
 def read_file(path: str, most: int = -1) -> bytes:
