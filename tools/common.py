@@ -48,14 +48,14 @@ class Program(NamedTuple):
 
 def program_at(given: Optional[str] = None) -> str:
     """The path of the program that is given, or else of the built one."""
-    program = PROGRAM if given is None else os.path.abspath(given)
+    program = PROGRAM if given is None else given
     if not os.path.exists(program):
         raise Stopped('no program at %s. Build it: %s' % (program, BUILD))
     if os.path.isdir(program):
         raise Stopped('%s is a folder, and no program' % program)
     if not os.access(program, os.X_OK):
-        raise Stopped("%s can't be run: `chmod +x` makes a program of a file, where it is one" % program)
-    return program
+        raise Stopped("%s isn't executable, so it is no program" % program)
+    return os.path.abspath(program)
 
 
 def program_or_model(given: Optional[str]) -> Program:
