@@ -1,18 +1,22 @@
-"""What the tools share: where the built program is, the numbers of their words, and how a tool ends that can't go on."""
+"""What the tools share: which program runs a trace, the numbers of their words, and how a tool ends that can't go on."""
+from early import NO_MEMORY, say  # Before all else: it says so where there is no memory for what follows.
 import argparse
 import os
 import re
 import signal
+import subprocess
 import sys
-from contextlib import suppress
-from subprocess import CalledProcessError, SubprocessError
-from typing import Callable, List, NoReturn, Optional
-
-# Until `end` calls a tool's main function an interrupt ends it without a word: Python would tell which module it was reading.
-signal.signal(signal.SIGINT, signal.SIG_DFL)
+from typing import Callable, List, NamedTuple, NoReturn, Optional, Sequence
 
 TOP = os.path.dirname(os.path.dirname(os.path.abspath(__file__)))
 PROGRAM = os.path.join(TOP, 'crates', 'superpager', 'out', 'superpager')
+# The reference model, which reads and prints the same, slowly.
+MODEL = os.path.join(TOP, 'tools', 'judge')
+# The most calls of a trace that the model runs in place of a program that isn't built: more than half a minute.
+MODEL_CALLS = 20000
+BUILD = '`cd crates/superpager && rt run -- order <../../examples/lesson/preempted.trace`'
+# What is said of a text that is no trace.
+REFUSAL = re.compile(r': (line [0-9]+: [a-z]+|no end|trace too long|too many calls)')
 
 # The sets of page sizes that a trace may name, each the digits of its levels: a page of level k is 8**k base pages.
 SIZE_SETS = ('0', '01', '02', '03', '012', '013', '023', '0123')
@@ -26,17 +30,67 @@ class Stopped(Exception):
     """What a tool says on standard error before it ends with status 1."""
 
 
-def tool_name() -> str:
-    """The name that the tool was called by, without its folder."""
-    return os.path.basename(sys.argv[0])
+class Program(NamedTuple):
+    """What runs traces, and how many calls one may have, where it is the reference model in place of the built program."""
+    path: str
+    most: Optional[int] = None
+
+    def is_model(self) -> bool:
+        return self.most is not None
+
+    def refuse_long(self, name: str, trace: bytes) -> None:
+        """Stops where the trace of this name has more calls."""
+        calls = trace.count(b'\n') - 2
+        if self.most is not None and calls > self.most:
+            raise Stopped('%s has %d calls, and the reference model, which takes about 2 ms for each, runs at most %d here. Build the program: %s. '
+                          '(`--program tools/judge` runs it however long it takes)' % (name, calls, self.most, BUILD))
 
 
 def program_at(given: Optional[str] = None) -> str:
     """The path of the program that is given, or else of the built one."""
-    program = PROGRAM if given is None else os.path.abspath(given)
-    if not os.path.isfile(program) or not os.access(program, os.X_OK):
-        raise Stopped('no program at %s. Build it: `cd crates/superpager && rt run -- order <../../examples/lesson/preempted.trace`' % program)
-    return program
+    program = PROGRAM if given is None else given
+    if not os.path.exists(program):
+        raise Stopped('no program at %s. Build it: %s' % (program, BUILD))
+    if os.path.isdir(program):
+        raise Stopped('%s is a folder, and no program' % program)
+    if not os.access(program, os.X_OK):
+        raise Stopped("%s isn't executable, so it is no program" % program)
+    return os.path.abspath(program)
+
+
+def program_or_model(given: Optional[str]) -> Program:
+    """The program that is given, or else the built one, or else, which is said, the reference model."""
+    if given is not None or os.path.exists(PROGRAM):
+        return Program(program_at(given))
+    say('no program is built, so tools/judge runs in its place, the reference model in Python: the same text, about 2 ms a call. Build it: %s' % BUILD)
+    return Program(program_at(MODEL), MODEL_CALLS)
+
+
+def printed(program: str, words: Sequence[str], trace: bytes, name: str) -> str:
+    """What a program prints of the trace of this name by these words; `Stopped` where it ends otherwise than with status 0."""
+    ran = subprocess.run([program, *words], input=trace, stdout=subprocess.PIPE, stderr=subprocess.PIPE)
+    if ran.returncode == 0:
+        return ran.stdout.decode(errors='backslashreplace')
+    raise Stopped(told_of(name, ran.stderr.decode(errors='backslashreplace').strip() or 'the program ended with status %d' % ran.returncode))
+
+
+def told_of(name: str, said: str) -> str:
+    """What was said of the trace of this name, and where a program refused it, what tells more."""
+    return '%s: %s%s' % (name, said, '; `tools/explain %s` says why' % name if REFUSAL.search(said) else '')
+
+
+def read_file(path: str, most: int = -1) -> bytes:
+    """The bytes of a file, or of standard input where the path is -; at most so many, or all where that is negative."""
+    try:
+        with open(0 if path == '-' else path, 'rb', closefd=path != '-') as source:
+            return source.read(most)
+    except OSError as fault:
+        raise Stopped("%s can't be read: %s" % (shown(path), fault.strerror))
+
+
+def shown(path: str) -> str:
+    """A path as it is told: one that is no UTF-8 has escapes."""
+    return os.fsencode(path).decode(errors='backslashreplace')
 
 
 def is_number(text: str, low: int, high: int, step: int = 1) -> bool:
@@ -85,16 +139,9 @@ def cause_of(why: Exception) -> str:
     """What is said where the system refused something, without the system's number of it, or where a command failed."""
     if isinstance(why, OSError) and why.strerror:
         return why.strerror if why.filename is None else '%s: %r' % (why.strerror, why.filename)
-    if isinstance(why, CalledProcessError):
+    if isinstance(why, subprocess.CalledProcessError):
         return '%s ended with status %d' % (why.cmd[0], why.returncode)
-    return str(why)
-
-
-def say(why: object) -> None:
-    """Says something on standard error, where that is open."""
-    if sys.stderr is not None:
-        with suppress(OSError):
-            print('%s: %s' % (tool_name(), why), file=sys.stderr)
+    return NO_MEMORY if isinstance(why, MemoryError) else str(why)
 
 
 def status_of(main: Callable[[], int]) -> int:
@@ -107,7 +154,7 @@ def status_of(main: Callable[[], int]) -> int:
             return ended.code or 0
         say(ended.code)
         return 1
-    except (Stopped, OSError, SubprocessError) as why:
+    except (Stopped, OSError, subprocess.SubprocessError, MemoryError) as why:
         say(cause_of(why))
         return 1
     except KeyboardInterrupt:
@@ -120,6 +167,8 @@ def end(main: Callable[[], int]) -> NoReturn:
     if sys.stdout is None:
         say('the output is closed')
         sys.exit(1)
+    # By PYTHONUNBUFFERED what is printed goes to the file as it is, and of a write that the system makes in part Python doesn't tell.
+    sys.stdout = open(sys.stdout.fileno(), 'w', encoding=sys.stdout.encoding, errors=sys.stdout.errors, closefd=False)
     status = status_of(main)
     try:
         sys.stdout.flush()

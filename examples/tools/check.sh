@@ -55,5 +55,30 @@ awk 'BEGIN {
 tool "$made/in-use" told ../../tools/compare --program "$program" --csv /dev/stdin
 compare compared-in-use $? 0 '' compared-in-use.table
 
+runs_of pictures picture tool ../../tools/picture --program "$program"
+
+# A name that is no UTF-8 stands in a page with escapes.
+name=$made/$(printf '\377')
+cp ../lesson/eight-pages.trace "$name"
+tool closed told ../../tools/picture --program "$program" --html "$made/page" "$name"
+grep -c '<title>.xff</title>' "$made/page" >"$made/output"
+echo 1 >"$made/one"
+compare pictured-by-bytes $? 0 '' "$made/one"
+
+# Beside a trace that is written to a file stands what it was made of.
+for name in written:from-lackey-folded part:from-lackey-stopped; do
+    cat "$made/${name%:*}" "$made/${name%:*}.about" >"$made/output"
+    cat "${name#*:}.trace" "${name#*:}.trace.about" >"$made/whole"
+    : >"$made/message"
+    compare "${name%:*}" $? 0 '' "$made/whole"
+done
+
+# Lines of another system end with a carriage return too.
+sed 's/$/\r/' regions.lackey >"$made/returns"
+tool "$made/returns" told ../../tools/from-lackey --calls 11
+: >"$made/message"
+compare with-returns $? 0 '' from-lackey-stopped.trace
+
 runs_of explanations none explain ../../tools/explain
+count ./check-ends.sh
 end_of_check

@@ -13,7 +13,7 @@ Access = Tuple[bool, int, int]
 Told = Tuple[Tuple[Access, ...], int]
 
 # Lackey writes an address with eight digits or more, and no access has more than 512 bytes.
-LACKEY = re.compile(rb'(I | [LSM]) ([0-9a-f]{8,16}),([1-9][0-9]{0,2})\n')
+LACKEY = re.compile(rb'(I | [LSM]) ([0-9a-f]{8,16}),([1-9][0-9]{0,2})\r?\n')
 PLAIN = re.compile(rb'(?:(?:0x)?([0-9a-fA-F]{1,16}): *)?([RWIrwi012]) +(?:0x)?([0-9a-fA-F]{1,16})(?: +([1-9][0-9]{0,2}))?\r?\n')
 MOST_BYTES = 512
 INSTRUCTIONS = (b'I ', b'I', b'i', b'2')
@@ -21,6 +21,9 @@ INSTRUCTIONS = (b'I ', b'I', b'i', b'2')
 STORES: Dict[bytes, Tuple[bool, ...]] = {b' S': (True,), b' M': (False, True), b'W': (True,), b'w': (True,), b'1': (True,)}
 
 SYSTEM_CALL = b'SYSCALL['
+# A message of Valgrind's, and that by which lackey ends: without it the program was still running, or Valgrind was killed.
+MESSAGE = b'=='
+EXIT = re.compile(rb'==[0-9]+== Exit code: +[0-9]+\r?\n')
 CHANGE = re.compile(rb'SYSCALL\[[0-9]+,[0-9]+\]\([^)]*\) sys_(mmap2?|munmap|mprotect|mremap|brk) \( ([0-9a-fx, ]{1,200}) \)'
                     rb'(?:\[sync\] -->| --> \[pre-success\]) Success\(0x([0-9a-f]{1,16})\)')
 

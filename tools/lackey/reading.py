@@ -8,9 +8,8 @@ from array import array
 from typing import BinaryIO, Dict, List, Optional, Tuple
 
 from common import say
-from lackey.lines import FORMS, PAGE, SYSTEM_CALL, Access, Changes, Told
+from lackey.lines import EXIT, FORMS, MESSAGE, PAGE, SYSTEM_CALL, Access, Changes, Told
 
-MESSAGE = b'=='
 # How many lines are kept with what they tell: most are met again.
 KEPT = 1 << 16
 # How often --progress looks at the clock, in lines, and tells, in seconds.
@@ -50,10 +49,14 @@ class Reading:
         # How many lines, and how many bytes, were read to the end of the line that each access is of.
         self.lines_of = array('Q')
         self.bytes_of = array('Q')
+        # How many accesses were folded before that line.
+        self.folded_of = array('Q')
         self.changes = Changes()
         self.latest = Latest(options.fold)
         self.told = functools.lru_cache(KEPT)(FORMS[options.form])
         self.lines = self.bytes = self.messages = self.skipped = self.folded = self.instructions = self.system_calls = 0
+        # Whether the message was met by which lackey ends.
+        self.exited = False
         # Where the input is left, if that isn't its end: behind so many lines and bytes.
         self.left: Optional[Tuple[int, int]] = None
         self.progressed = time.monotonic()
@@ -77,6 +80,7 @@ class Reading:
             return self.system_call(line)
         if line.startswith(MESSAGE):
             self.messages += 1
+            self.exited = self.exited or EXIT.fullmatch(line) is not None
         elif self.lines >= self.options.skip:
             self.skipped += 1
         return True
@@ -105,15 +109,23 @@ class Reading:
             self.accesses += kept
             self.lines_of.extend([self.lines + 1] * len(kept))
             self.bytes_of.extend([self.bytes + length] * len(kept))
+            self.folded_of.extend([self.folded] * len(kept))
         self.folded += len(accesses) - len(kept)
         return True
+
+    def end(self) -> str:
+        """How the input ended: a word of ENDS. Told to be quiet, Valgrind writes no message."""
+        if self.left:
+            return 'left'
+        return 'program' if self.exited else 'cut' if self.messages and self.options.form == 'lackey' else 'input'
 
     def cut(self, most: int) -> None:
         """Leaves at most so many accesses, all of a line's or none, and the changes before the first that is left out."""
         while most > 0 and self.lines_of[most] == self.lines_of[most - 1]:
             most -= 1
         self.left = self.lines_of[most] - 1, self.bytes_of[most]
-        del self.accesses[most:], self.lines_of[most:], self.bytes_of[most:]
+        self.folded = self.folded_of[most]
+        del self.accesses[most:], self.lines_of[most:], self.bytes_of[most:], self.folded_of[most:]
         self.changes.made = [change for change in self.changes.made if change.at < most]
 
     def share(self, lines: int, count: int) -> str:

@@ -32,16 +32,17 @@ STYLE = ('text{font:12px sans-serif;fill:#1d2733}.t{font-size:11px;fill:#5a6572}
 
 
 class Curves(NamedTuple):
-    """By capacity from 1 on the misses, with the run's translations and with base pages alone."""
+    """By capacity from 1 on the misses, with the run's translations and with base pages alone; and the first capacity of which the trace tells."""
     tiles: List[int]
     pages: List[int]
+    known: int = 1
 
 
-def run(program: str, trace: bytes) -> Curves:
-    """The curves that the program prints of a trace."""
+def run(program: str, trace: bytes, known: int) -> Curves:
+    """The curves that the program prints of a trace, which tells of capacities from this one on."""
     rows = [line.split(' ') for line in printed(program, ['curve'], trace).splitlines()]
     try:
-        found = Curves([int(row[1]) for row in rows[:-1]], [int(row[2]) for row in rows[:-1]])
+        found = Curves([int(row[1]) for row in rows[:-1]], [int(row[2]) for row in rows[:-1]], known)
     except (ValueError, IndexError):
         found = Curves([], [])
     if len(found.tiles) != MOST or rows[-1] != ['end']:
@@ -56,13 +57,25 @@ def bar(one: int, other: int) -> str:
 
 def lines(curves: Curves) -> str:
     """The lines of text: the misses at some capacities, with bars."""
-    top = max(curves.pages + curves.tiles) or 1
+    top = most_of(curves)
     out = ['Misses at some capacities, as the program counts them; the usual capacity is %d.' % USUAL,
-           'The bars: # as many as %s, - the further ones %s, + where these are fewer.' % NAMES, '', 'capacity    misses   with base pages']
-    for k in CHOSEN:
+           'The bars: # as many as %s, - the further ones %s, + where these are fewer.' % NAMES]
+    out += ['Below capacity %d the trace tells nothing, since it was folded.' % curves.known] * (curves.known > 1)
+    out += ['', 'capacity    misses   with base pages']
+    for k in capacities_of(curves):
         numbers = curves.tiles[k - 1], curves.pages[k - 1]
         out.append('%8d  %8d  %16d  %s' % (k, *numbers, bar(*(round(BAR * number / top) for number in numbers))))
     return '\n'.join(out + [''])
+
+
+def most_of(curves: Curves) -> int:
+    """The most misses at a capacity of which the trace tells, or 1."""
+    return max(curves.pages[curves.known - 1:] + curves.tiles[curves.known - 1:]) or 1
+
+
+def capacities_of(curves: Curves) -> List[int]:
+    """The capacities that have a line of text, or of the page's table: those of which the trace tells."""
+    return [k for k in CHOSEN if k >= curves.known]
 
 
 def step_of(top: int) -> int:
@@ -80,10 +93,10 @@ def height_of(misses: int, top: int) -> float:
     return TOP + HIGH * (1 - misses / top)
 
 
-def path(curve: List[int], top: int) -> str:
-    """The line of a curve, which changes at a capacity and stays up to the next."""
-    out = 'M%g %.1f' % (place_of(1), height_of(curve[0], top))
-    for at in range(1, MOST):
+def path(curve: List[int], top: int, known: int) -> str:
+    """The line of a curve from a capacity on, which changes at one and stays up to the next."""
+    out = 'M%g %.1f' % (place_of(known), height_of(curve[known - 1], top))
+    for at in range(known, MOST):
         if curve[at] != curve[at - 1]:
             out += 'H%.1fV%.1f' % (place_of(at + 1), height_of(curve[at], top))
     return out + 'H%g' % place_of(MOST)
@@ -117,9 +130,17 @@ def legend(curves: Curves) -> List[str]:
 
 def scale_of(curves: Curves) -> Tuple[int, int]:
     """The misses at the upper end of the drawing, and how far the lines across are apart."""
-    most = max(curves.pages + curves.tiles) or 1
+    most = most_of(curves)
     step = step_of(most)
     return step * ceil(most / step), step
+
+
+def untold(curves: Curves) -> List[str]:
+    """What stands where the trace tells nothing."""
+    if curves.known == 1:
+        return []
+    x = place_of(curves.known)
+    return [rect(LEFT, TOP, x - LEFT, HIGH, layout.GRID), text((LEFT + x) / 2, TOP + HIGH / 2, 'below %d: folded' % curves.known, 't m')]
 
 
 def drawing(curves: Curves, name: str, more: str = '') -> str:
@@ -127,9 +148,9 @@ def drawing(curves: Curves, name: str, more: str = '') -> str:
     top, step = scale_of(curves)
     wide, high = 2 * MARGIN + layout.WIDTH, TOP + HIGH + 3 * LINE + 18 + 2 * MARGIN
     start = '<svg xmlns="http://www.w3.org/2000/svg" viewBox="0 0 %d %d" width="%d" height="%d">' % (wide, high, wide, high)
-    body = [text(0, 14, '%s: misses at each capacity' % name, 'h')] + across(top, step) + upright()
+    body = [text(0, 14, '%s: misses at each capacity' % name, 'h')] + untold(curves) + across(top, step) + upright()
     # That of base pages lies below, and is wider, so that it is seen where both are the same.
-    body += ['<path class="c%d" d="%s"/>' % (at, path(curves[at], top)) for at in (1, 0)] + legend(curves)
+    body += ['<path class="c%d" d="%s"/>' % (at, path(curves[at], top, curves.known)) for at in (1, 0)] + legend(curves)
     body += [text(LEFT + WIDE / 2, TOP + HIGH + 2 * LINE, 'capacity: how many translations an image holds', 't m'), more]
     parts = [start, '<style>%s</style>' % STYLE, rect(0, 0, wide, high, '#fff'), '<g transform="translate(%d %d)">' % (MARGIN, MARGIN)]
     return '\n'.join(parts + [it for it in body if it] + ['</g>', '</svg>', ''])
@@ -137,12 +158,14 @@ def drawing(curves: Curves, name: str, more: str = '') -> str:
 
 def table(curves: Curves) -> str:
     """The rows of the page's table."""
-    return '\n'.join('<tr><td>%d</td><td>%d</td><td>%d</td></tr>' % (k, curves.tiles[k - 1], curves.pages[k - 1]) for k in CHOSEN)
+    return '\n'.join('<tr><td>%d</td><td>%d</td><td>%d</td></tr>' % (k, curves.tiles[k - 1], curves.pages[k - 1])
+                     for k in capacities_of(curves))
 
 
 def page(curves: Curves, name: str) -> str:
     """The text of the page."""
-    data = {'curves': curves, 'left': LEFT + MARGIN, 'margin': MARGIN, 'wide': WIDE, 'top': TOP, 'high': HIGH, 'most': MOST, 'usual': USUAL}
+    data = {'curves': curves[:2], 'known': curves.known, 'left': LEFT + MARGIN, 'margin': MARGIN, 'wide': WIDE, 'top': TOP, 'high': HIGH,
+            'most': MOST, 'usual': USUAL}
     svg = drawing(curves, name, '<path id="here" stroke="%s" stroke-width="1.6"/>' % layout.FOCUS)
     parts = {'TITLE': escape(name), 'SVG': svg, 'ROWS': table(curves), 'DATA': json.dumps(data, separators=(',', ':'))}
     return re.sub('TITLE|SVG|ROWS|DATA', lambda found: parts[found.group()], part('curves.html'))
