@@ -1,6 +1,6 @@
 #!/bin/sh
 # Runs the built program on every example, and on words, inputs and outputs that it must not take; then the tools on theirs, and the program beside the
-# slow checker on drawn traces. What is printed and said, and the status, has to be what stands here. The checks are those of the rooms, each of which
+# reference model on drawn traces. What is printed and said, and the status, has to be what stands here. The checks are those of the rooms, each of which
 # may be run by itself.
 #
 #     examples/check.sh [PROGRAM]

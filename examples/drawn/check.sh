@@ -1,5 +1,5 @@
 #!/bin/sh
-# Makes drawn runs and some others beside tools/judge, the slow checker, has it judge runs in threads, runs the longest trace, and says whether the drawn
+# Makes drawn runs and some others beside tools/judge, the reference model, has it judge runs in threads, runs the longest trace, and says whether the drawn
 # runs of run_tests walk each row of docs/steps.md.
 #
 #     examples/drawn/check.sh [PROGRAM]
@@ -22,7 +22,7 @@ judge() {
     compare "$name" $? 0 '' "$made/judged"
 }
 
-# Runs the program beside the slow checker on drawn traces, as docs/comparison.md says. What that prints is shown only where a run differs.
+# Runs the program beside the reference model on drawn traces, as docs/comparison.md says. What that prints is shown only where a run differs.
 compare_drawn() {
     name=$1
     shift
