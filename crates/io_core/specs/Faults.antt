@@ -1,4 +1,4 @@
--- Counts of faults, which are at most 2^64 - 1 and never fall.
+-- Counts of calls and of faults, which are at most 2^64 - 1 and never fall.
 use Rattle.std.specs.Prelude.{◌≡◌, ℕ, ◌+◌, ◌-◌, ◌^◌, ◌<◌, min, ◌⊎◌}
 
 -- a count with one more, which stands still at 2^64 - 1

@@ -1,4 +1,5 @@
 pub mod Faults
 pub mod MemorySource
 pub mod RealSource
+pub mod RealSink
 pub mod MemorySink

@@ -1,7 +1,9 @@
-//! Bytes in and out, with counts of faults.
+//! Bytes in and out, with counts of calls and of faults.
 //!
 //! A `Source` gives bytes and a `Sink` takes them, a piece at a time. Each counts its faults: a
-//! call that fails raises the count, so whoever passes a failure on can show where it came from.
+//! call that fails raises the count by one, and no other does. So whoever passes a failure on can
+//! show that it did so at the first, and whoever is done that there was none. And each counts its
+//! calls, so whoever says that it makes few can be held to it.
 #![tactic(auto)]
 
 mod memory;

@@ -1,6 +1,6 @@
 //! A source and a sink in memory, which fail where they are told to.
 ghost use Rattle.std.specs.Prelude.{◌≡◌, ◌+◌, ◌-◌, ◌^◌, ◌<◌, ◌≤◌, ◌↔◌, ◌⊎◌, min, [], ◌++◌, length, take, drop, Some, IfOk, OnErr, IsErr, Contains, vec_len, vec_capacity};
-ghost use Rattle.io_core.specs.Faults.{one_more, Rose};
+ghost use Rattle.io_core.specs.Faults.{one_more};
 
 use super::reading::{ReadFailed, Source};
 use super::writing::{Sink, WriteFailed};
@@ -75,7 +75,7 @@ impl Source for MemorySource {
         ensures end { IfOk result (λ n. n ≡ 0 → 0 < length into.old → self.old.left ≡ []) }
         ensures counted { self.new.reads ≡ one_more self.old.reads }
         ensures unfailed { IfOk result (λ _. self.new.faults ≡ self.old.faults) }
-        ensures rose { OnErr result (Rose self.old.faults self.new.faults) }
+        ensures rose { OnErr result (self.new.faults ≡ one_more self.old.faults) }
         ensures err { OnErr result (Some self.new.left ≡ Some self.old.left) }
         ensures never_falls { self.old.faults ≤ self.new.faults }
         ensures capped { self.new.faults ≤ 2 ^ 64 - 1 }
@@ -170,6 +170,8 @@ impl MemorySink {
 impl Sink for MemorySink {
     ghost taken = { λ s. Some s.taken };
 
+    ghost writes = { λ s. s.writes };
+
     ghost faults = { λ s. s.faults };
 
     fn write(&mut self, piece: &[u8]) -> Result<usize, WriteFailed>
@@ -178,7 +180,9 @@ impl Sink for MemorySink {
         ensures some { IfOk result (λ n. 0 < length piece.now → 0 < n) }
         ensures took { IfOk result
             (λ n. Some self.new.taken ≡ Some (self.old.taken ++ take n piece.now)) }
-        ensures rose { OnErr result (Rose self.old.faults self.new.faults) }
+        ensures counted { self.new.writes ≡ one_more self.old.writes }
+        ensures unfailed { IfOk result (λ _. self.new.faults ≡ self.old.faults) }
+        ensures rose { OnErr result (self.new.faults ≡ one_more self.old.faults) }
         ensures err { OnErr result (Some self.new.taken ≡ Some self.old.taken) }
         ensures never_falls { self.old.faults ≤ self.new.faults }
         ensures capped { self.new.faults ≤ 2 ^ 64 - 1 }

@@ -1,8 +1,8 @@
 //! What gives bytes.
 ghost use Rattle.std.specs.Prelude.{◌≡◌, ℕ, ◌-◌, ◌^◌, ◌<◌, ◌≤◌, List, [], length, take, drop, Option, Some, IfSome, IfOk, OnErr};
-ghost use Rattle.io_core.specs.Faults.{one_more, Rose};
+ghost use Rattle.io_core.specs.Faults.{one_more};
 
-/// A read failed. The source's count of faults rose.
+/// A read failed. The source has counted one fault more.
 #[derive(Clone, Copy, Debug, PartialEq, Eq)]
 pub struct ReadFailed;
 
@@ -33,9 +33,9 @@ pub trait Source {
 
         ensures counted { reads self.new ≡ one_more (reads self.old) }
 
-        // A failure is a fault, and gives no byte; and nothing else is a fault.
+        // A failure is one fault, and gives no byte; and nothing else is a fault.
         ensures unfailed { IfOk result (λ _. faults self.new ≡ faults self.old) }
-        ensures rose { OnErr result (Rose (faults self.old) (faults self.new)) }
+        ensures rose { OnErr result (faults self.new ≡ one_more (faults self.old)) }
         ensures err { OnErr result (left self.new ≡ left self.old) }
 
         ensures never_falls { faults self.old ≤ faults self.new }

@@ -63,34 +63,43 @@ impl<R: Read> Source for RealSource<R> {
 #[derive(Drop)]
 pub struct RealSink<W> {
     writer: W,
+    writes: u64,
     faults: u64,
 }
 
 impl<W> Model for RealSink<W> {
-    ghost use Rattle.std.specs.Prelude.{ℕ, ◌-◌, ◌^◌, ◌≤◌};
+    ghost use Rattle.std.specs.Prelude.{◌-◌, ◌^◌, ◌≤◌};
+    ghost use Rattle.io_core.specs.RealSink.{WriterState};
 
-    ghost Value = { ℕ };
+    ghost Value = { WriterState };
 
-    ghost view = { λ s. s.faults };
+    ghost view = { λ s. record { writes = s.writes; faults = s.faults } };
 
     ghost invariant = { λ s. s.faults ≤ 2 ^ 64 - 1 };
 }
 
 impl<W: Write> RealSink<W> {
-    /// A sink to what `writer` writes to, with no fault so far.
+    /// A sink to what `writer` writes to, with no write and no fault so far.
     pub fn of(writer: W) -> RealSink<W>
-        ensures no_fault { result ≡ 0 }
+        ensures new { result ≡ record { writes = 0; faults = 0 } }
     {
-        RealSink { writer, faults: 0 }
+        RealSink {
+            writer,
+            writes: 0,
+            faults: 0,
+        }
     }
 }
 
 impl<W: Write> Sink for RealSink<W> {
     ghost taken = { λ _. None };
 
-    ghost faults = { λ s. s };
+    ghost writes = { λ s. s.writes };
+
+    ghost faults = { λ s. s.faults };
 
     fn write(&mut self, piece: &[u8]) -> Result<usize, WriteFailed> {
+        self.writes = self.writes.saturating_add(1);
         match self.writer.write(piece) {
             Ok(n) if n > 0 || piece.is_empty() => Ok(n),
             // A writer that takes none of the bytes has failed too.

@@ -1,8 +1,8 @@
 //! What takes bytes.
-ghost use Rattle.std.specs.Prelude.{◌≡◌, ℕ, ◌-◌, ◌^◌, ◌<◌, ◌≤◌, List, ◌++◌, length, take, Option, Some, IfSome, IfOk, OnOk, OnErr};
-ghost use Rattle.io_core.specs.Faults.{Rose};
+ghost use Rattle.std.specs.Prelude.{◌≡◌, ℕ, ◌+◌, ◌-◌, ◌^◌, ◌<◌, ◌≤◌, List, ◌++◌, length, take, Option, Some, IfSome, IfOk, OnOk, OnErr};
+ghost use Rattle.io_core.specs.Faults.{one_more};
 
-/// A write failed. The sink's count of faults rose.
+/// A write failed. The sink has counted one fault more.
 #[derive(Clone, Copy, Debug, PartialEq, Eq)]
 pub struct WriteFailed;
 
@@ -10,6 +10,9 @@ pub struct WriteFailed;
 pub trait Sink {
     // The bytes that it has taken, where it tells them.
     ghost taken: { Self → Option (List ℕ) };
+
+    // How many writes there were of it.
+    ghost writes: { Self → ℕ };
 
     // How many faults it has had.
     ghost faults: { Self → ℕ };
@@ -23,26 +26,32 @@ pub trait Sink {
         ensures took { IfOk result
             (λ n. IfSome (taken self.old) (λ bytes. taken self.new ≡ Some (bytes ++ take n piece.now))) }
 
-        // A failure is a fault, and takes no byte.
-        ensures rose { OnErr result (Rose (faults self.old) (faults self.new)) }
+        ensures counted { writes self.new ≡ one_more (writes self.old) }
+
+        // A failure is one fault, and takes no byte; and nothing else is a fault.
+        ensures unfailed { IfOk result (λ _. faults self.new ≡ faults self.old) }
+        ensures rose { OnErr result (faults self.new ≡ one_more (faults self.old)) }
         ensures err { OnErr result (taken self.new ≡ taken self.old) }
 
         ensures never_falls { faults self.old ≤ faults self.new }
         ensures capped { faults self.new ≤ 2 ^ 64 - 1 };
 }
 
-/// Writes all of `bytes`, piece by piece. After a failure the sink has taken a front of them.
+/// Writes all of `bytes`, piece by piece. After a failure the sink has taken a front of them, and no write follows one that failed.
 #[tactic(auto, using(crate::proofs::Pieces::append_piece))]
 pub fn write_all<K: Sink>(sink: &mut K, bytes: &[u8]) -> Result<(), WriteFailed>
     // Where the sink tells its bytes.
     ensures whole { OnOk result
         (IfSome (K.taken sink.old) (λ had. K.taken sink.new ≡ Some (had ++ bytes.now))) }
-    ensures part { OnErr result (IfSome (K.taken sink.old)
-        (λ had. (k : ℕ) × (k < length bytes.now) × (K.taken sink.new ≡ Some (had ++ take k bytes.now)))) }
 
-    ensures rose { OnErr result (Rose (K.faults sink.old) (K.faults sink.new)) }
-    ensures never_falls { K.faults sink.old ≤ K.faults sink.new }
-    ensures capped { K.faults sink.old ≤ 2 ^ 64 - 1 → K.faults sink.new ≤ 2 ^ 64 - 1 }
+    // It failed behind k of them. Each write before took a byte at least.
+    ensures part { OnErr result ((k : ℕ) × (k < length bytes.now)
+        × IfSome (K.taken sink.old) (λ had. K.taken sink.new ≡ Some (had ++ take k bytes.now))
+        × (K.writes sink.new ≤ K.writes sink.old + (k + 1))) }
+
+    ensures few_writes { K.writes sink.new ≤ K.writes sink.old + length bytes.now }
+    ensures unfailed { OnOk result (K.faults sink.new ≡ K.faults sink.old) }
+    ensures rose { OnErr result (K.faults sink.new ≡ one_more (K.faults sink.old)) }
 {
     let mut at = 0;
     while at < bytes.len() {

@@ -1,7 +1,7 @@
 -- The miss curves of a run.
-use Rattle.std.proofs.Common.{◌≡◌, ℕ, ◌⊎◌, inl, inr, List, take, None, refl, ◌∙◌, Some}
+use Rattle.std.proofs.Common.{◌≡◌, ◌≢◌, ℕ, ◌⊎◌, inl, inr, List, take, None, refl, ◌∙◌, Some}
 use Rattle.std.proofs.lemmas.List.{length-map, length-take-le}
-use Rattle.io_core.specs.Faults.{Rose}
+use Rattle.io_core.specs.Faults.{one_more}
 use Rattle.miss_curves.specs.Curves.{AreCurves}
 use Rattle.miss_curves.specs.Histories.{IsRunOf}
 use Rattle.pager_model.specs.Legal.{entries_in}
@@ -42,9 +42,10 @@ pub EndsRun-curves : {K P : Type 0} (out : OutViews K P) (run : Replayed P) (end
     → (end.outcome.status ≡ WRITE_FAULT → (g : Given) → IsRunOf run.plan g (entries_in run.gathered.history.items)
     → (tiles : List ℕ) × (pages : List ℕ) × AreCurves g (entries_in run.gathered.history.items) tiles pages
     × WrotePart (curves_text tiles pages) (out.taken end.before) (out.taken end.after))
-    → (end.outcome.status ≡ WRITE_FAULT → Rose (out.writes end.before) (out.writes end.after))
+    → (end.outcome.status ≡ WRITE_FAULT → out.write_faults end.after ≡ one_more (out.write_faults end.before))
+    → (end.outcome.status ≢ WRITE_FAULT → out.write_faults end.after ≡ out.write_faults end.before)
     → EndsRun out Curve run end
-EndsRun-curves out run end ran which refusal trace history kept unwritten wrote part rose =
+EndsRun-curves out run end ran which refusal trace history kept unwritten wrote part fault no_fault =
     let given = setting_over run.plan run.stores in
     let was = is_run out.seen run ran in
     record {
@@ -61,5 +62,6 @@ EndsRun-curves out run end ran which refusal trace history kept unwritten wrote 
           (curves_text found.0 found.1, (found.0, found.1, found.2, refl), found.3));
       part = λ failed. (let found = part failed given was in
           (curves_text found.0 found.1, (found.0, found.1, found.2, refl), found.3));
-      write_fault = rose;
+      write_fault = fault;
+      no_write_fault = no_fault;
     }

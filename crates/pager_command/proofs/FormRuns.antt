@@ -1,8 +1,9 @@
 -- A run by a form, where it was made, and where none was.
-use Rattle.std.proofs.Common.{◌≡◌, ◌≢◌, ℕ, ◌≤◌, ◌⊎◌, inl, inr, List, [], length, map, Option, Some, None, IsSome, refl, sym, ◌∙◌, arith}
+use Rattle.std.proofs.Common.{◌≡◌, ◌≢◌, ℕ, ◌≤◌, ◌⊎◌, inl, inr, List, [], length, map, Option, Some, None, IsSome, refl, ap, sym, ◌∙◌, arith}
 use Rattle.std.proofs.lemmas.Bool.{false≢true}
 use Rattle.std.proofs.lemmas.List.{length-map}
 use Rattle.std.proofs.lemmas.Option.{none-some}
+use Rattle.io_core.proofs.FaultCounts.{rose_by_one}
 use Rattle.pager_core.specs.declared.run_parts.Gathered.{Gathered}
 use Rattle.pager_model.specs.Legal.{entries_in}
 use Rattle.pager_model.specs.Plans.{Plan}
@@ -82,7 +83,7 @@ module _ {T K P : Type 0} (views : Views T K P) (form : Form) (ran : Ran T K P) 
   -- it was made, and ended as a run by the form does
   pub RunsBy-ended : (plan : Plan) (gathered : Gathered P)
       → WasRead plan (views.left ran.before.source) (views.left ran.after.source)
-      → views.reads ran.after.source ≡ views.reads ran.before.source
+      → views.read_faults ran.after.source ≡ views.read_faults ran.before.source
       → plan.spaces ≤ length ran.stores → Admits form plan → ComesBy form plan (entries_in gathered.history.items)
       → WasRun views.out.seen (replayed plan (map views.out.seen ran.stores) gathered)
       → EndsRun views.out form (replayed plan (map views.out.seen ran.stores) gathered)
@@ -107,11 +108,12 @@ module _ {T K P : Type 0} (views : Views T K P) (form : Form) (ran : Ran T K P) 
         read_fault = λ is. absurd (omega (arith, is, which));
         no_read_fault = λ _. no_fault;
         write_fault = ends.write_fault;
+        no_write_fault = ends.no_write_fault;
         memory = λ _ _. was_runnable form (length ran.stores) (views.left ran.before.source) (views.left ran.after.source) plan
             read admitted enough;
         complete = λ _ _ no_write. elim which [
           | inl done ↦ inl done
-          | inr other ↦ elim other [ inl failed ↦ absurd (no_write (ends.write_fault failed)) | inr memory ↦ inr memory ]
+          | inr other ↦ elim other [ inl failed ↦ absurd (no_write (rw (ends.write_fault failed) (rose_by_one (views.out.write_faults ran.before.sink)))) | inr memory ↦ inr memory ]
         ];
         unwritten = λ not_done not_failed. elim which [
           | inl done ↦ absurd (not_done done)
@@ -130,7 +132,7 @@ module _ {T K P : Type 0} (views : Views T K P) (form : Form) (ran : Ran T K P) 
       }
 
   stopped : IsStopped form (views.left ran.before.source) (views.left ran.after.source)
-      (views.reads ran.before.source) (views.reads ran.after.source) (length ran.stores) ran.outcome.status ran.outcome.refusal
+      (views.read_faults ran.before.source) (views.read_faults ran.after.source) (length ran.stores) ran.outcome.status ran.outcome.refusal
       → ran.outcome.trace ≡ None → ran.outcome.history.items ≡ []
       → map views.out.seen ran.outcome.stores.items ≡ map views.out.seen ran.stores → ran.after.sink ≡ ran.before.sink → Promised
   stopped stop none no_history same unwritten =
@@ -148,6 +150,7 @@ module _ {T K P : Type 0} (views : Views T K P) (form : Form) (ran : Ran T K P) 
         read_fault = stop.read_fault;
         no_read_fault = stop.no_fault;
         write_fault = λ is. absurd (omega (arith, is, which));
+        no_write_fault = λ _. ap views.out.write_faults unwritten;
         memory = stop.memory;
         complete = λ text no_read _. inr (stop.complete text no_read);
         unwritten = λ _ _. unwritten;
@@ -165,7 +168,7 @@ module _ {T K P : Type 0} (views : Views T K P) (form : Form) (ran : Ran T K P) 
 
   -- none was made of a text that was read, for want of memory
   pub RunsBy-unmade : (plan : Plan) → WasRead plan (views.left ran.before.source) (views.left ran.after.source)
-      → views.reads ran.after.source ≡ views.reads ran.before.source → plan.spaces ≤ length ran.stores → Admits form plan
+      → views.read_faults ran.after.source ≡ views.read_faults ran.before.source → plan.spaces ≤ length ran.stores → Admits form plan
       → ran.outcome.status ≡ MEMORY → ran.outcome.refusal ≡ None → ran.outcome.trace ≡ None → ran.outcome.history.items ≡ []
       → map views.out.seen ran.outcome.stores.items ≡ map views.out.seen ran.stores → ran.after.sink ≡ ran.before.sink → Promised
   RunsBy-unmade plan read no_fault enough admitted status_is refusal_is =
@@ -174,7 +177,7 @@ module _ {T K P : Type 0} (views : Views T K P) (form : Form) (ran : Ran T K P) 
   -- none was made, and the outcome says why
   pub RunsBy-stopped : (n status : ℕ) (refusal : Option TraceFault)
       → IsStopped form (views.left ran.before.source) (views.left ran.after.source)
-      (views.reads ran.before.source) (views.reads ran.after.source) n status refusal
+      (views.read_faults ran.before.source) (views.read_faults ran.after.source) n status refusal
       → n ≡ length ran.stores → ran.outcome.status ≡ status → ran.outcome.refusal ≡ refusal
       → ran.outcome.trace ≡ None → ran.outcome.history.items ≡ []
       → map views.out.seen ran.outcome.stores.items ≡ map views.out.seen ran.stores → ran.after.sink ≡ ran.before.sink → Promised

@@ -1,6 +1,7 @@
 -- A run of the large trace that was made, and the counts of which were written, or a part of them.
-use Rattle.std.proofs.Common.{◌≡◌, ℕ, ◌≤◌, ◌⊎◌, inl, inr, List, length, map, Some, None, ap, sym, ◌∙◌, arith}
-use Rattle.io_core.specs.Faults.{Rose}
+use Rattle.std.proofs.Common.{◌≡◌, ◌≢◌, ℕ, ◌≤◌, ◌⊎◌, inl, inr, List, length, map, Some, None, ap, sym, ◌∙◌, arith}
+use Rattle.io_core.specs.Faults.{one_more}
+use Rattle.io_core.proofs.FaultCounts.{rose_by_one}
 use Rattle.pager_model.specs.Legal.{entries_in}
 use Rattle.pager_model.specs.PrintedText.{summary_text}
 use Rattle.pager_model.specs.TurnOrders.{IsSeeded}
@@ -32,12 +33,13 @@ pub RunsLarge-written : {K P : Type 0} (out : OutViews K P) (number seed : ℕ) 
     (counts_text (large_trace number) (map out.seen stores) end.outcome.history.items) (out.taken end.before) (out.taken end.after))
     → (end.outcome.status ≡ WRITE_FAULT → WrotePart
     (counts_text (large_trace number) (map out.seen stores) end.outcome.history.items) (out.taken end.before) (out.taken end.after))
-    → (end.outcome.status ≡ WRITE_FAULT → Rose (out.writes end.before) (out.writes end.after))
+    → (end.outcome.status ≡ WRITE_FAULT → out.write_faults end.after ≡ one_more (out.write_faults end.before))
+    → (end.outcome.status ≢ WRITE_FAULT → out.write_faults end.after ≡ out.write_faults end.before)
     → RunsLarge out number seed stores end
-RunsLarge-written out number seed stores end enough run seeded made refusal trace wrote part rose =
+RunsLarge-written out number seed stores end enough run seeded made refusal trace wrote part fault no_fault =
     record {
       statuses = elim made [ inl done ↦ inl done | inr failed ↦ inr (inr (inr failed)) ];
-      complete = λ _ no_write. elim made [ inl done ↦ inl done | inr failed ↦ absurd (no_write (rose failed)) ];
+      complete = λ _ no_write. elim made [ inl done ↦ inl done | inr failed ↦ absurd (no_write (rw (fault failed) (rose_by_one (out.write_faults end.before)))) ];
       few = λ less. absurd (omega (arith, enough, less));
       refused = λ is. absurd (omega (arith, is, made));
       no_refusal = λ _. refusal;
@@ -49,5 +51,6 @@ RunsLarge-written out number seed stores end enough run seeded made refusal trac
       seeded = λ _. seeded;
       wrote = wrote;
       part = part;
-      write_fault = rose;
+      write_fault = fault;
+      no_write_fault = no_fault;
     }

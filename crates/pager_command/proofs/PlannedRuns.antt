@@ -1,9 +1,9 @@
 -- What is planned after a run.
-use Rattle.std.proofs.Common.{◌≡◌, ℕ, ◌⊎◌, inl, inr, List, take, Option, Some, None, refl, arith}
+use Rattle.std.proofs.Common.{◌≡◌, ◌≢◌, ℕ, ◌⊎◌, inl, inr, List, take, Option, Some, None, refl, arith}
 use Rattle.std.proofs.lemmas.List.{length-map, length-take}
 use Rattle.contiguity_plan.specs.declared.plan.Plan.{Plan as Emptying}
 use Rattle.contiguity_plan.specs.Emptying.{IsOver, IsPlanned}
-use Rattle.io_core.specs.Faults.{Rose}
+use Rattle.io_core.specs.Faults.{one_more}
 use Rattle.pager_model.proofs.Actors.{actors_few}
 use Rattle.pager_model.specs.declared.entry.Numbered.{Numbered}
 use Rattle.pager_model.specs.Legal.{IsLegal, entries_in, frames_at}
@@ -50,9 +50,10 @@ pub EndsRun-planned : {K P : Type 0} (out : OutViews K P) (size : ℕ) (run : Re
     → (planned : Option Emptying)
     × IsPlanned (frames_at g (entries_in run.gathered.history.items)) run.plan.frames size planned
     × WrotePart (plan_text planned) (out.taken end.before) (out.taken end.after))
-    → (end.outcome.status ≡ WRITE_FAULT → Rose (out.writes end.before) (out.writes end.after))
+    → (end.outcome.status ≡ WRITE_FAULT → out.write_faults end.after ≡ one_more (out.write_faults end.before))
+    → (end.outcome.status ≢ WRITE_FAULT → out.write_faults end.after ≡ out.write_faults end.before)
     → EndsRun out (Planned size) run end
-EndsRun-planned out size run end has ran which refusal trace history kept unwritten wrote part rose =
+EndsRun-planned out size run end has ran which refusal trace history kept unwritten wrote part fault no_fault =
     let given = setting_over run.plan run.stores in
     let over : IsOver run.plan.frames given (entries_in run.gathered.history.items) =
     is_over run.plan run.stores run.gathered.history.items has ran.run.legal in
@@ -68,5 +69,6 @@ EndsRun-planned out size run end has ran which refusal trace history kept unwrit
       unwritten = unwritten;
       wrote = λ done. (let found = wrote done given over in (plan_text found.0, (found.0, found.1, refl), found.2));
       part = λ failed. (let found = part failed given over in (plan_text found.0, (found.0, found.1, refl), found.2));
-      write_fault = rose;
+      write_fault = fault;
+      no_write_fault = no_fault;
     }

@@ -1,6 +1,6 @@
 -- How a run ends that was made, by what was gathered of it and written.
-use Rattle.std.proofs.Common.{◌≡◌, ℕ, ◌⊎◌, inl, inr, List, Some, None, ap, sym, subst, arith}
-use Rattle.io_core.specs.Faults.{Rose}
+use Rattle.std.proofs.Common.{◌≡◌, ◌≢◌, ℕ, ◌⊎◌, inl, inr, List, Some, None, ap, sym, subst, arith}
+use Rattle.io_core.specs.Faults.{one_more}
 use Rattle.pager_model.specs.declared.summary.Summary.{Summary}
 use Rattle.pager_model.specs.PrintedText.{out_text}
 use Rattle.report_text.specs.declared.report.Parts.{Parts}
@@ -42,9 +42,10 @@ pub EndsRun-reported : {K P : Type 0} (out : OutViews K P) (form : Form) (parts 
     → (end.outcome.status ≡ WRITE_FAULT → WrotePart
     (out_text (has_history parts) run.plan.processors run.gathered.history.items run.gathered.summary)
     (out.taken end.before) (out.taken end.after))
-    → (end.outcome.status ≡ WRITE_FAULT → Rose (out.writes end.before) (out.writes end.after))
+    → (end.outcome.status ≡ WRITE_FAULT → out.write_faults end.after ≡ one_more (out.write_faults end.before))
+    → (end.outcome.status ≢ WRITE_FAULT → out.write_faults end.after ≡ out.write_faults end.before)
     → EndsRun out form run end
-EndsRun-reported out form parts run end reports ran made refusal trace history kept wrote part rose =
+EndsRun-reported out form parts run end reports ran made refusal trace history kept wrote part fault no_fault =
     let text : List ℕ = out_text (has_history parts) run.plan.processors run.gathered.history.items run.gathered.summary in
     let is : text ≡ report_of parts run.plan run.stores run.gathered.history.items =
     ap (λ (s : Summary). out_text (has_history parts) run.plan.processors run.gathered.history.items s) ran.counts in
@@ -59,5 +60,6 @@ EndsRun-reported out form parts run end reports ran made refusal trace history k
       unwritten = λ memory. absurd (omega (arith, memory, made));
       wrote = λ done. (text, prints, wrote done);
       part = λ failed. (text, prints, part failed);
-      write_fault = rose;
+      write_fault = fault;
+      no_write_fault = no_fault;
     }

@@ -1,6 +1,6 @@
 -- What the commands that make a trace promise.
 use Rattle.std.specs.Prelude.{ℕ, ◌≡◌, ◌≢◌, ◌<◌, ◌≤◌, ◌⊎◌, List, [], length, map, Some, None}
-use Rattle.io_core.specs.Faults.{Rose}
+use Rattle.io_core.specs.Faults.{one_more, Rose}
 use Rattle.pager_model.specs.declared.entry.Numbered.{Numbered}
 use Rattle.pager_model.specs.Counts.{counts}
 use Rattle.pager_model.specs.Legal.{entries_in}
@@ -35,7 +35,7 @@ pub record MakesText {K P : Type 0} (out : OutViews K P) (m : Making) (stores : 
   -- it is done, there was no memory, or a write failed
   pub statuses : (end.outcome.status ≡ DONE) ⊎ ((end.outcome.status ≡ MEMORY) ⊎ (end.outcome.status ≡ WRITE_FAULT))
   -- unless a write fails, it is done or there was no memory
-  pub complete : (Rose (out.writes end.before) (out.writes end.after) → ⊥)
+  pub complete : (Rose (out.write_faults end.before) (out.write_faults end.after) → ⊥)
       → (end.outcome.status ≡ DONE) ⊎ (end.outcome.status ≡ MEMORY)
   -- nothing was refused or run
   pub no_refusal : end.outcome.refusal ≡ None
@@ -50,7 +50,8 @@ pub record MakesText {K P : Type 0} (out : OutViews K P) (m : Making) (stores : 
   pub wrote : end.outcome.status ≡ DONE → WroteAll (made_text m) (out.taken end.before) (out.taken end.after)
   -- the sink failed, and has gained a beginning of the text
   pub part : end.outcome.status ≡ WRITE_FAULT → WrotePart (made_text m) (out.taken end.before) (out.taken end.after)
-  pub write_fault : end.outcome.status ≡ WRITE_FAULT → Rose (out.writes end.before) (out.writes end.after)
+  pub write_fault : end.outcome.status ≡ WRITE_FAULT → out.write_faults end.after ≡ one_more (out.write_faults end.before)
+  pub no_write_fault : end.outcome.status ≢ WRITE_FAULT → out.write_faults end.after ≡ out.write_faults end.before
   -- there was no memory, and nothing was written
   pub unwritten : end.outcome.status ≡ MEMORY → end.after ≡ end.before
 
@@ -60,7 +61,7 @@ pub record RunsLarge {K P : Type 0} (out : OutViews K P) (number seed : ℕ) (st
   pub statuses : (end.outcome.status ≡ DONE)
       ⊎ ((end.outcome.status ≡ REFUSED) ⊎ ((end.outcome.status ≡ MEMORY) ⊎ (end.outcome.status ≡ WRITE_FAULT)))
   -- with a store for each space, and unless a write fails, it is done or there was no memory
-  pub complete : 4 ≤ length stores → (Rose (out.writes end.before) (out.writes end.after) → ⊥)
+  pub complete : 4 ≤ length stores → (Rose (out.write_faults end.before) (out.write_faults end.after) → ⊥)
       → (end.outcome.status ≡ DONE) ⊎ (end.outcome.status ≡ MEMORY)
   -- it is refused exactly where there are fewer stores
   pub few : length stores < 4 → end.outcome.status ≡ REFUSED
@@ -85,4 +86,5 @@ pub record RunsLarge {K P : Type 0} (out : OutViews K P) (number seed : ℕ) (st
   -- the sink failed, and has gained a beginning of them
   pub part : end.outcome.status ≡ WRITE_FAULT → WrotePart
       (counts_text (large_trace number) (map out.seen stores) end.outcome.history.items) (out.taken end.before) (out.taken end.after)
-  pub write_fault : end.outcome.status ≡ WRITE_FAULT → Rose (out.writes end.before) (out.writes end.after)
+  pub write_fault : end.outcome.status ≡ WRITE_FAULT → out.write_faults end.after ≡ one_more (out.write_faults end.before)
+  pub no_write_fault : end.outcome.status ≢ WRITE_FAULT → out.write_faults end.after ≡ out.write_faults end.before

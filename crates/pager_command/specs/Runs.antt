@@ -3,7 +3,7 @@ use Rattle.std.specs.Prelude.{ℕ, ◌≡◌, ◌≢◌, ◌<◌, ◌≤◌, ◌
 use Rattle.pager_model.specs.Stores.{setting_over}
 use Rattle.contiguity_plan.specs.declared.plan.Plan.{Plan as Emptying}
 use Rattle.contiguity_plan.specs.Emptying.{IsPlanned}
-use Rattle.io_core.specs.Faults.{Rose}
+use Rattle.io_core.specs.Faults.{one_more, Rose}
 use Rattle.miss_curves.specs.Curves.{AreCurves}
 use Rattle.pager_model.specs.declared.entry.Numbered.{Numbered}
 use Rattle.pager_model.specs.Counts.{counts}
@@ -132,7 +132,7 @@ pub record IsStopped (form : Form) (left left' : Option (List ℕ)) (faults faul
   pub few_stores : CountsStores stores refusal
   pub one_processor : CountsProcessors form refusal
   pub refused : status ≡ REFUSED → IfSome left (λ bytes. IsSomeAnd refusal (IsRefused form stores bytes))
-  pub read_fault : status ≡ READ_FAULT → Rose faults faults'
+  pub read_fault : status ≡ READ_FAULT → faults' ≡ one_more faults
   pub no_fault : status ≢ READ_FAULT → faults' ≡ faults
   pub memory : status ≡ MEMORY → refusal ≡ None → WasRunnable form stores left left'
   pub complete : IsSomeAnd left (IsRunnable form stores) → (Rose faults faults' → ⊥) → status ≡ MEMORY
@@ -155,7 +155,8 @@ pub record EndsRun {K P : Type 0} (out : OutViews K P) (form : Form) (replay : R
       → PrintedAll form replay.plan replay.stores replay.gathered.history.items (out.taken end.before) (out.taken end.after)
   pub part : end.outcome.status ≡ WRITE_FAULT
       → PrintedPart form replay.plan replay.stores replay.gathered.history.items (out.taken end.before) (out.taken end.after)
-  pub write_fault : end.outcome.status ≡ WRITE_FAULT → Rose (out.writes end.before) (out.writes end.after)
+  pub write_fault : end.outcome.status ≡ WRITE_FAULT → out.write_faults end.after ≡ one_more (out.write_faults end.before)
+  pub no_write_fault : end.outcome.status ≢ WRITE_FAULT → out.write_faults end.after ≡ out.write_faults end.before
 
 -- What a run by a form promises, whichever threads make its entries.
 pub record RunsBy {T K P : Type 0} (views : Views T K P) (form : Form) (before after : Ends T K) (stores : List P)
@@ -167,14 +168,15 @@ pub record RunsBy {T K P : Type 0} (views : Views T K P) (form : Form) (before a
   pub one_processor : CountsProcessors form outcome.refusal
   pub refused : outcome.status ≡ REFUSED
       → IfSome (views.left before.source) (λ bytes. IsSomeAnd outcome.refusal (IsRefused form (length stores) bytes))
-  pub read_fault : outcome.status ≡ READ_FAULT → Rose (views.reads before.source) (views.reads after.source)
-  pub no_read_fault : outcome.status ≢ READ_FAULT → views.reads after.source ≡ views.reads before.source
-  pub write_fault : outcome.status ≡ WRITE_FAULT → Rose (views.out.writes before.sink) (views.out.writes after.sink)
+  pub read_fault : outcome.status ≡ READ_FAULT → views.read_faults after.source ≡ one_more (views.read_faults before.source)
+  pub no_read_fault : outcome.status ≢ READ_FAULT → views.read_faults after.source ≡ views.read_faults before.source
+  pub write_fault : outcome.status ≡ WRITE_FAULT → views.out.write_faults after.sink ≡ one_more (views.out.write_faults before.sink)
+  pub no_write_fault : outcome.status ≢ WRITE_FAULT → views.out.write_faults after.sink ≡ views.out.write_faults before.sink
   pub memory : outcome.status ≡ MEMORY → outcome.refusal ≡ None
       → WasRunnable form (length stores) (views.left before.source) (views.left after.source)
   pub complete : IsSomeAnd (views.left before.source) (IsRunnable form (length stores))
-      → (Rose (views.reads before.source) (views.reads after.source) → ⊥)
-      → (Rose (views.out.writes before.sink) (views.out.writes after.sink) → ⊥)
+      → (Rose (views.read_faults before.source) (views.read_faults after.source) → ⊥)
+      → (Rose (views.out.write_faults before.sink) (views.out.write_faults after.sink) → ⊥)
       → (outcome.status ≡ DONE) ⊎ (outcome.status ≡ MEMORY)
   -- nothing was written
   pub unwritten : outcome.status ≢ DONE → outcome.status ≢ WRITE_FAULT → after.sink ≡ before.sink

@@ -5,24 +5,24 @@ use Rattle.pager_model.specs.Plans.{Plan}
 use Rattle.pager_model.specs.Stored.{Stored}
 use Rattle.pager_command.specs.declared.outcome.Outcome.{Outcome}
 
--- How a sink and a store are seen: a sink tells its bytes by `taken` and its faults by `writes`, and a store itself by `seen`.
+-- How a sink and a store are seen: a sink tells its bytes by `taken` and its faults by `write_faults`, and a store itself by `seen`.
 pub record OutViews (K P : Type 0) : Type 0 where
   pub taken : K → Option (List ℕ)
-  pub writes : K → ℕ
+  pub write_faults : K → ℕ
   pub seen : P → Stored
 
--- How a source is seen beside them: it tells its bytes by `left` and its faults by `reads`.
+-- How a source is seen beside them: it tells its bytes by `left` and its faults by `read_faults`.
 pub record Views (T K P : Type 0) : Type 0 where
   pub left : T → Option (List ℕ)
-  pub reads : T → ℕ
+  pub read_faults : T → ℕ
   pub out : OutViews K P
 
-abbrev pub out_views : {K P : Type 0} (taken : K → Option (List ℕ)) (writes : K → ℕ) (seen : P → Stored) → OutViews K P
-out_views taken writes seen = record { taken = taken; writes = writes; seen = seen }
+abbrev pub out_views : {K P : Type 0} (taken : K → Option (List ℕ)) (write_faults : K → ℕ) (seen : P → Stored) → OutViews K P
+out_views taken write_faults seen = record { taken = taken; write_faults = write_faults; seen = seen }
 
 abbrev pub views : {T K P : Type 0}
     → (T → Option (List ℕ)) → (T → ℕ) → (K → Option (List ℕ)) → (K → ℕ) → (P → Stored) → Views T K P
-views left reads taken writes seen = record { left = left; reads = reads; out = out_views taken writes seen }
+views left read_faults taken write_faults seen = record { left = left; read_faults = read_faults; out = out_views taken write_faults seen }
 
 -- The two ends of a run: where it reads and where it writes.
 pub record Ends (T K : Type 0) : Type 0 where

@@ -1,7 +1,7 @@
 //! Traces that are made from a number: written, or run.
 
-ghost use Rattle.std.specs.Prelude.{◌≡◌, ◌≤◌, ◌⊎◌, None, Some, IfOk, IfErr, length, map};
-ghost use Rattle.io_core.specs.Faults.{Rose};
+ghost use Rattle.std.specs.Prelude.{◌≡◌, ◌≢◌, ◌≤◌, ◌⊎◌, None, Some, IfOk, IfErr, length, map};
+ghost use Rattle.io_core.specs.Faults.{one_more};
 ghost use Rattle.pager_model.specs.Legal.{entries_in};
 ghost use Rattle.pager_model.specs.PrintedText.{summary_text};
 ghost use Rattle.pager_model.specs.TurnOrders.{IsSeeded};
@@ -142,7 +142,8 @@ fn write_counts<K: Sink, S: Store + Send + Drop>(
     ensures stores { result.stores ≡ gathered.stores }
     ensures wrote { result.status ≡ DONE → WroteAll (summary_text gathered.summary) (K.taken sink.old) (K.taken sink.new) }
     ensures part { result.status ≡ WRITE_FAULT → WrotePart (summary_text gathered.summary) (K.taken sink.old) (K.taken sink.new) }
-    ensures rose { result.status ≡ WRITE_FAULT → Rose (K.faults sink.old) (K.faults sink.new) }
+    ensures write_fault { result.status ≡ WRITE_FAULT → K.faults sink.new ≡ one_more (K.faults sink.old) }
+    ensures no_write_fault { result.status ≢ WRITE_FAULT → K.faults sink.new ≡ K.faults sink.old }
 {
     let Gathered {
         history,

@@ -3,7 +3,7 @@
 ghost use Rattle.std.specs.Prelude.{ℕ, ◌≡◌, ◌≢◌, ◌<◌, ◌≤◌, ◌⊎◌, List, [], Option, None, Some, IfOk, IfErr, IfSome, IsSome, IsSomeAnd, length, map};
 ghost use Rattle.contiguity_plan.specs.declared.plan.Plan.{Plan as Emptying};
 ghost use Rattle.contiguity_plan.specs.Emptying.{IsOver, IsPlanned};
-ghost use Rattle.io_core.specs.Faults.{Rose};
+ghost use Rattle.io_core.specs.Faults.{one_more, Rose};
 ghost use Rattle.miss_curves.specs.Curves.{AreCurves};
 ghost use Rattle.miss_curves.specs.Histories.{IsRunOf};
 ghost use Rattle.pager_model.specs.Legal.{entries_in, frames_at};
@@ -70,14 +70,15 @@ pub fn run<T: Source, K: Sink, S: Store + Send + Drop, R: Threads + Wait + Sync>
     ensures unrefused { IsSome result.trace → result.refusal ≡ None }
     ensures unmade { result.status ≢ DONE → result.status ≢ WRITE_FAULT → result.status ≢ MEMORY → result.trace ≡ None }
 
-    // The bytes are refused as they should be; a read failed, and else none did; a write failed; the reader had memory, and the trace could be
-    // run. Where the refusal is for stores, it says how many there were, which are fewer than the spaces. Where it is for processors, the form is
+    // The bytes are refused as they should be; one read failed, or else none did; one write failed, or else none did; the reader had memory, and the
+    // trace could be run. Where the refusal is for stores, it says how many there were, which are fewer than the spaces. Where it is for processors, the form is
     // for one alone, and it says how many the trace has, which are more.
     ensures refused { (form : Asked) → AreWords words.now form → result.status ≡ REFUSED
         → IfSome (T.left source.old) (λ bytes. IsSomeAnd result.refusal (IsRefused form (length stores.items) bytes)) }
-    ensures read_fault { result.status ≡ READ_FAULT → Rose (T.faults source.old) (T.faults source.new) }
+    ensures read_fault { result.status ≡ READ_FAULT → T.faults source.new ≡ one_more (T.faults source.old) }
     ensures no_read_fault { result.status ≢ READ_FAULT → T.faults source.new ≡ T.faults source.old }
-    ensures write_fault { result.status ≡ WRITE_FAULT → Rose (K.faults sink.old) (K.faults sink.new) }
+    ensures write_fault { result.status ≡ WRITE_FAULT → K.faults sink.new ≡ one_more (K.faults sink.old) }
+    ensures no_write_fault { result.status ≢ WRITE_FAULT → K.faults sink.new ≡ K.faults sink.old }
     ensures memory { (form : Asked) → AreWords words.now form → result.status ≡ MEMORY → result.refusal ≡ None
         → WasRunnable form (length stores.items) (T.left source.old) (T.left source.new) }
     ensures few_stores { CountsStores (length stores.items) result.refusal }
@@ -312,7 +313,8 @@ fn write_curves_of<K: Sink>(alloc: Global, sink: &mut K, trace: &Trace, history:
     ensures part { result ≡ WRITE_FAULT → (g : Given) → IsRunOf trace.now g (entries_in history.now.items)
         → (tiles : List ℕ) × (pages : List ℕ) × AreCurves g (entries_in history.now.items) tiles pages
         × WrotePart (curves_text tiles pages) (K.taken sink.old) (K.taken sink.new) }
-    ensures rose { result ≡ WRITE_FAULT → Rose (K.faults sink.old) (K.faults sink.new) }
+    ensures write_fault { result ≡ WRITE_FAULT → K.faults sink.new ≡ one_more (K.faults sink.old) }
+    ensures no_write_fault { result ≢ WRITE_FAULT → K.faults sink.new ≡ K.faults sink.old }
 {
     match curves(alloc, trace, history) {
         Ok(counted) => {
@@ -368,7 +370,8 @@ fn write_planned<K: Sink>(
     ensures part { result ≡ WRITE_FAULT → (g : Given) → IsOver frames g (entries_in history.now.items)
         → (planned : Option Emptying) × IsPlanned (frames_at g (entries_in history.now.items)) frames size planned
         × WrotePart (plan_text planned) (K.taken sink.old) (K.taken sink.new) }
-    ensures rose { result ≡ WRITE_FAULT → Rose (K.faults sink.old) (K.faults sink.new) }
+    ensures write_fault { result ≡ WRITE_FAULT → K.faults sink.new ≡ one_more (K.faults sink.old) }
+    ensures no_write_fault { result ≢ WRITE_FAULT → K.faults sink.new ≡ K.faults sink.old }
 {
     match plan_emptying(alloc, frames, history, size) {
         Ok(planned) => status_of_write(write_plan(sink, &planned)),
@@ -394,7 +397,8 @@ fn report_run<K: Sink, S: Store + Send + Drop>(
     ensures part { result.status ≡ WRITE_FAULT
         → WrotePart (out_text (has_history parts) trace.processors gathered.history.items gathered.summary)
         (K.taken sink.old) (K.taken sink.new) }
-    ensures rose { result.status ≡ WRITE_FAULT → Rose (K.faults sink.old) (K.faults sink.new) }
+    ensures write_fault { result.status ≡ WRITE_FAULT → K.faults sink.new ≡ one_more (K.faults sink.old) }
+    ensures no_write_fault { result.status ≢ WRITE_FAULT → K.faults sink.new ≡ K.faults sink.old }
 {
     let Gathered {
         history,

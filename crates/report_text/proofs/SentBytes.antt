@@ -1,5 +1,5 @@
 -- Bytes that go out one after another.
-use Rattle.std.proofs.Common.{◌≡◌, ℕ, ◌+◌, ◌<◌, ◌≤◌, inl, inr, List, [], ◌∷◌, ◌++◌, length, take, drop, get_or, flat_map, Option, Some, IfSome, Result, Ok, Err, IsErr, ap, sym, subst, ◌∙◌, append_assoc, arith}
+use Rattle.std.proofs.Common.{◌≡◌, ℕ, ◌+◌, ◌<◌, ◌≤◌, List, [], ◌∷◌, ◌++◌, length, take, drop, get_or, flat_map, Option, Some, IfSome, Result, Ok, Err, IsErr, ap, sym, subst, ◌∙◌, append_assoc, arith}
 use Rattle.std.specs.List.{range_with_len}
 use Rattle.std.proofs.Math.Seq.{take-append-add}
 use Rattle.std.proofs.lemmas.List.{append-nil, flat_map_more, length-append, take-append-le, take-append-drop, take_more}
@@ -7,7 +7,7 @@ use Rattle.std.proofs.lemmas.List.FromFn.{get_or-range_with_len, length-range_wi
 use Rattle.std.proofs.lemmas.Bool.{false≢true}
 use Rattle.std.proofs.lemmas.Option.{IfSome_then}
 use Rattle.std.proofs.lemmas.Grind.{flat_map-append}
-use Rattle.io_core.specs.Faults.{Rose}
+use Rattle.io_core.specs.Faults.{one_more}
 use Rattle.report_text.specs.Writing.{Outgoing, Sent, SentPart, Puts}
 
 -- of what waited and these bytes a beginning went out, behind what the sink had, and the rest waits
@@ -50,21 +50,24 @@ part_more taken bytes rest had part = (
       (sym (take-append-le part.0 bytes rest (omega (arith, part.1)))),
 )
 
-rose_then : (a b c : ℕ) → a ≤ b → Rose b c → Rose a c
-rose_then a b c below (inl more) = inl (omega (arith, below, more))
-rose_then a b c below (inr full) = inr full
+-- how many bytes there are behind what waits
+longer : (a b : Outgoing) (x y : List ℕ)
+    → (length (a.waiting ++ (x ++ y)) ≡ length (a.waiting ++ x) + length y) × (length (b.waiting ++ y) ≡ length b.waiting + length y)
+longer a b x y = (ap length (sym (append_assoc a.waiting x y)) ∙ length-append (a.waiting ++ x) y, length-append b.waiting y)
 
 -- bytes, and then more
 pub sent_sent : {a b c : Outgoing} (x y : List ℕ) → Sent a b x → Sent b c y → Sent a c (x ++ y)
 sent_sent {a = a} {b = b} {c = c} x y first more = record {
   told = IfSome_then a.taken first.told (λ had gone. gone_gone a b c x y had gone more.told);
-  never_falls = omega (arith, first.never_falls, more.never_falls);
+  few_writes = omega (arith, first.few_writes, more.few_writes, longer a b x y);
+  unfailed = more.unfailed ∙ first.unfailed;
 }
 
 pub sent_part : {a b c : Outgoing} (x y : List ℕ) → Sent a b x → SentPart b c y → SentPart a c (x ++ y)
 sent_part {a = a} {b = b} {c = c} x y first more = record {
   told = IfSome_then a.taken first.told (λ had gone. gone_part a b c x y had gone more.told);
-  rose = rose_then a.faults b.faults c.faults first.never_falls more.rose;
+  few_writes = omega (arith, first.few_writes, more.few_writes, longer a b x y);
+  rose = more.rose ∙ ap one_more first.unfailed;
 }
 
 -- bytes, and then what the result says
@@ -81,13 +84,14 @@ and_then x (y ∷ ys) = and_then (x ++ y) ys
 pub puts_failed : {E : Type 0} (r : Result (Unit {0}) E) {a b : Outgoing} (x : List ℕ) (rest : List (List ℕ)) → IsErr r → SentPart a b x
     → Puts r a b (and_then x rest)
 puts_failed (Ok done) x rest is part = absurd (false≢true is)
-puts_failed (Err e) {a = a} {b = b} x rest is part = longer x rest part
+puts_failed (Err e) {a = a} {b = b} x rest is part = further x rest part
   where
-    longer : (x : List ℕ) (rest : List (List ℕ)) → SentPart a b x → SentPart a b (and_then x rest)
-    longer x [] part = part
-    longer x (y ∷ rest) part = longer (x ++ y) rest (record {
+    further : (x : List ℕ) (rest : List (List ℕ)) → SentPart a b x → SentPart a b (and_then x rest)
+    further x [] part = part
+    further x (y ∷ rest) part = further (x ++ y) rest (record {
       told = IfSome_then a.taken part.told
           (λ had gone. subst (λ l. GonePart b.taken l had) (append_assoc a.waiting x y) (part_more b.taken (a.waiting ++ x) y had gone));
+      few_writes = omega (arith, part.few_writes, ap length (append_assoc a.waiting x y), length-append (a.waiting ++ x) y);
       rose = part.rose;
     })
 

@@ -1,8 +1,8 @@
 //! The text of miss curves.
 
-ghost use Rattle.std.specs.Prelude.{◌≡◌, ◌+◌, ◌^◌, ◌<◌, [], ◌∷◌, decimal, flat_map, length, OnOk, OnErr};
+ghost use Rattle.std.specs.Prelude.{◌≡◌, ◌+◌, ◌^◌, ◌<◌, ◌≤◌, [], ◌∷◌, decimal, flat_map, length, OnOk, OnErr};
 ghost use Rattle.std.specs.List.{range_with_len};
-ghost use Rattle.io_core.specs.Faults.{Rose};
+ghost use Rattle.io_core.specs.Faults.{one_more};
 ghost use Rattle.pager_model.specs.TraceText.{line_of_words};
 ghost use Rattle.report_text.specs.CurveText.{curve_line, curves_text};
 ghost use Rattle.report_text.specs.Lines.{line_text};
@@ -21,7 +21,9 @@ pub fn write_curves<K: Sink>(sink: &mut K, tiles: &[u64], pages: &[u64]) -> Resu
     requires { length pages.now ≡ length tiles.now }
     ensures whole { OnOk result (WroteAll (curves_text tiles.now pages.now) (K.taken sink.old) (K.taken sink.new)) }
     ensures part { OnErr result (WrotePart (curves_text tiles.now pages.now) (K.taken sink.old) (K.taken sink.new)) }
-    ensures rose { OnErr result (Rose (K.faults sink.old) (K.faults sink.new)) }
+    ensures few_writes { K.writes sink.new ≤ K.writes sink.old + length (curves_text tiles.now pages.now) }
+    ensures unfailed { OnOk result (K.faults sink.new ≡ K.faults sink.old) }
+    ensures rose { OnErr result (K.faults sink.new ≡ one_more (K.faults sink.old)) }
 {
     let mut room = Room::new();
     put_curves(&mut room, sink, tiles, pages)
@@ -36,8 +38,8 @@ fn put_curves<K: Sink>(
 ) -> Result<(), WriteFailed>
     requires { length pages.now ≡ length tiles.now }
     ensures puts { Puts result
-        (outgoing (K.taken sink.old) (K.faults sink.old) room.old.bytes.items)
-        (outgoing (K.taken sink.new) (K.faults sink.new) room.new.bytes.items)
+        (outgoing (K.taken sink.old) (K.writes sink.old) (K.faults sink.old) room.old.bytes.items)
+        (outgoing (K.taken sink.new) (K.writes sink.new) (K.faults sink.new) room.new.bytes.items)
         (curves_text tiles.now pages.now) }
     ensures empty { OnOk result (room.new.bytes.items ≡ []) }
 {
@@ -54,8 +56,8 @@ fn put_capacities<K: Sink>(
 ) -> Result<(), WriteFailed>
     requires { length pages.now ≡ length tiles.now }
     ensures { Puts result
-        (outgoing (K.taken sink.old) (K.faults sink.old) room.old.bytes.items)
-        (outgoing (K.taken sink.new) (K.faults sink.new) room.new.bytes.items)
+        (outgoing (K.taken sink.old) (K.writes sink.old) (K.faults sink.old) room.old.bytes.items)
+        (outgoing (K.taken sink.new) (K.writes sink.new) (K.faults sink.new) room.new.bytes.items)
         (flat_map (curve_line tiles.now pages.now) (range_with_len 0 (length tiles.now))) }
 {
     for place in 0..tiles.len() {

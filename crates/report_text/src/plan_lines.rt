@@ -1,7 +1,7 @@
 //! The text of a plan.
 
-ghost use Rattle.std.specs.Prelude.{◌≡◌, [], ◌∷◌, ◌++◌, OnOk, OnErr, codes, flat_map};
-ghost use Rattle.io_core.specs.Faults.{Rose};
+ghost use Rattle.std.specs.Prelude.{◌≡◌, ◌+◌, ◌≤◌, [], ◌∷◌, ◌++◌, OnOk, OnErr, codes, flat_map, length};
+ghost use Rattle.io_core.specs.Faults.{one_more};
 ghost use Rattle.pager_model.specs.TraceText.{line_of_words};
 ghost use Rattle.report_text.specs.Lines.{line_text};
 ghost use Rattle.report_text.specs.PlanText.{extent_line, page_line, plan_text, planned_lines};
@@ -20,7 +20,9 @@ use io_core::{Sink, WriteFailed};
 pub fn write_plan<K: Sink>(sink: &mut K, plan: &Option<Plan>) -> Result<(), WriteFailed>
     ensures whole { OnOk result (WroteAll (plan_text plan.now) (K.taken sink.old) (K.taken sink.new)) }
     ensures part { OnErr result (WrotePart (plan_text plan.now) (K.taken sink.old) (K.taken sink.new)) }
-    ensures rose { OnErr result (Rose (K.faults sink.old) (K.faults sink.new)) }
+    ensures few_writes { K.writes sink.new ≤ K.writes sink.old + length (plan_text plan.now) }
+    ensures unfailed { OnOk result (K.faults sink.new ≡ K.faults sink.old) }
+    ensures rose { OnErr result (K.faults sink.new ≡ one_more (K.faults sink.old)) }
 {
     let mut room = Room::new();
     put_plan(&mut room, sink, plan)
@@ -29,8 +31,8 @@ pub fn write_plan<K: Sink>(sink: &mut K, plan: &Option<Plan>) -> Result<(), Writ
 /// Puts the whole text, and sends it.
 fn put_plan<K: Sink>(room: &mut Room, sink: &mut K, plan: &Option<Plan>) -> Result<(), WriteFailed>
     ensures puts { Puts result
-        (outgoing (K.taken sink.old) (K.faults sink.old) room.old.bytes.items)
-        (outgoing (K.taken sink.new) (K.faults sink.new) room.new.bytes.items)
+        (outgoing (K.taken sink.old) (K.writes sink.old) (K.faults sink.old) room.old.bytes.items)
+        (outgoing (K.taken sink.new) (K.writes sink.new) (K.faults sink.new) room.new.bytes.items)
         (plan_text plan.now) }
     ensures empty { OnOk result (room.new.bytes.items ≡ []) }
 {
@@ -45,8 +47,8 @@ fn put_planned<K: Sink>(
     plan: &Option<Plan>,
 ) -> Result<(), WriteFailed>
     ensures { Puts result
-        (outgoing (K.taken sink.old) (K.faults sink.old) room.old.bytes.items)
-        (outgoing (K.taken sink.new) (K.faults sink.new) room.new.bytes.items)
+        (outgoing (K.taken sink.old) (K.writes sink.old) (K.faults sink.old) room.old.bytes.items)
+        (outgoing (K.taken sink.new) (K.writes sink.new) (K.faults sink.new) room.new.bytes.items)
         (planned_lines plan.now) }
 {
     match plan {
@@ -58,8 +60,8 @@ fn put_planned<K: Sink>(
 /// Puts the line of an extent, and those of its pages.
 fn put_extent<K: Sink>(room: &mut Room, sink: &mut K, plan: &Plan) -> Result<(), WriteFailed>
     ensures { Puts result
-        (outgoing (K.taken sink.old) (K.faults sink.old) room.old.bytes.items)
-        (outgoing (K.taken sink.new) (K.faults sink.new) room.new.bytes.items)
+        (outgoing (K.taken sink.old) (K.writes sink.old) (K.faults sink.old) room.old.bytes.items)
+        (outgoing (K.taken sink.new) (K.writes sink.new) (K.faults sink.new) room.new.bytes.items)
         (extent_line plan.now ++ flat_map page_line plan.now.pages.items) }
 {
     room.put_line(sink, &line_of_extent(plan))?;
@@ -69,8 +71,8 @@ fn put_extent<K: Sink>(room: &mut Room, sink: &mut K, plan: &Plan) -> Result<(),
 /// Puts a line for each page.
 fn put_pages<K: Sink>(room: &mut Room, sink: &mut K, pages: &[PageOf]) -> Result<(), WriteFailed>
     ensures { Puts result
-        (outgoing (K.taken sink.old) (K.faults sink.old) room.old.bytes.items)
-        (outgoing (K.taken sink.new) (K.faults sink.new) room.new.bytes.items)
+        (outgoing (K.taken sink.old) (K.writes sink.old) (K.faults sink.old) room.old.bytes.items)
+        (outgoing (K.taken sink.new) (K.writes sink.new) (K.faults sink.new) room.new.bytes.items)
         (flat_map page_line pages.now) }
 {
     for page in pages {

@@ -1,7 +1,7 @@
 //! The report of a run: each call's answer, the history where it is asked for, and the counts.
 
-ghost use Rattle.std.specs.Prelude.{◌≡◌, if◌then◌else◌, [], decimal, option_to_list, slice_get, OnOk, OnErr};
-ghost use Rattle.io_core.specs.Faults.{Rose};
+ghost use Rattle.std.specs.Prelude.{◌≡◌, ◌+◌, ◌≤◌, if◌then◌else◌, [], decimal, length, option_to_list, slice_get, OnOk, OnErr};
+ghost use Rattle.io_core.specs.Faults.{one_more};
 ghost use Rattle.pager_model.specs.Legal.{entries_in};
 ghost use Rattle.pager_model.specs.PrintedText.{answers_of, answers_text, history_text, out_text, summary_text};
 ghost use Rattle.report_text.specs.Lines.{line_text};
@@ -37,7 +37,9 @@ pub fn write_report<K: Sink>(
 ) -> Result<(), WriteFailed>
     ensures whole { OnOk result (WroteAll (out_text (has_history parts) processors history.now.items summary.now) (K.taken sink.old) (K.taken sink.new)) }
     ensures part { OnErr result (WrotePart (out_text (has_history parts) processors history.now.items summary.now) (K.taken sink.old) (K.taken sink.new)) }
-    ensures rose { OnErr result (Rose (K.faults sink.old) (K.faults sink.new)) }
+    ensures few_writes { K.writes sink.new ≤ K.writes sink.old + length (out_text (has_history parts) processors history.now.items summary.now) }
+    ensures unfailed { OnOk result (K.faults sink.new ≡ K.faults sink.old) }
+    ensures rose { OnErr result (K.faults sink.new ≡ one_more (K.faults sink.old)) }
 {
     let mut room = Room::new();
     put_report(&mut room, sink, processors, history, summary, parts)
@@ -49,7 +51,9 @@ pub fn write_report<K: Sink>(
 pub fn write_summary<K: Sink>(sink: &mut K, summary: &Summary) -> Result<(), WriteFailed>
     ensures whole { OnOk result (WroteAll (summary_text summary.now) (K.taken sink.old) (K.taken sink.new)) }
     ensures part { OnErr result (WrotePart (summary_text summary.now) (K.taken sink.old) (K.taken sink.new)) }
-    ensures rose { OnErr result (Rose (K.faults sink.old) (K.faults sink.new)) }
+    ensures few_writes { K.writes sink.new ≤ K.writes sink.old + length (summary_text summary.now) }
+    ensures unfailed { OnOk result (K.faults sink.new ≡ K.faults sink.old) }
+    ensures rose { OnErr result (K.faults sink.new ≡ one_more (K.faults sink.old)) }
 {
     let mut room = Room::new();
     put_summary(&mut room, sink, summary)
@@ -65,8 +69,8 @@ fn put_report<K: Sink>(
     parts: Parts,
 ) -> Result<(), WriteFailed>
     ensures puts { Puts result
-        (outgoing (K.taken sink.old) (K.faults sink.old) room.old.bytes.items)
-        (outgoing (K.taken sink.new) (K.faults sink.new) room.new.bytes.items)
+        (outgoing (K.taken sink.old) (K.writes sink.old) (K.faults sink.old) room.old.bytes.items)
+        (outgoing (K.taken sink.new) (K.writes sink.new) (K.faults sink.new) room.new.bytes.items)
         (out_text (has_history parts) processors history.now.items summary.now) }
     ensures empty { OnOk result (room.new.bytes.items ≡ []) }
 {
@@ -78,8 +82,8 @@ fn put_report<K: Sink>(
 /// Puts the counts, and sends what waits.
 fn put_summary<K: Sink>(room: &mut Room, sink: &mut K, summary: &Summary) -> Result<(), WriteFailed>
     ensures puts { Puts result
-        (outgoing (K.taken sink.old) (K.faults sink.old) room.old.bytes.items)
-        (outgoing (K.taken sink.new) (K.faults sink.new) room.new.bytes.items)
+        (outgoing (K.taken sink.old) (K.writes sink.old) (K.faults sink.old) room.old.bytes.items)
+        (outgoing (K.taken sink.new) (K.writes sink.new) (K.faults sink.new) room.new.bytes.items)
         (summary_text summary.now) }
     ensures empty { OnOk result (room.new.bytes.items ≡ []) }
 {
@@ -95,8 +99,8 @@ fn put_answers<K: Sink>(
     history: &History,
 ) -> Result<(), WriteFailed>
     ensures { Puts result
-        (outgoing (K.taken sink.old) (K.faults sink.old) room.old.bytes.items)
-        (outgoing (K.taken sink.new) (K.faults sink.new) room.new.bytes.items)
+        (outgoing (K.taken sink.old) (K.writes sink.old) (K.faults sink.old) room.old.bytes.items)
+        (outgoing (K.taken sink.new) (K.writes sink.new) (K.faults sink.new) room.new.bytes.items)
         (answers_text processors (entries_in history.now.items)) }
 {
     for processor in 0..processors {
@@ -113,8 +117,8 @@ fn put_answers_of<K: Sink>(
     history: &History,
 ) -> Result<(), WriteFailed>
     ensures { Puts result
-        (outgoing (K.taken sink.old) (K.faults sink.old) room.old.bytes.items)
-        (outgoing (K.taken sink.new) (K.faults sink.new) room.new.bytes.items)
+        (outgoing (K.taken sink.old) (K.writes sink.old) (K.faults sink.old) room.old.bytes.items)
+        (outgoing (K.taken sink.new) (K.writes sink.new) (K.faults sink.new) room.new.bytes.items)
         (answers_of (entries_in history.now.items) processor) }
 {
     // The number of the processor begins each of its lines.
@@ -138,8 +142,8 @@ fn put_answer_of<K: Sink>(
 ) -> Result<(), WriteFailed>
     requires { line_text line.old ≡ decimal processor }
     ensures puts { Puts result
-        (outgoing (K.taken sink.old) (K.faults sink.old) room.old.bytes.items)
-        (outgoing (K.taken sink.new) (K.faults sink.new) room.new.bytes.items)
+        (outgoing (K.taken sink.old) (K.writes sink.old) (K.faults sink.old) room.old.bytes.items)
+        (outgoing (K.taken sink.new) (K.writes sink.new) (K.faults sink.new) room.new.bytes.items)
         (answers_of (entries_in (option_to_list (slice_get history.now.items place))) processor) }
     ensures line { line_text line.new ≡ decimal processor }
 {
@@ -161,8 +165,8 @@ fn put_history<K: Sink>(
     history: &History,
 ) -> Result<(), WriteFailed>
     ensures { Puts result
-        (outgoing (K.taken sink.old) (K.faults sink.old) room.old.bytes.items)
-        (outgoing (K.taken sink.new) (K.faults sink.new) room.new.bytes.items)
+        (outgoing (K.taken sink.old) (K.writes sink.old) (K.faults sink.old) room.old.bytes.items)
+        (outgoing (K.taken sink.new) (K.writes sink.new) (K.faults sink.new) room.new.bytes.items)
         (if has_history parts then history_text history.now.items else []) }
 {
     match parts {
@@ -174,8 +178,8 @@ fn put_history<K: Sink>(
 /// Puts a line for each entry.
 fn put_entries<K: Sink>(room: &mut Room, sink: &mut K, history: &History) -> Result<(), WriteFailed>
     ensures { Puts result
-        (outgoing (K.taken sink.old) (K.faults sink.old) room.old.bytes.items)
-        (outgoing (K.taken sink.new) (K.faults sink.new) room.new.bytes.items)
+        (outgoing (K.taken sink.old) (K.writes sink.old) (K.faults sink.old) room.old.bytes.items)
+        (outgoing (K.taken sink.new) (K.writes sink.new) (K.faults sink.new) room.new.bytes.items)
         (history_text history.now.items) }
 {
     for place in 0..history.len() {

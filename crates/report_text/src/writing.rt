@@ -31,8 +31,8 @@ impl Room {
     /// Sends what waits.
     pub fn send<K: Sink>(&mut self, sink: &mut K) -> Result<(), WriteFailed>
         ensures puts { Puts result
-            (outgoing (K.taken sink.old) (K.faults sink.old) self.old.bytes.items)
-            (outgoing (K.taken sink.new) (K.faults sink.new) self.new.bytes.items)
+            (outgoing (K.taken sink.old) (K.writes sink.old) (K.faults sink.old) self.old.bytes.items)
+            (outgoing (K.taken sink.new) (K.writes sink.new) (K.faults sink.new) self.new.bytes.items)
             [] }
         ensures empty { OnOk result (self.new.bytes.items ≡ []) }
     {
@@ -44,8 +44,8 @@ impl Room {
     /// Ends a text by its last line, and sends what waits.
     pub fn finish<K: Sink>(&mut self, sink: &mut K) -> Result<(), WriteFailed>
         ensures puts { Puts result
-            (outgoing (K.taken sink.old) (K.faults sink.old) self.old.bytes.items)
-            (outgoing (K.taken sink.new) (K.faults sink.new) self.new.bytes.items)
+            (outgoing (K.taken sink.old) (K.writes sink.old) (K.faults sink.old) self.old.bytes.items)
+            (outgoing (K.taken sink.new) (K.writes sink.new) (K.faults sink.new) self.new.bytes.items)
             (line_of_words (codes "end" ∷ [])) }
         ensures empty { OnOk result (self.new.bytes.items ≡ []) }
     {
@@ -56,8 +56,8 @@ impl Room {
     /// Adds a line. The bytes that wait go out first where there is no room for it.
     pub fn put_line<K: Sink>(&mut self, sink: &mut K, line: &Line) -> Result<(), WriteFailed>
         ensures { Puts result
-            (outgoing (K.taken sink.old) (K.faults sink.old) self.old.bytes.items)
-            (outgoing (K.taken sink.new) (K.faults sink.new) self.new.bytes.items)
+            (outgoing (K.taken sink.old) (K.writes sink.old) (K.faults sink.old) self.old.bytes.items)
+            (outgoing (K.taken sink.new) (K.writes sink.new) (K.faults sink.new) self.new.bytes.items)
             (line_text line.now) }
     {
         let bytes = line.as_bytes();
@@ -72,8 +72,8 @@ impl Room {
     /// Adds lines.
     pub fn put_lines<K: Sink>(&mut self, sink: &mut K, lines: &[Line]) -> Result<(), WriteFailed>
         ensures { Puts result
-            (outgoing (K.taken sink.old) (K.faults sink.old) self.old.bytes.items)
-            (outgoing (K.taken sink.new) (K.faults sink.new) self.new.bytes.items)
+            (outgoing (K.taken sink.old) (K.writes sink.old) (K.faults sink.old) self.old.bytes.items)
+            (outgoing (K.taken sink.new) (K.writes sink.new) (K.faults sink.new) self.new.bytes.items)
             (flat_map line_text lines.now) }
     {
         for line in lines {

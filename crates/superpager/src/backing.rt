@@ -1,10 +1,11 @@
 //! Where the copies of pages are kept, by the program's words.
 
-ghost use Rattle.std.specs.Prelude.{◌≡◌, ◌≢◌, ◌≤◌, ℕ, List, IfOk, IfSome, IfNone, decimal, length};
+ghost use Rattle.std.specs.Prelude.{◌≡◌, ◌≢◌, ◌≤◌, ℕ, List, All, IfOk, IfSome, IfNone, decimal, length};
 ghost use Rattle.std.specs.Borrow.{Bor};
 ghost use Rattle.pager_model.specs.Bounds.{most_spaces};
 ghost use Rattle.pager_command.specs.Forms.{are_of};
 ghost use Rattle.superpager.specs.Asked.{AsksFolder, AsksSlots};
+ghost use Rattle.superpager.specs.NewStores.{IsNewFile, IsNewMemory, IsNewSlots};
 
 use pager_command::small_number_of;
 use pager_model::{MOST_SPACES, NoMemory};
@@ -62,12 +63,14 @@ fn slots_of(word: &str) -> Option<u32>
 
 /// A store in memory for each space that a trace may have, with no copy yet. None of them is to fail.
 pub fn memory_stores(alloc: Global) -> Result<Vec<MemoryStore>, AllocError>
-    ensures { IfOk result (λ stores. length stores.items ≡ most_spaces) }
+    ensures count { IfOk result (λ stores. length stores.items ≡ most_spaces) }
+    ensures new { IfOk result (λ stores. All IsNewMemory stores.items) }
 {
-    let mut stores = Vec::new(alloc);
-    stores.resize_with(MOST_SPACES as usize, || {
-        MemoryStore::of(alloc, Vec::new(alloc), Vec::new(alloc))
-    })?;
+    let mut stores = Vec::with_capacity(alloc, MOST_SPACES as usize)?;
+    for _ in 0..MOST_SPACES {
+        let store = MemoryStore::of(alloc, Vec::new(alloc), Vec::new(alloc));
+        stores.push(store)?;
+    }
     Ok(stores)
 }
 
@@ -77,7 +80,8 @@ pub fn file_stores<R: Files<File = File>>(
     alloc: Global,
     folder: &str,
 ) -> Result<Vec<FileStore<File>>, NoMemory>
-    ensures { IfOk result (λ stores. length stores.items ≡ most_spaces) }
+    ensures count { IfOk result (λ stores. length stores.items ≡ most_spaces) }
+    ensures new { IfOk result (λ stores. All IsNewFile stores.items) }
 {
     let mut stores = Vec::with_capacity(alloc, MOST_SPACES as usize)?;
     for number in 0..MOST_SPACES {
@@ -89,7 +93,8 @@ pub fn file_stores<R: Files<File = File>>(
 
 /// A store over so many slots in memory for each space that a trace may have, with no copy yet.
 pub fn slot_stores(alloc: Global, slots: u32) -> Result<Vec<SlotStore<MemoryBlocks>>, NoMemory>
-    ensures { IfOk result (λ stores. length stores.items ≡ most_spaces) }
+    ensures count { IfOk result (λ stores. length stores.items ≡ most_spaces) }
+    ensures new { IfOk result (λ stores. All (IsNewSlots slots) stores.items) }
 {
     let mut stores = Vec::with_capacity(alloc, MOST_SPACES as usize)?;
     for _ in 0..MOST_SPACES {

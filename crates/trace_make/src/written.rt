@@ -1,7 +1,7 @@
 //! The text of a trace.
 
-ghost use Rattle.std.specs.Prelude.{◌≡◌, ◌≤◌, ◌==◌, if◌then◌else◌, [], ◌∷◌, OnOk, OnErr, codes, flat_map, length};
-ghost use Rattle.io_core.specs.Faults.{Rose};
+ghost use Rattle.std.specs.Prelude.{◌≡◌, ◌+◌, ◌≤◌, ◌==◌, if◌then◌else◌, [], ◌∷◌, OnOk, OnErr, codes, flat_map, length};
+ghost use Rattle.io_core.specs.Faults.{one_more};
 ghost use Rattle.pager_model.specs.TraceText.{call_line, call_words, daemon_line, daemon_words, first_line, kind_word, line_of_words, rights_word, sizes_word, text_of};
 ghost use Rattle.report_text.specs.Lines.{Adds, GrowsBy, HasRoom, line_text};
 ghost use Rattle.report_text.specs.Writing.{Puts, outgoing};
@@ -18,7 +18,9 @@ use report_text::{Line as TextLine, Room};
 pub fn write_trace<K: Sink>(sink: &mut K, trace: &Trace) -> Result<(), WriteFailed>
     ensures whole { OnOk result (WroteAll (text_of trace.now) (K.taken sink.old) (K.taken sink.new)) }
     ensures part { OnErr result (WrotePart (text_of trace.now) (K.taken sink.old) (K.taken sink.new)) }
-    ensures rose { OnErr result (Rose (K.faults sink.old) (K.faults sink.new)) }
+    ensures few_writes { K.writes sink.new ≤ K.writes sink.old + length (text_of trace.now) }
+    ensures unfailed { OnOk result (K.faults sink.new ≡ K.faults sink.old) }
+    ensures rose { OnErr result (K.faults sink.new ≡ one_more (K.faults sink.old)) }
 {
     let mut room = Room::new();
     put_trace(&mut room, sink, trace)
@@ -27,8 +29,8 @@ pub fn write_trace<K: Sink>(sink: &mut K, trace: &Trace) -> Result<(), WriteFail
 /// Puts the whole text, and sends it.
 fn put_trace<K: Sink>(room: &mut Room, sink: &mut K, trace: &Trace) -> Result<(), WriteFailed>
     ensures puts { Puts result
-        (outgoing (K.taken sink.old) (K.faults sink.old) room.old.bytes.items)
-        (outgoing (K.taken sink.new) (K.faults sink.new) room.new.bytes.items)
+        (outgoing (K.taken sink.old) (K.writes sink.old) (K.faults sink.old) room.old.bytes.items)
+        (outgoing (K.taken sink.new) (K.writes sink.new) (K.faults sink.new) room.new.bytes.items)
         (text_of trace.now) }
     ensures empty { OnOk result (room.new.bytes.items ≡ []) }
 {
@@ -46,8 +48,8 @@ fn put_daemon<K: Sink>(
     daemon: Option<Daemon>,
 ) -> Result<(), WriteFailed>
     ensures { Puts result
-        (outgoing (K.taken sink.old) (K.faults sink.old) room.old.bytes.items)
-        (outgoing (K.taken sink.new) (K.faults sink.new) room.new.bytes.items)
+        (outgoing (K.taken sink.old) (K.writes sink.old) (K.faults sink.old) room.old.bytes.items)
+        (outgoing (K.taken sink.new) (K.writes sink.new) (K.faults sink.new) room.new.bytes.items)
         (daemon_line daemon) }
 {
     match daemon {
@@ -59,8 +61,8 @@ fn put_daemon<K: Sink>(
 /// Puts a line for each call.
 fn put_calls<K: Sink>(room: &mut Room, sink: &mut K, calls: &[Line]) -> Result<(), WriteFailed>
     ensures { Puts result
-        (outgoing (K.taken sink.old) (K.faults sink.old) room.old.bytes.items)
-        (outgoing (K.taken sink.new) (K.faults sink.new) room.new.bytes.items)
+        (outgoing (K.taken sink.old) (K.writes sink.old) (K.faults sink.old) room.old.bytes.items)
+        (outgoing (K.taken sink.new) (K.writes sink.new) (K.faults sink.new) room.new.bytes.items)
         (flat_map call_line calls.now) }
 {
     for line in calls {

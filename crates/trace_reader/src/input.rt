@@ -1,6 +1,6 @@
 //! A trace from a source, which gives its bytes a piece at a time.
 ghost use Rattle.std.specs.Prelude.{◌≡◌, ◌+◌, ◌<◌, ◌≤◌, ℕ, [], Some, IfSome, IfOk, IfErr, IsErrOf};
-ghost use Rattle.io_core.specs.Faults.{Rose};
+ghost use Rattle.io_core.specs.Faults.{one_more};
 ghost use Rattle.pager_model.specs.TraceText.{IsTextOf};
 ghost use Rattle.trace_reader.specs.Refusals.{IsCause, refusal_of};
 
@@ -21,14 +21,13 @@ fn read_text<T: Source>(alloc: Global, source: &mut T) -> Result<Vec<u8>, TraceF
     ensures refused { IfErr result
         (λ fault. IfSome (T.left source.old) (λ bytes. IsCause (refusal_of bytes) fault)) }
     ensures fault { IsErrOf result TraceFault.ReadFault
-        → Rose (T.faults source.old) (T.faults source.new) }
+        → T.faults source.new ≡ one_more (T.faults source.old) }
     ensures no_other_fault { (IsErrOf result TraceFault.ReadFault → ⊥)
         → T.faults source.new ≡ T.faults source.old }
     ensures asks_no_stores { (stores spaces : ℕ)
         → IsErrOf result (TraceFault.TooFewStores stores spaces) → ⊥ }
     ensures asks_no_processors { (processors : ℕ)
         → IsErrOf result (TraceFault.OneProcessor processors) → ⊥ }
-    ensures never_falls { T.faults source.old ≤ T.faults source.new }
     ensures few_reads { T.reads source.new ≤ T.reads source.old + 16777217 }
 {
     let mut text = Vec::new(alloc);
@@ -61,14 +60,13 @@ pub fn read_trace<T: Source>(alloc: Global, source: &mut T) -> Result<Trace, Tra
     ensures refused { IfErr result
         (λ fault. IfSome (T.left source.old) (λ bytes. IsCause (refusal_of bytes) fault)) }
     ensures fault { IsErrOf result TraceFault.ReadFault
-        → Rose (T.faults source.old) (T.faults source.new) }
+        → T.faults source.new ≡ one_more (T.faults source.old) }
     ensures no_other_fault { (IsErrOf result TraceFault.ReadFault → ⊥)
         → T.faults source.new ≡ T.faults source.old }
     ensures asks_no_stores { (stores spaces : ℕ)
         → IsErrOf result (TraceFault.TooFewStores stores spaces) → ⊥ }
     ensures asks_no_processors { (processors : ℕ)
         → IsErrOf result (TraceFault.OneProcessor processors) → ⊥ }
-    ensures never_falls { T.faults source.old ≤ T.faults source.new }
     ensures few_reads { T.reads source.new ≤ T.reads source.old + 16777217 }
 {
     let text = read_text(alloc, source)?;

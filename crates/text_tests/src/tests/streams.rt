@@ -35,6 +35,8 @@ impl Sink for Slow {
 
     ghost taken = { λ s. Some s.sink.taken };
 
+    ghost writes = { λ s. s.sink.writes };
+
     ghost faults = { λ s. s.sink.faults };
 
     fn write(&mut self, piece: &[u8]) -> Result<usize, WriteFailed> {

@@ -19,4 +19,4 @@ returns-in-Ok g c =
     wrote.statuses wrote.refusal (wrote.trace ∙ ap Some ran.trace)
     (λ done. subst (λ t. WroteAll t (taken c.args.sink.now) (taken sink)) text (wrote.wrote done))
     (λ failed. subst (λ t. WrotePart t (taken c.args.sink.now) (taken sink)) text (wrote.part failed))
-    wrote.rose
+    wrote.write_fault wrote.no_write_fault

@@ -13,4 +13,4 @@ pub returns : goal.returns
 returns g c = λ stores ran.
     let wrote = c.write_curves_of-status.ensures in
     EndsRun-curves (out_views g.K.Sink.taken g.K.Sink.faults g.S.Store.seen) (replayed c.args.trace stores c.args.gathered)
-    (ending c.args.sink.now _ _) ran wrote.statuses refl refl refl refl wrote.unwritten wrote.wrote wrote.part wrote.rose
+    (ending c.args.sink.now _ _) ran wrote.statuses refl refl refl refl wrote.unwritten wrote.wrote wrote.part wrote.write_fault wrote.no_write_fault

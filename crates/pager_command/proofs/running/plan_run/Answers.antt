@@ -18,4 +18,4 @@ returns g c = λ stores ran.
     c.frames.ensures.text ran wrote.statuses refl refl refl refl wrote.unwritten
     (rw (← c.frames.ensures.frames) wrote.wrote)
     (rw (← c.frames.ensures.frames) wrote.part)
-    wrote.rose
+    wrote.write_fault wrote.no_write_fault

@@ -2,6 +2,7 @@ use Rattle.std.proofs.Common.{◌≡◌, ◌<◌, ◌⊎◌, Err, Some, inl, ap,
 use Rattle.std.specs.Result.{is_err, result_err}
 use Rattle.std.proofs.lemmas.Bool.{false≢true}
 use Rattle.std.proofs.lemmas.Option.{same_Some}
+use Rattle.io_core.proofs.FaultCounts.{rose_by_one}
 use Rattle.trace_reader.specs.declared.fault.TraceFault.TheVariants.{OneProcessor, TooFewStores}
 use Rattle.pager_command.specs.Forms.{IsForOneProcessor}
 use Rattle.pager_command.specs.declared.status.TheConstants.{REFUSED, READ_FAULT, MEMORY}
@@ -27,7 +28,7 @@ returns-in-Err-clause-stopped g c =
       no_fault = λ other. c.in-Err.ensures.no_other_fault (λ is. other (told.status ∙ ap status_of (same_Some _ _ (ap result_err is))));
       memory = search rules;
       complete = λ text no_read. not_refused_text c.args.form.now left c.in-Err.fault c.args.stores status text c.in-Err.ensures.refused
-          told.status (λ is. no_read (c.in-Err.ensures.fault (ap Err is)));
+          told.status (λ is. no_read (rw (c.in-Err.ensures.fault (ap Err is)) (rose_by_one (g.T.Source.faults c.args.source.now))));
     }
 
 pub returns-then-processors-ne1-clause-stopped : goal.returns-then-processors-ne1-clause-stopped

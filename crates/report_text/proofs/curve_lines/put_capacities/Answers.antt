@@ -30,7 +30,7 @@ returns g c =
     let n = length c.args.tiles.now in
     let i = c.loop-place.place in
     let all : length (range_with_len 0 n) ≤ i = omega (arith, length-range_with_len 0 n, c.loop-place-test.false) in
-    let first = outgoing (g.K.Sink.taken c.args.sink.now) (g.K.Sink.faults c.args.sink.now) c.args.room.now.bytes.items in
-    let last = outgoing (g.K.Sink.taken c.loop-place.sink) (g.K.Sink.faults c.loop-place.sink) c.loop-place.room.bytes.items in
+    let first = outgoing (g.K.Sink.taken c.args.sink.now) (g.K.Sink.writes c.args.sink.now) (g.K.Sink.faults c.args.sink.now) c.args.room.now.bytes.items in
+    let last = outgoing (g.K.Sink.taken c.loop-place.sink) (g.K.Sink.writes c.loop-place.sink) (g.K.Sink.faults c.loop-place.sink) c.loop-place.room.bytes.items in
     subst (λ (l : List ℕ). Sent first last (flat_map (curve_line c.args.tiles.now c.args.pages.now) l))
     (take_all i (range_with_len 0 n) all) c.loop-place.invariant

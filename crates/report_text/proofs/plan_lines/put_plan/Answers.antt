@@ -12,9 +12,9 @@ returns-in_err-put_planned-clause-puts g c =
 
 pub returns-clause-puts : goal.returns-clause-puts
 returns-clause-puts g c =
-    let from = outgoing (g.K.Sink.taken c.args.sink.now) (g.K.Sink.faults c.args.sink.now) c.args.room.now.bytes.items in
-    let one = outgoing (g.K.Sink.taken c.put_planned.new.sink)
+    let from = outgoing (g.K.Sink.taken c.args.sink.now) (g.K.Sink.writes c.args.sink.now) (g.K.Sink.faults c.args.sink.now) c.args.room.now.bytes.items in
+    let one = outgoing (g.K.Sink.taken c.put_planned.new.sink) (g.K.Sink.writes c.put_planned.new.sink)
     (g.K.Sink.faults c.put_planned.new.sink) c.put_planned.new.room.bytes.items in
-    let last = outgoing (g.K.Sink.taken c.finish.new.sink) (g.K.Sink.faults c.finish.new.sink) c.finish.new.self.bytes.items in
+    let last = outgoing (g.K.Sink.taken c.finish.new.sink) (g.K.Sink.writes c.finish.new.sink) (g.K.Sink.faults c.finish.new.sink) c.finish.new.self.bytes.items in
     puts_then c.finish.result from one last (planned_lines c.args.plan.now)
     (line_of_words (codes "end" ∷ [])) c.in_ok-put_planned.ensures c.finish.ensures.puts

@@ -28,7 +28,7 @@ returns g c =
     let n = c.args.processors in
     let i = c.loop-processor.processor in
     let all : length (range_with_len 0 n) ≤ i = omega (arith, length-range_with_len 0 n, c.loop-processor-test.false) in
-    let first = outgoing (g.K.Sink.taken c.args.sink.now) (g.K.Sink.faults c.args.sink.now) c.args.room.now.bytes.items in
-    let last = outgoing (g.K.Sink.taken c.loop-processor.sink) (g.K.Sink.faults c.loop-processor.sink) c.loop-processor.room.bytes.items in
+    let first = outgoing (g.K.Sink.taken c.args.sink.now) (g.K.Sink.writes c.args.sink.now) (g.K.Sink.faults c.args.sink.now) c.args.room.now.bytes.items in
+    let last = outgoing (g.K.Sink.taken c.loop-processor.sink) (g.K.Sink.writes c.loop-processor.sink) (g.K.Sink.faults c.loop-processor.sink) c.loop-processor.room.bytes.items in
     subst (λ (l : List ℕ). Sent first last (flat_map (answers_of (entries_in c.args.history.now.items)) l))
     (take_all i (range_with_len 0 n) all) c.loop-processor.invariant

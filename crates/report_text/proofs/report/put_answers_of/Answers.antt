@@ -57,8 +57,8 @@ loop-place-preserved g c =
 pub returns : goal.returns
 returns g c =
     let history = c.args.history.now.items in
-    let first = outgoing (g.K.Sink.taken c.args.sink.now) (g.K.Sink.faults c.args.sink.now) c.args.room.now.bytes.items in
-    let last = outgoing (g.K.Sink.taken c.loop-place.sink) (g.K.Sink.faults c.loop-place.sink) c.loop-place.room.bytes.items in
+    let first = outgoing (g.K.Sink.taken c.args.sink.now) (g.K.Sink.writes c.args.sink.now) (g.K.Sink.faults c.args.sink.now) c.args.room.now.bytes.items in
+    let last = outgoing (g.K.Sink.taken c.loop-place.sink) (g.K.Sink.writes c.loop-place.sink) (g.K.Sink.faults c.loop-place.sink) c.loop-place.room.bytes.items in
     let all = up_to c.args.processor history c.loop-place.from (length history) c.loop-place.invariant.0 (omega arith) c.in_default.ensures.none
     ∙ ap (flat_map (answer_of c.args.processor)) (take_all (length history) history (omega arith)) in
     rw (sym (answers-by_entry c.args.processor history))

@@ -28,10 +28,10 @@ returns-clause-puts g c =
     let h = c.args.history.now.items in
     let answers = answers_text c.args.processors (entries_in h) in
     let middle : List ℕ = if has_history c.args.parts then history_text h else [] in
-    let first = outgoing (g.K.Sink.taken c.args.sink.now) (g.K.Sink.faults c.args.sink.now) c.args.room.now.bytes.items in
-    let two = outgoing (g.K.Sink.taken c.put_history.new.sink)
+    let first = outgoing (g.K.Sink.taken c.args.sink.now) (g.K.Sink.writes c.args.sink.now) (g.K.Sink.faults c.args.sink.now) c.args.room.now.bytes.items in
+    let two = outgoing (g.K.Sink.taken c.put_history.new.sink) (g.K.Sink.writes c.put_history.new.sink)
     (g.K.Sink.faults c.put_history.new.sink) c.put_history.new.room.bytes.items in
-    let last = outgoing (g.K.Sink.taken c.put_summary.new.sink)
+    let last = outgoing (g.K.Sink.taken c.put_summary.new.sink) (g.K.Sink.writes c.put_summary.new.sink)
     (g.K.Sink.faults c.put_summary.new.sink) c.put_summary.new.room.bytes.items in
     puts_then c.put_summary.result first two last (answers ++ middle) (summary_text c.args.summary.now)
     (sent_sent answers middle c.in_ok-put_answers.ensures c.in_ok-put_history.ensures)

@@ -9,8 +9,8 @@ use Rattle.trace_make.proofs.written.put_trace.Goals as goal
 pub returns-in_err-put_line-clause-puts : goal.returns-in_err-put_line-clause-puts
 returns-in_err-put_line-clause-puts g c =
     let trace = c.args.trace.now in
-    let from = outgoing (g.K.Sink.taken c.args.sink.now) (g.K.Sink.faults c.args.sink.now) c.args.room.now.bytes.items in
-    let to = outgoing (g.K.Sink.taken c.put_line.new.sink) (g.K.Sink.faults c.put_line.new.sink) c.put_line.new.self.bytes.items in
+    let from = outgoing (g.K.Sink.taken c.args.sink.now) (g.K.Sink.writes c.args.sink.now) (g.K.Sink.faults c.args.sink.now) c.args.room.now.bytes.items in
+    let to = outgoing (g.K.Sink.taken c.put_line.new.sink) (g.K.Sink.writes c.put_line.new.sink) (g.K.Sink.faults c.put_line.new.sink) c.put_line.new.self.bytes.items in
     puts_failed c.from_residual.result (first_line trace) (daemon_line trace.daemon ∷ flat_map call_line trace.calls ∷ line_of_words
     (codes "end" ∷ []) ∷ []) c.from_residual.ensures.0
     (subst (λ (l : List ℕ). SentPart from to l) c.line_of_first.ensures c.in_err-put_line.ensures)
@@ -18,9 +18,9 @@ returns-in_err-put_line-clause-puts g c =
 pub returns-in_err-put_daemon-clause-puts : goal.returns-in_err-put_daemon-clause-puts
 returns-in_err-put_daemon-clause-puts g c =
     let trace = c.args.trace.now in
-    let from = outgoing (g.K.Sink.taken c.args.sink.now) (g.K.Sink.faults c.args.sink.now) c.args.room.now.bytes.items in
-    let one = outgoing (g.K.Sink.taken c.put_line.new.sink) (g.K.Sink.faults c.put_line.new.sink) c.put_line.new.self.bytes.items in
-    let to = outgoing (g.K.Sink.taken c.put_daemon.new.sink) (g.K.Sink.faults c.put_daemon.new.sink) c.put_daemon.new.room.bytes.items in
+    let from = outgoing (g.K.Sink.taken c.args.sink.now) (g.K.Sink.writes c.args.sink.now) (g.K.Sink.faults c.args.sink.now) c.args.room.now.bytes.items in
+    let one = outgoing (g.K.Sink.taken c.put_line.new.sink) (g.K.Sink.writes c.put_line.new.sink) (g.K.Sink.faults c.put_line.new.sink) c.put_line.new.self.bytes.items in
+    let to = outgoing (g.K.Sink.taken c.put_daemon.new.sink) (g.K.Sink.writes c.put_daemon.new.sink) (g.K.Sink.faults c.put_daemon.new.sink) c.put_daemon.new.room.bytes.items in
     puts_failed c.from_residual-in_err-put_daemon.result (first_line trace ++ daemon_line trace.daemon)
     (flat_map call_line trace.calls ∷ line_of_words (codes "end" ∷ []) ∷ []) c.from_residual-in_err-put_daemon.ensures.0
     (sent_part (first_line trace) (daemon_line trace.daemon)
@@ -30,10 +30,10 @@ returns-in_err-put_daemon-clause-puts g c =
 pub returns-in_err-put_calls-clause-puts : goal.returns-in_err-put_calls-clause-puts
 returns-in_err-put_calls-clause-puts g c =
     let trace = c.args.trace.now in
-    let from = outgoing (g.K.Sink.taken c.args.sink.now) (g.K.Sink.faults c.args.sink.now) c.args.room.now.bytes.items in
-    let one = outgoing (g.K.Sink.taken c.put_line.new.sink) (g.K.Sink.faults c.put_line.new.sink) c.put_line.new.self.bytes.items in
-    let two = outgoing (g.K.Sink.taken c.put_daemon.new.sink) (g.K.Sink.faults c.put_daemon.new.sink) c.put_daemon.new.room.bytes.items in
-    let to = outgoing (g.K.Sink.taken c.put_calls.new.sink) (g.K.Sink.faults c.put_calls.new.sink) c.put_calls.new.room.bytes.items in
+    let from = outgoing (g.K.Sink.taken c.args.sink.now) (g.K.Sink.writes c.args.sink.now) (g.K.Sink.faults c.args.sink.now) c.args.room.now.bytes.items in
+    let one = outgoing (g.K.Sink.taken c.put_line.new.sink) (g.K.Sink.writes c.put_line.new.sink) (g.K.Sink.faults c.put_line.new.sink) c.put_line.new.self.bytes.items in
+    let two = outgoing (g.K.Sink.taken c.put_daemon.new.sink) (g.K.Sink.writes c.put_daemon.new.sink) (g.K.Sink.faults c.put_daemon.new.sink) c.put_daemon.new.room.bytes.items in
+    let to = outgoing (g.K.Sink.taken c.put_calls.new.sink) (g.K.Sink.writes c.put_calls.new.sink) (g.K.Sink.faults c.put_calls.new.sink) c.put_calls.new.room.bytes.items in
     puts_failed c.from_residual-in_err-put_calls.result ((first_line trace ++ daemon_line trace.daemon) ++ flat_map call_line trace.calls)
     (line_of_words (codes "end" ∷ []) ∷ []) c.from_residual-in_err-put_calls.ensures.0
     (sent_part (first_line trace ++ daemon_line trace.daemon) (flat_map call_line trace.calls)
@@ -45,11 +45,11 @@ returns-in_err-put_calls-clause-puts g c =
 pub returns-in_err-put_line-2-clause-puts : goal.returns-in_err-put_line-2-clause-puts
 returns-in_err-put_line-2-clause-puts g c =
     let trace = c.args.trace.now in
-    let from = outgoing (g.K.Sink.taken c.args.sink.now) (g.K.Sink.faults c.args.sink.now) c.args.room.now.bytes.items in
-    let one = outgoing (g.K.Sink.taken c.put_line.new.sink) (g.K.Sink.faults c.put_line.new.sink) c.put_line.new.self.bytes.items in
-    let two = outgoing (g.K.Sink.taken c.put_daemon.new.sink) (g.K.Sink.faults c.put_daemon.new.sink) c.put_daemon.new.room.bytes.items in
-    let three = outgoing (g.K.Sink.taken c.put_calls.new.sink) (g.K.Sink.faults c.put_calls.new.sink) c.put_calls.new.room.bytes.items in
-    let to = outgoing (g.K.Sink.taken c.put_line-2.new.sink) (g.K.Sink.faults c.put_line-2.new.sink) c.put_line-2.new.self.bytes.items in
+    let from = outgoing (g.K.Sink.taken c.args.sink.now) (g.K.Sink.writes c.args.sink.now) (g.K.Sink.faults c.args.sink.now) c.args.room.now.bytes.items in
+    let one = outgoing (g.K.Sink.taken c.put_line.new.sink) (g.K.Sink.writes c.put_line.new.sink) (g.K.Sink.faults c.put_line.new.sink) c.put_line.new.self.bytes.items in
+    let two = outgoing (g.K.Sink.taken c.put_daemon.new.sink) (g.K.Sink.writes c.put_daemon.new.sink) (g.K.Sink.faults c.put_daemon.new.sink) c.put_daemon.new.room.bytes.items in
+    let three = outgoing (g.K.Sink.taken c.put_calls.new.sink) (g.K.Sink.writes c.put_calls.new.sink) (g.K.Sink.faults c.put_calls.new.sink) c.put_calls.new.room.bytes.items in
+    let to = outgoing (g.K.Sink.taken c.put_line-2.new.sink) (g.K.Sink.writes c.put_line-2.new.sink) (g.K.Sink.faults c.put_line-2.new.sink) c.put_line-2.new.self.bytes.items in
     puts_failed c.from_residual-in_err-put_line-2.result
     (((first_line trace ++ daemon_line trace.daemon) ++ flat_map call_line trace.calls) ++ line_of_words
     (codes "end" ∷ [])) [] c.from_residual-in_err-put_line-2.ensures.0
@@ -67,12 +67,12 @@ returns-clause-puts g c =
     let daemon = daemon_line trace.daemon in
     let calls = flat_map call_line trace.calls in
     let end = line_of_words (codes "end" ∷ []) in
-    let from = outgoing (g.K.Sink.taken c.args.sink.now) (g.K.Sink.faults c.args.sink.now) c.args.room.now.bytes.items in
-    let one = outgoing (g.K.Sink.taken c.put_line.new.sink) (g.K.Sink.faults c.put_line.new.sink) c.put_line.new.self.bytes.items in
-    let two = outgoing (g.K.Sink.taken c.put_daemon.new.sink) (g.K.Sink.faults c.put_daemon.new.sink) c.put_daemon.new.room.bytes.items in
-    let three = outgoing (g.K.Sink.taken c.put_calls.new.sink) (g.K.Sink.faults c.put_calls.new.sink) c.put_calls.new.room.bytes.items in
-    let four = outgoing (g.K.Sink.taken c.put_line-2.new.sink) (g.K.Sink.faults c.put_line-2.new.sink) c.put_line-2.new.self.bytes.items in
-    let last = outgoing (g.K.Sink.taken c.send.new.sink) (g.K.Sink.faults c.send.new.sink) c.send.new.self.bytes.items in
+    let from = outgoing (g.K.Sink.taken c.args.sink.now) (g.K.Sink.writes c.args.sink.now) (g.K.Sink.faults c.args.sink.now) c.args.room.now.bytes.items in
+    let one = outgoing (g.K.Sink.taken c.put_line.new.sink) (g.K.Sink.writes c.put_line.new.sink) (g.K.Sink.faults c.put_line.new.sink) c.put_line.new.self.bytes.items in
+    let two = outgoing (g.K.Sink.taken c.put_daemon.new.sink) (g.K.Sink.writes c.put_daemon.new.sink) (g.K.Sink.faults c.put_daemon.new.sink) c.put_daemon.new.room.bytes.items in
+    let three = outgoing (g.K.Sink.taken c.put_calls.new.sink) (g.K.Sink.writes c.put_calls.new.sink) (g.K.Sink.faults c.put_calls.new.sink) c.put_calls.new.room.bytes.items in
+    let four = outgoing (g.K.Sink.taken c.put_line-2.new.sink) (g.K.Sink.writes c.put_line-2.new.sink) (g.K.Sink.faults c.put_line-2.new.sink) c.put_line-2.new.self.bytes.items in
+    let last = outgoing (g.K.Sink.taken c.send.new.sink) (g.K.Sink.writes c.send.new.sink) (g.K.Sink.faults c.send.new.sink) c.send.new.self.bytes.items in
     let text : List ℕ = ((first_line trace ++ daemon) ++ calls) ++ end in
     subst (λ (l : List ℕ). Puts c.send.result from last l) (append-nil text)
     (puts_then c.send.result from four last text []

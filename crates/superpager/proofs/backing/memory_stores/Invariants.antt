@@ -1,0 +1,10 @@
+use Rattle.std.proofs.Common.{◌≡◌, length, All}
+use Rattle.superpager.specs.NewStores.{IsNewMemory}
+use Rattle.superpager.proofs.backing.memory_stores.Given as goal
+
+-- one for each round so far
+abbrev pub invariant-loop : goal.invariant-loop
+invariant-loop l = record {
+  count : length l.stores.items ≡ l.counter;
+  new : All IsNewMemory l.stores.items;
+}
