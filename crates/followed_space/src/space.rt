@@ -28,7 +28,7 @@ use std::alloc::Global;
 use std::marker::{Brand, Model};
 use std::sync::ledger::Blank;
 use tiles::Base;
-use tiles::counted::{after_dirty, after_fill, after_remove};
+use tiles::counted::{after_dirty, after_fill, after_remove, after_rights};
 
 /// The regions of a space, the rights of its pages and its resident pages with their tiles.
 #[derive(Drop)]
@@ -230,7 +230,14 @@ impl FollowedSpace {
         ensures changed { IsChange self.old.pages self.new.pages result }
     {
         self.own.set(page, length, Some(rights));
-        self.pages.after_rights(page, length, rights, Sizes::all());
+        after_rights::<Brand>(
+            &mut self.pages,
+            page,
+            length,
+            rights,
+            Sizes::all(),
+            Blank::new(1),
+        );
         Changed::Range(blocks_round(page, length))
     }
 

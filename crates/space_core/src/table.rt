@@ -17,7 +17,7 @@ use std::alloc::Global;
 use std::marker::{Brand, Model};
 use std::sync::ledger::Blank;
 use store_core::{Store, StoreFailed, WriteRefused};
-use tiles::counted::{after_dirty, after_fill, after_remove};
+use tiles::counted::{after_dirty, after_fill, after_remove, after_rights};
 use tiles::{Base, Moves, Translation};
 
 /// The pages of a space. A resident page is found by its number, and its frame by the frame's.
@@ -299,7 +299,14 @@ impl PageTable {
         ensures moves { AreMovesIn self.old.sizes (mapping_in self.old) (mapping_in self.new) result }
     {
         self.own.set(first, length, Some(rights));
-        self.pages.after_rights(first, length, rights, self.sizes)
+        after_rights::<Brand>(
+            &mut self.pages,
+            first,
+            length,
+            rights,
+            self.sizes,
+            Blank::new(1),
+        )
     }
 
     /// Takes the rights of their own from the pages of a range, none of which is resident.

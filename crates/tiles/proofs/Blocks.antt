@@ -1,5 +1,5 @@
 -- A change of rights in the blocks of a range, and how its moves are counted.
-use Rattle.std.proofs.Common.{◌≡◌, ◌≢◌, ap₂, max, ℕ, zero, suc, ◌+◌, ◌-◌, ◌*◌, ◌/◌, ◌%◌, ◌^◌, ◌<◌, ◌≤◌, Bool, true, false, eqb, ltb, if◌then◌else◌, ◌&&◌, nat_le, nat_lt, Option, Some, None, option_map, refl, sym, ap, inl, inr, ◌∙◌, arith}
+use Rattle.std.proofs.Common.{◌≡◌, ◌≢◌, ℕ, zero, suc, ◌+◌, ◌-◌, ◌*◌, ◌/◌, ◌%◌, ◌^◌, ◌<◌, ◌≤◌, Bool, true, false, eqb, ltb, if◌then◌else◌, ◌&&◌, nat_le, nat_lt, Option, Some, None, option_map, refl, sym, ap, inl, inr, ◌∙◌, arith}
 use Rattle.std.proofs.lemmas.Bool.{and_from, cases_eq, cases_lt, eq-eqb, le-leb, lt-ltb, ne_eqb}
 use Rattle.std.proofs.lemmas.Bool.Decides.{nat_tests}
 use Rattle.pager_model.specs.declared.page_range.PageRange.{PageRange}
@@ -11,12 +11,11 @@ use Rattle.pager_model.specs.Tiles.{moved_by, is_promoted_in, promotions_in, cou
 use Rattle.page_map.specs.declared.entry.Entry.{Entry}
 use Rattle.page_map.specs.Entries.{mapping_of}
 use Rattle.pager_model.proofs.CountLemmas.{weight}
-use Rattle.pager_model.proofs.Ranges.{in_bounds}
 use Rattle.pager_model.proofs.ExtentLemmas.{coarser, eight_pos, in_extent, of_extent, range_of_extent}
 use Rattle.tiles.specs.declared.moves.Moves.{Moves}
 use Rattle.tiles.specs.Blocks.{ProtectsInBlock, ProtectsTo, OutsideSame, is_grown_at}
 use Rattle.tiles.specs.Kept.{FitsFrames, MapsExtent}
-use Rattle.tiles.specs.Resident.{IsNextResident, NoneResident, Resident, mapping_at, frames_in, with_rights, Protects}
+use Rattle.tiles.specs.Resident.{NoneResident, Resident, mapping_at, frames_in, with_rights, Protects}
 use Rattle.tiles.specs.Sized.{AreMovesIn, size_by}
 use Rattle.tiles.proofs.Counting.{count, count-zero, count-suc, count-apart, count-none, count-same, count_pages-is}
 use Rattle.tiles.proofs.MoveCounts.{LieApart}
@@ -197,7 +196,7 @@ blocks_more to first len rights r s t so_far protects = record {
     lt_more m n h = grind (arith, nat_tests)
 
 -- the pages in the blocks before that one are as before in it
-block_untouched : (to first len : ℕ) (rights : Rights) (r s : Resident) → ProtectsBlocks to first len rights r s → (p : ℕ) → p / 512 ≡ to
+pub block_untouched : (to first len : ℕ) (rights : Rights) (r s : Resident) → ProtectsBlocks to first len rights r s → (p : ℕ) → p / 512 ≡ to
     → mapping_at s p ≡ mapping_at r p
 block_untouched to first len rights r s so_far p e = so_far.at p ∙ ap (λ b. protected b rights (mapping_at r p))
     (right_no (in_range first len p) (p / 512) to (omega arith))
@@ -223,52 +222,6 @@ blocks_all to first len rights r s past so_far =
 
         range_past : (first len p : ℕ) → first + len ≤ p → in_range first len p ≡ false
         range_past first len p high = grind (arith, nat_tests)
-
--- blocks without a resident page of the range may be passed over
-pub blocks_skip : (from to first len : ℕ) (rights : Rights) (r s : Resident) → from ≤ to
-    → ((p : ℕ) → first ≤ p → p < first + len → from ≤ p / 512 → p / 512 < to → mapping_at s p ≡ None)
-    → ProtectsBlocks from first len rights r s → ProtectsBlocks to first len rights r s
-blocks_skip from to first len rights r s on bare so_far = record { frames = so_far.frames; at = at }
-  where
-    alike : (p : ℕ) → nat_lt (p / 512) from ≡ nat_lt (p / 512) to → mapping_at s p ≡ protected
-        (in_range first len p && nat_lt (p / 512) to) rights (mapping_at r p)
-    alike p same = so_far.at p ∙ ap (λ b. protected (in_range first len p && b) rights (mapping_at r p)) same
-
-    skipped : (p : ℕ) (inside : Bool) → in_range first len p ≡ inside → from ≤ p / 512 → p / 512 < to
-        → mapping_at s p ≡ protected (in_range first len p && nat_lt (p / 512) to) rights (mapping_at r p)
-    skipped p false out past before = so_far.at p ∙ ap (λ b. protected (b && nat_lt (p / 512) from) rights (mapping_at r p)) out
-        ∙ sym (ap (λ b. protected (b && nat_lt (p / 512) to) rights (mapping_at r p)) out)
-    skipped p true is past before =
-        let bounds = in_bounds first len p is in
-        let none = bare p bounds.0 bounds.1 past before in
-        let unmarked : nat_lt (p / 512) from ≡ false = grind (arith, nat_tests) in
-        let was : mapping_at r p ≡ None = sym (so_far.at p ∙ ap₂ (λ a b. protected (a && b) rights (mapping_at r p)) is unmarked) ∙ none in
-        none ∙ sym (ap (protected (in_range first len p && nat_lt (p / 512) to) rights) was
-        ∙ protects_none (in_range first len p && nat_lt (p / 512) to) rights)
-
-    at : (p : ℕ) → mapping_at s p ≡ protected (in_range first len p && nat_lt (p / 512) to) rights (mapping_at r p)
-    at p = elim (cases_lt (p / 512) from) [
-      | inl known ↦ alike p (grind (arith, nat_tests))
-      | inr past ↦ elim (cases_lt (p / 512) to) [
-        | inl before ↦ skipped p (in_range first len p) refl past before
-        | inr behind ↦ alike p (grind (arith, nat_tests))
-      ]
-    ]
-
--- those up to the first resident page behind a block
-pub blocks_to_next : (from first len page : ℕ) (rights : Rights) (r s : Resident)
-    → IsNextResident (mapping_at s) (max first (from * 512)) (first + len) page → ProtectsBlocks from first len rights r s
-    → ProtectsBlocks (page / 512) first len rights r s
-blocks_to_next from first len page rights r s next = blocks_skip from (page / 512) first len rights r s (omega (arith, next.from_on))
-    (λ p low high past before. next.lowest p (omega arith) (omega arith))
-
--- and all where none is behind one
-pub blocks_end : (from first len : ℕ) (rights : Rights) (r s : Resident) → from ≤ 2048 → first + len ≤ 1048576
-    → NoneResident (mapping_at s) (max first (from * 512)) (first + len) → ProtectsBlocks from first len rights r s
-    → Protects first len rights r s
-blocks_end from first len rights r s few known none so_far =
-    blocks_all 2048 first len rights r s known (blocks_skip from 2048 first len rights r s few
-    (λ p low high past before. none p (omega arith) high) so_far)
 
 -- ---- the moves
 

@@ -12,7 +12,7 @@ use Rattle.pager_model.specs.Tiles.{begins_at, begins_tile, count_pages, moved_b
 use Rattle.pager_model.proofs.CountLemmas.{weight}
 use Rattle.pager_model.proofs.ExtentLemmas.{coarser, eight_pos, extent_of_frame, of_extent}
 use Rattle.tiles.specs.Kept.{AreTiles, ArePages, FitsFrames, IsNextTile, MapsExtent}
-use Rattle.tiles.specs.Resident.{Resident, mapping_at, frames_in, frame_of_page, Maps, NoneResident, with_flag}
+use Rattle.tiles.specs.Resident.{Resident, mapping_at, frames_in, frame_of_page, Maps, NoneResident}
 use Rattle.tiles.proofs.Counting.{count-is, count-sum, count_pages-is, count_pages_at}
 use Rattle.tiles.proofs.EntryTiles.{entry_says, none_says, same_entry, tile_is}
 use Rattle.tiles.proofs.Numbering.{few_with}
@@ -281,13 +281,12 @@ maps_same page given r is = record {
   ];
 }
 
--- a page that isn't resident gets no flag, and one that has the flag keeps it
-pub flag_kept : (page : ℕ) (dirty : Bool) (o : Option Mapping) (r : Resident) → o ≡ mapping_at r page
-    → option_map (with_flag dirty) o ≡ o → Maps page (option_map (with_flag dirty) (mapping_at r page)) r r
-flag_kept page dirty o r at kept =
-    maps_same page _ r (subst (λ (q : Option Mapping). option_map (with_flag dirty) q ≡ q) at kept)
+-- a page that isn't resident stays so, and one that is given its own mapping keeps it
+pub given_same : (page : ℕ) (given : Mapping → Mapping) (o : Option Mapping) (r : Resident) → o ≡ mapping_at r page
+    → option_map given o ≡ o → Maps page (option_map given (mapping_at r page)) r r
+given_same page given o r at kept = maps_same page _ r (subst (λ (q : Option Mapping). option_map given q ≡ q) at kept)
 
--- a page gets the flag
-pub flag_set : (page : ℕ) (dirty : Bool) (m : Mapping) (r s : Resident) → Some m ≡ mapping_at r page
-    → Maps page (Some (with_flag dirty m)) r s → Maps page (option_map (with_flag dirty) (mapping_at r page)) r s
-flag_set page dirty m r s at maps = subst (λ (q : Option Mapping). Maps page (option_map (with_flag dirty) q) r s) at maps
+-- a resident page is given another
+pub given_other : (page : ℕ) (given : Mapping → Mapping) (m : Mapping) (r s : Resident) → Some m ≡ mapping_at r page
+    → Maps page (Some (given m)) r s → Maps page (option_map given (mapping_at r page)) r s
+given_other page given m r s at maps = subst (λ (q : Option Mapping). Maps page (option_map given q) r s) at maps

@@ -15,6 +15,7 @@ pub mod EntryTiles
 pub mod Extents
 pub mod KeptPages
 pub mod Largest
+pub mod Looks
 pub mod Meeting
 pub mod Numbering
 pub mod MoveCounts

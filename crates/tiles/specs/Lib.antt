@@ -3,6 +3,7 @@ pub mod Blocks
 pub mod Changes
 pub mod Cleared
 pub mod Kept
+pub mod Looks
 pub mod Parts
 pub mod Resident
 pub mod Sized

@@ -1,7 +1,7 @@
 //! The resident pages of a space, and what each change does to their tiles.
 
 ghost use Rattle.std.specs.Int.{div_ceil};
-ghost use Rattle.std.specs.Prelude.{◌≡◌, ◌≢◌, ◌∷◌, [], ℕ, ◌+◌, ◌*◌, ◌%◌, ◌^◌, ◌<◌, ◌≤◌, true, false, Option, None, Some, IfOk, IfNone, IfSome, option_map, slice_index, nat_le, nat_lt, ◌&&◌, if◌then◌else◌};
+ghost use Rattle.std.specs.Prelude.{◌≡◌, ◌≢◌, ◌∷◌, [], ℕ, ◌+◌, ◌-◌, ◌*◌, ◌/◌, ◌%◌, ◌^◌, ◌<◌, ◌≤◌, true, false, Option, None, Some, IfOk, IfNone, IfSome, option_map, slice_index, nat_le, nat_lt, ◌&&◌, if◌then◌else◌};
 ghost use Rattle.pager_model.specs.Tiles.{tile_in, is_tile_in, tile_count_in, cut_to};
 ghost use Rattle.pager_model.specs.declared.tile.Mapping.{Mapping};
 ghost use Rattle.tiles.specs.Resident.{mapping_at, frames_in, frame_of_page, Maps, Protects, IsNextResident, NoneResident, with_flag, with_rights};
@@ -10,6 +10,7 @@ ghost use Rattle.page_map.specs.Entries.{entry_at};
 ghost use Rattle.tiles.specs.Blocks.{KeepsRights, ProtectsTo, ProtectsInBlock, AreSizesOfBlock, OutsideSame};
 ghost use Rattle.tiles.specs.Sized.{AreMovesIn, size_by, begins_before_in, large_tiles_begun_in, large_tiles_meeting_in};
 ghost use Rattle.tiles.specs.Kept.{FitsFrames};
+ghost use Rattle.tiles.specs.Looks.{looks_in_block, looks_of_rights, resident_in};
 ghost use Rattle.pager_model.specs.Bounds.{most_frames, space_pages};
 
 use crate::changes::Changes;
@@ -237,13 +238,50 @@ impl Base {
         Changes::of(page, turn)
     }
 
+    /// A page has these rights, where it is resident.
+    pub fn after_rights_of_page<L: Ledger>(
+        &mut self,
+        page: u32,
+        rights: Rights,
+        steps: &mut Steps<L>,
+    ) -> Changes
+        ensures maps { Maps page (option_map (with_rights rights) (mapping_at self.old page)) self.old self.new }
+        ensures changes { AreChanges self.old self.new result }
+        ensures cost { steps.new ≤ steps.old + 62 }
+    {
+        let Some(entry) = self.pages.find(page, steps) else {
+            return Changes::none();
+        };
+        if !has_other_rights(&entry.mapping, rights) {
+            return Changes::none();
+        }
+        let mapping = Mapping {
+            rights,
+            ..entry.mapping_of(page)
+        };
+        let change = self
+            .pages
+            .set(entry, Size::at_level(0), page, mapping, steps);
+        Changes::of(page, change)
+    }
+
     /// Whether a page of a range is resident with other rights.
-    fn any_has_other_rights(&self, first: u32, end: u32, rights: Rights) -> bool
-        requires { end ≤ space_pages }
-        ensures { result ≡ false → KeepsRights first end rights (mapping_at self.now) }
+    fn any_has_other_rights<L: Ledger>(
+        &self,
+        first: u32,
+        end: u32,
+        rights: Rights,
+        steps: &mut Steps<L>,
+    ) -> bool
+        requires range { first ≤ end }
+        requires in_space { end ≤ space_pages }
+        ensures keeps { result ≡ false → KeepsRights first end rights (mapping_at self.now) }
+        ensures cost { steps.new ≤ steps.old + 4 * (end - first) }
+        ensures bare { NoneResident (mapping_at self.now) (first / 512 * 512) ((end + 511) / 512 * 512)
+            → (result ≡ false) × (steps.new + first / 512 ≤ steps.old + (end + 511) / 512) }
     {
         let mut from = first;
-        while let Some(entry) = self.pages.next(from, end) {
+        while let Some(entry) = self.pages.find_next(from, end, steps) {
             if has_other_rights(&entry.mapping, rights) {
                 return true;
             }
@@ -254,7 +292,14 @@ impl Base {
 
     /// The largest part of an entry that begins at a page and ends by another one has these rights, or the rest of the entry where it has them
     /// already. The first page behind it.
-    fn after_rights_of_part(&mut self, entry: Entry, page: u32, end: u32, rights: Rights) -> u32
+    fn after_rights_of_part<L: Ledger>(
+        &mut self,
+        entry: Entry,
+        page: u32,
+        end: u32,
+        rights: Rights,
+        steps: &mut Steps<L>,
+    ) -> u32
         requires there { entry_at self.old page ≡ Some entry }
         requires fits { FitsFrames self.old page entry }
         requires page { page < end }
@@ -262,6 +307,7 @@ impl Base {
         ensures further { page < result }
         ensures within { result ≤ end }
         ensures protects { ProtectsTo page result rights self.old self.new }
+        ensures cost { steps.new ≤ steps.old + 58 }
     {
         if !has_other_rights(&entry.mapping, rights) {
             return behind(&entry).min(end);
@@ -271,36 +317,44 @@ impl Base {
             rights,
             ..entry.mapping_of(page)
         };
-        counted::set::<Brand>(&mut self.pages, entry, size, page, mapping, Blank::new(1));
+        self.pages.set(entry, size, page, mapping, steps);
         page + size.pages()
     }
 
     /// The resident pages of a range have these rights.
-    fn after_rights_of_all(&mut self, first: u32, end: u32, rights: Rights)
+    fn after_rights_of_all<L: Ledger>(
+        &mut self,
+        first: u32,
+        end: u32,
+        rights: Rights,
+        steps: &mut Steps<L>,
+    )
         requires range { first ≤ end }
         requires in_space { end ≤ space_pages }
-        ensures { ProtectsTo first end rights self.old self.new }
+        ensures protects { ProtectsTo first end rights self.old self.new }
+        ensures cost { steps.new ≤ steps.old + 4 * (end - first) + 58 * resident_in (mapping_at self.old) first (end - first) }
     {
         let mut from = first;
-        while let Some(entry) = self.pages.next(from, end) {
+        while let Some(entry) = self.pages.find_next(from, end, steps) {
             let page = from.max(entry.extent.first);
-            from = self.after_rights_of_part(entry, page, end, rights);
+            from = self.after_rights_of_part(entry, page, end, rights, steps);
         }
     }
 
     /// The sizes of the tiles by some sizes at the first of each eight pages of a block: each tile of size 1 or more begins at such a page.
     ///
     /// It goes from entry to entry: an entry is at the places whose first page it has, and where none is resident the place keeps its 0.
-    fn sizes_of_block(&self, block: u32, sizes: Sizes) -> [u8; 64]
+    fn sizes_of_block<L: Ledger>(&self, block: u32, sizes: Sizes, steps: &mut Steps<L>) -> [u8; 64]
         requires { block < 2048 }
         ensures sizes { AreSizesOfBlock sizes block result (mapping_at self.now) }
         ensures small { (i : ℕ) → i < 64 → slice_index result i ≤ 3 }
+        ensures cost { steps.new ≤ steps.old + 2048 }
     {
         let first = block * LARGEST;
         let end = first + LARGEST;
         let mut levels = [0; 64];
         let mut from = first;
-        while let Some(entry) = self.pages.next(from, end) {
+        while let Some(entry) = self.pages.find_next(from, end, steps) {
             let begun = (from.max(entry.extent.first) - first).div_ceil(8);
             let past = (behind(&entry).min(end) - first).div_ceil(8);
             set_places(
@@ -315,13 +369,20 @@ impl Base {
     }
 
     /// The moves by some sizes of a change within a block, before which its first of each eight pages had tiles of these sizes.
-    fn moves_of_block(&self, block: u32, before: &[u8; 64], sizes: Sizes) -> Moves
+    fn moves_of_block<L: Ledger>(
+        &self,
+        block: u32,
+        before: &[u8; 64],
+        sizes: Sizes,
+        steps: &mut Steps<L>,
+    ) -> Moves
         requires block { block < 2048 }
         requires small { (i : ℕ) → i < 64 → slice_index before.now i ≤ 3 }
-        ensures { (old : ℕ → Option Mapping) → AreSizesOfBlock sizes block before.now old → OutsideSame block old (mapping_at self.now)
+        ensures moves { (old : ℕ → Option Mapping) → AreSizesOfBlock sizes block before.now old → OutsideSame block old (mapping_at self.now)
             → AreMovesIn sizes old (mapping_at self.now) result }
+        ensures cost { steps.new ≤ steps.old + 2048 }
     {
-        let after = self.sizes_of_block(block, sizes);
+        let after = self.sizes_of_block(block, sizes, steps);
         let mut moves = Moves::NONE;
         for i in 0..64 {
             let page = block * LARGEST + 8 * i as u32;
@@ -337,13 +398,17 @@ impl Base {
     }
 
     /// The resident pages of a range that are in a block have these rights. The moves by some sizes.
-    fn after_rights_in_block(
+    ///
+    /// The range in the block is gone through twice, and the block twice, each with four looks a page at most; and each change of a part of an entry, of
+    /// which there is one at most for each resident page, is 58 looks at most.
+    fn after_rights_in_block<L: Ledger>(
         &mut self,
         block: u32,
         first: u32,
         length: u32,
         rights: Rights,
         sizes: Sizes,
+        steps: &mut Steps<L>,
     ) -> Moves
         requires range { first + length ≤ space_pages }
         requires block { block < 2048 }
@@ -351,32 +416,43 @@ impl Base {
         requires to { block * 512 ≤ first + length }
         ensures protects { ProtectsInBlock block first length rights self.old self.new }
         ensures moves { AreMovesIn sizes (mapping_at self.old) (mapping_at self.new) result }
+        ensures cost { steps.new ≤ steps.old + looks_in_block (mapping_at self.old) block }
     {
         let from = first.max(block * LARGEST);
         let end = (first + length).min(block * LARGEST + LARGEST);
-        if !self.any_has_other_rights(from, end, rights) {
+        if !self.any_has_other_rights(from, end, rights, steps) {
             return Moves::NONE;
         }
-        let before = self.sizes_of_block(block, sizes);
-        self.after_rights_of_all(from, end, rights);
-        self.moves_of_block(block, &before, sizes)
+        let before = self.sizes_of_block(block, sizes, steps);
+        self.after_rights_of_all(from, end, rights, steps);
+        self.moves_of_block(block, &before, sizes, steps)
     }
 
     /// The resident pages of a range have these rights. The moves by some sizes are those of the whole change.
     ///
-    /// It goes from block to block, and passes over those without a resident page.
-    pub fn after_rights(&mut self, first: u32, length: u32, rights: Rights, sizes: Sizes) -> Moves
+    /// It goes from block to block. One without a resident page is one look; a single page is changed as the others are that change one page.
+    pub fn after_rights<L: Ledger>(
+        &mut self,
+        first: u32,
+        length: u32,
+        rights: Rights,
+        sizes: Sizes,
+        steps: &mut Steps<L>,
+    ) -> Moves
         requires { first + length ≤ space_pages }
         ensures protects { Protects first length rights self.old self.new }
         ensures moves { AreMovesIn sizes (mapping_at self.old) (mapping_at self.new) result }
+        ensures cost { steps.new ≤ steps.old + looks_of_rights (mapping_at self.old) first length }
     {
+        if length == 1 {
+            return self.after_rights_of_page(first, rights, steps).moves(sizes);
+        }
         let end = first + length;
         let mut moves = Moves::NONE;
-        let mut from = first / LARGEST;
-        while let Some(page) = self.next_resident(first.max(from * LARGEST), end) {
-            let block = page / LARGEST;
-            moves = moves.and(self.after_rights_in_block(block, first, length, rights, sizes));
-            from = block + 1;
+        for block in first / LARGEST..end.div_ceil(LARGEST) {
+            moves = moves.and(self.after_rights_in_block(
+                block, first, length, rights, sizes, steps,
+            ));
         }
         moves
     }

@@ -1,17 +1,18 @@
 //! Calls with a counter of steps of their own, which begins at 0, for callers that count none.
 
-ghost use Rattle.std.specs.Prelude.{◌≡◌, ◌≢◌, ℕ, ◌%◌, ◌^◌, ◌<◌, ◌≤◌, IfNone, IfSome, None, Some, option_map};
-ghost use Rattle.page_map.specs.Entries.{IsNextEntry, NoneMapped, entry_at, mapping_of};
+ghost use Rattle.std.specs.Prelude.{◌≡◌, ◌≢◌, ℕ, ◌+◌, ◌<◌, ◌≤◌, IfNone, IfSome, None, Some, option_map};
+ghost use Rattle.page_map.specs.Entries.{IsNextEntry, NoneMapped, entry_at};
 ghost use Rattle.pager_model.specs.Bounds.{space_pages};
 ghost use Rattle.tiles.specs.Changes.{AreChanges, frame_before};
-ghost use Rattle.tiles.specs.Kept.{MapsExtent};
-ghost use Rattle.tiles.specs.Resident.{Maps, frame_of_page, frames_in, mapping_at, with_flag};
+ghost use Rattle.tiles.specs.Resident.{Maps, Protects, frame_of_page, frames_in, mapping_at, with_flag};
+ghost use Rattle.tiles.specs.Sized.{AreMovesIn};
 
 use crate::base::Base;
 use crate::changes::Changes;
+use crate::moves::Moves;
 use crate::pages::Pages;
 use page_map::{Entry, Mixed};
-use pager_model::{Mapping, Size, Steps};
+use pager_model::{Mapping, Rights, Sizes, Steps};
 use std::sync::ledger::{Blank, Ledger};
 
 /// The entry that maps a page, where one does.
@@ -36,30 +37,6 @@ pub(crate) fn next<L: Ledger>(map: &Mixed, from: u32, end: u32, blank: Blank) ->
 {
     let (book, share) = blank.open::<L>();
     map.next(from, end, &mut Steps::begin(book, share))
-}
-
-/// The pages of the extent of a size from a page on, which lies in one entry, have another mapping, in the frames that they have.
-pub(crate) fn set<L: Ledger>(
-    pages: &mut Pages,
-    entry: Entry,
-    size: Size,
-    page: u32,
-    mapping: Mapping,
-    blank: Blank,
-)
-    requires name { blank.name ≡ L.name }
-    requires parts { blank.parts ≡ L.parts }
-    requires share { 0 < blank.parts }
-    requires there { entry_at pages.old page ≡ Some entry }
-    requires size { size ≤ entry.extent.size }
-    requires first { page % 8 ^ size ≡ 0 }
-    requires frame { mapping.frame ≡ (mapping_of entry page).frame }
-    requires other { mapping ≢ mapping_of entry page }
-    ensures { MapsExtent size page mapping pages.old pages.new }
-{
-    let (book, share) = blank.open::<L>();
-    let mut steps = Steps::begin(book, share);
-    pages.set(entry, size, page, mapping, &mut steps);
 }
 
 /// A page of an entry is resident no more.
@@ -113,4 +90,25 @@ pub fn after_dirty<L: Ledger>(base: &mut Base, page: u32, dirty: bool, blank: Bl
 {
     let (book, share) = blank.open::<L>();
     base.after_dirty(page, dirty, &mut Steps::begin(book, share))
+}
+
+/// The resident pages of a range have these rights. The moves by some sizes are those of the whole change.
+pub fn after_rights<L: Ledger>(
+    base: &mut Base,
+    first: u32,
+    length: u32,
+    rights: Rights,
+    sizes: Sizes,
+    blank: Blank,
+) -> Moves
+    requires name { blank.name ≡ L.name }
+    requires parts { blank.parts ≡ L.parts }
+    requires share { 0 < blank.parts }
+    requires range { first + length ≤ space_pages }
+    ensures protects { Protects first length rights base.old base.new }
+    ensures moves { AreMovesIn sizes (mapping_at base.old) (mapping_at base.new) result }
+{
+    let (book, share) = blank.open::<L>();
+    let mut steps = Steps::begin(book, share);
+    base.after_rights(first, length, rights, sizes, &mut steps)
 }

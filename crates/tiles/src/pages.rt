@@ -1,6 +1,6 @@
 //! The resident pages of a space, by the tiles that map them.
 
-ghost use Rattle.std.specs.Prelude.{◌≡◌, ◌≢◌, ℕ, ◌∷◌, [], ◌+◌, ◌%◌, ◌^◌, ◌<◌, ◌≤◌, None, Some, IfNone, IfOk, IfSome, option_map};
+ghost use Rattle.std.specs.Prelude.{◌≡◌, ◌≢◌, ℕ, ◌∷◌, [], ◌+◌, ◌-◌, ◌*◌, ◌/◌, ◌%◌, ◌^◌, ◌<◌, ◌≤◌, max, None, Some, IfNone, IfOk, IfSome, MatchOption, option_map};
 ghost use Rattle.page_map.specs.Entries.{entry_at, mapping_of, tile_of_entry};
 ghost use Rattle.pager_model.specs.Bounds.{most_frames, space_pages};
 ghost use Rattle.pager_model.specs.Tiles.{tile_of, tiles_of_size};
@@ -78,6 +78,24 @@ impl Pages {
         ensures none { IfNone result (NoneResident (mapping_at self.now) from end) }
     {
         counted::next::<Brand>(&self.map, from, end, Blank::new(1))
+    }
+
+    /// The same, where the caller counts the looks: four at most for each page up to the one that is found or the end, and one for each extent of 512
+    /// pages where none of theirs is resident.
+    pub(crate) fn find_next<L: Ledger>(
+        &self,
+        from: u32,
+        end: u32,
+        steps: &mut Steps<L>,
+    ) -> Option<Entry>
+        requires { end ≤ space_pages }
+        ensures some { IfSome result (IsNextTile self.now from end) }
+        ensures none { IfNone result (NoneResident (mapping_at self.now) from end) }
+        ensures cost { MatchOption result (steps.new ≤ steps.old + 4 * (end - from)) (λ entry. steps.new + 4 * from ≤ steps.old + 4 * (max from entry.extent.first + 1)) }
+        ensures bare { from ≤ end → NoneResident (mapping_at self.now) (from / 512 * 512) ((end + 511) / 512 * 512)
+            → steps.new + from / 512 ≤ steps.old + (end + 511) / 512 }
+    {
+        self.map.next(from, end, steps)
     }
 
     /// How many tiles there are of each size.

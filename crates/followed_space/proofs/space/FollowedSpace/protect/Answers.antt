@@ -14,8 +14,8 @@ set-requires c =
     lies_in_space s.regions c.args.page c.args.length c.self.invariant.ordered
     (protect_next s n.2 c.args.page c.args.length c.args.rights n.0 n.1 n.3 n.4)
 
-pub after_rights-requires : goal.after_rights-requires
-after_rights-requires c =
+pub after_rights-requires-clause-range : goal.after_rights-requires-clause-range
+after_rights-requires-clause-range c =
     let n = rw (← c.self.view_is) at c.requires.next in
     let s = the_view c.self.inside in
     lies_in_space s.regions c.args.page c.args.length c.self.invariant.ordered
@@ -50,5 +50,5 @@ returns-clause-follows c =
 pub returns-clause-changed : goal.returns-clause-changed
 returns-clause-changed c =
     rw (← c.self.view_is)
-    (changes_blocks c.args.page c.args.length c.blocks_round.result c.self.inside.pages c.after_rights.new.self c.blocks_round.ensures.round
+    (changes_blocks c.args.page c.args.length c.blocks_round.result c.self.inside.pages c.after_rights.new.base c.blocks_round.ensures.round
     (λ p out. c.after_rights.ensures.protects.at p ∙ cond-false _ _ _ out))

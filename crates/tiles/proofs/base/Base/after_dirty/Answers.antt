@@ -1,10 +1,11 @@
-use Rattle.std.proofs.Common.{◌≡◌, ◌≢◌, ℕ, ◌+◌, ◌≤◌, Bool, true, false, None, Some, refl, sym, ap, subst, ◌∙◌, arith}
+use Rattle.std.proofs.Common.{◌≡◌, ◌≢◌, Bool, true, false, None, Some, refl, sym, ap, subst, ◌∙◌}
 use Rattle.std.proofs.Math.Bool.{beq}
 use Rattle.std.proofs.lemmas.Bool.{false≢true}
 use Rattle.page_map.specs.Entries.{mapping_of}
 use Rattle.pager_model.specs.declared.tile.Mapping.{Mapping}
 use Rattle.tiles.specs.Resident.{Maps, mapping_at, with_flag}
-use Rattle.tiles.proofs.KeptPages.{flag_kept, flag_set, maps_one}
+use Rattle.tiles.proofs.KeptPages.{given_other, given_same, maps_one}
+use Rattle.tiles.proofs.Looks.{cost_found, cost_set}
 use Rattle.tiles.proofs.base.Base.after_dirty.Goals as goal
 
 same_flag : (a b : Bool) → beq a b ≡ true → b ≡ a
@@ -18,12 +19,6 @@ other_flag true true e _ = false≢true (sym e)
 other_flag true false _ e = false≢true e
 other_flag false true _ e = false≢true (sym e)
 other_flag false false e _ = false≢true (sym e)
-
-cost_found : (begun found : ℕ) → found ≤ begun + 4 → found ≤ begun + 62
-cost_found begun found one = omega arith
-
-cost_set : (begun found done : ℕ) → found ≤ begun + 4 → done ≤ found + 58 → done ≤ begun + 62
-cost_set begun found done one more = omega arith
 
 pub returns-in_default-clause-cost : goal.returns-in_default-clause-cost
 returns-in_default-clause-cost g c = cost_found c.args.steps.now c.find.new.steps c.find.ensures.cost
@@ -40,7 +35,7 @@ set-turn-requires-clause-there g c = sym c.find.ensures.entry ∙ c.in-Some.is
 pub returns-in_default-clause-maps : goal.returns-in_default-clause-maps
 returns-in_default-clause-maps g c =
     let none : None ≡ mapping_at c.self.inside.pages c.args.page = rw c.in_default.is at c.find.ensures.mapping in
-    rw (← c.self.view_is) (flag_kept c.args.page c.args.dirty None c.self.inside.pages none refl)
+    rw (← c.self.view_is) (given_same c.args.page (with_flag c.args.dirty) None c.self.inside.pages none refl)
 
 pub returns-in_default-clause-changes : goal.returns-in_default-clause-changes
 returns-in_default-clause-changes g c = c.none.ensures.changes c.args.self.now c.args.self.now (λ p. refl)
@@ -50,7 +45,7 @@ returns-then-entry-dirty-clause-maps g c =
     let m = mapping_of c.in-Some.entry c.args.page in
     let some : Some m ≡ mapping_at c.self.inside.pages c.args.page = rw c.in-Some.is at c.find.ensures.mapping in
     rw (← c.self.view_is)
-    (flag_kept c.args.page c.args.dirty (Some m) c.self.inside.pages some
+    (given_same c.args.page (with_flag c.args.dirty) (Some m) c.self.inside.pages some
     (ap (λ (d : Bool). Some (with_flag d m)) (same_flag c.in-Some.entry.mapping.dirty c.args.dirty c.if-entry-dirty.true)))
 
 pub returns-then-entry-dirty-clause-changes : goal.returns-then-entry-dirty-clause-changes
@@ -66,7 +61,7 @@ returns-clause-maps g c =
     let some : Some m ≡ mapping_at c.self.inside.pages c.args.page = rw c.in-Some.is at c.find.ensures.mapping in
     let maps = maps_one c.at_level.result c.args.page _ c.self.inside.pages c.set-turn.new.self c.at_level.ensures c.set-turn.ensures.maps in
     rw (← c.self.view_is)
-    (flag_set c.args.page c.args.dirty m c.self.inside.pages c.set-turn.new.self some
+    (given_other c.args.page (with_flag c.args.dirty) m c.self.inside.pages c.set-turn.new.self some
     (subst (λ (k : Mapping). Maps c.args.page (Some (with_flag c.args.dirty k)) c.self.inside.pages c.set-turn.new.self) c.mapping_of.ensures maps))
 
 pub returns-clause-changes : goal.returns-clause-changes

@@ -9,10 +9,10 @@ use Rattle.tiles.proofs.Blocks.{protects_part}
 use Rattle.tiles.proofs.base.Base.after_rights_of_part.Goals as goal
 
 pub returns-clause-further : goal.returns-clause-further
-returns-clause-further c = omega (arith, c.pages.ensures, eight_pos c.largest_part-size.result)
+returns-clause-further g c = omega (arith, c.pages.ensures, eight_pos c.largest_part-size.result)
 
 pub returns-clause-protects : goal.returns-clause-protects
-returns-clause-protects c =
+returns-clause-protects g c =
     let part = c.largest_part-size.ensures in
     let given : Mapping =
     record {
@@ -22,20 +22,20 @@ returns-clause-protects c =
       dirty = c.mapping_of.result.dirty;
     } in
     let is = ap (λ m. with_rights c.args.rights m) c.mapping_of.ensures in
-    subst (λ n. ProtectsTo c.args.page (c.args.page + n) c.args.rights c.args.self.now c.set.new.pages) (sym c.pages.ensures)
-    (protects_part c.largest_part-size.result c.args.page c.args.rights given c.args.entry c.args.self.now c.set.new.pages c.requires.fits part.within part.first is
-    (subst (λ r. MapsExtent c.largest_part-size.result c.args.page given r c.set.new.pages) c.self.view_is c.set.ensures))
+    subst (λ n. ProtectsTo c.args.page (c.args.page + n) c.args.rights c.args.self.now c.set.new.self) (sym c.pages.ensures)
+    (protects_part c.largest_part-size.result c.args.page c.args.rights given c.args.entry c.args.self.now c.set.new.self c.requires.fits part.within part.first is
+    (subst (λ r. MapsExtent c.largest_part-size.result c.args.page given r c.set.new.self) c.self.view_is c.set.ensures.maps))
 
 pub returns-clause-within : goal.returns-clause-within
-returns-clause-within c = omega (arith, c.pages.ensures, c.largest_part-size.ensures.last)
+returns-clause-within g c = omega (arith, c.pages.ensures, c.largest_part-size.ensures.last)
 
 pub set-requires-clause-size : goal.set-requires-clause-size
-set-requires-clause-size c = c.largest_part-size.ensures.within
+set-requires-clause-size g c = c.largest_part-size.ensures.within
 
 pub set-requires-clause-frame : goal.set-requires-clause-frame
-set-requires-clause-frame c = ap (λ (m : Mapping). m.frame) c.mapping_of.ensures
+set-requires-clause-frame g c = ap (λ (m : Mapping). m.frame) c.mapping_of.ensures
 
 pub set-requires-clause-other : goal.set-requires-clause-other
-set-requires-clause-other c = λ same.
+set-requires-clause-other g c = λ same.
     let kept = ap (λ (m : Mapping). m.rights) same in
     c.has_other_rights.ensures.other c.if-not-has_other_rights.false (ap (λ (r : Rights). with_rights r c.args.entry.mapping) kept)

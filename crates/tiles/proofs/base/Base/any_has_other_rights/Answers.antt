@@ -1,34 +1,72 @@
-use Rattle.std.proofs.Common.{max, option_map, inl, inr, ap, subst, sym, ◌∙◌, arith}
+use Rattle.std.proofs.Common.{◌+◌, ◌*◌, ◌/◌, max, option_map, inl, inr, refl, ap, subst, sym, ◌∙◌, arith}
 use Rattle.std.proofs.lemmas.Bool.{cases_lt}
 use Rattle.tiles.specs.Kept.{IsNextTile}
-use Rattle.tiles.specs.Resident.{mapping_at, with_rights}
+use Rattle.tiles.specs.Resident.{NoneResident, mapping_at, with_rights}
 use Rattle.tiles.proofs.Behind.{end_fits, keeps_within}
+use Rattle.tiles.proofs.Looks.{no_entry}
 use Rattle.tiles.proofs.base.Base.any_has_other_rights.Goals as goal
 use Rattle.tiles.proofs.base.Base.any_has_other_rights.Goals.{In-Some}
+use Rattle.tiles.proofs.base.Base.any_has_other_rights.Given.{Over}
 
 -- the entry in hand, by what is resident
-found : (c : In-Some) → IsNextTile c.args.self.now c.loop-entry.from c.args.end c.in-Some.entry
-found c = subst (λ r. IsNextTile r c.loop-entry.from c.args.end c.in-Some.entry) c.self.view_is c.in-Some.ensures.some
+found : (g : Over) (c : In-Some g) → IsNextTile c.args.self.now c.loop-entry.from c.args.end c.in-Some.entry
+found g c = subst (λ r. IsNextTile r c.loop-entry.from c.args.end c.in-Some.entry) c.self.view_is c.in-Some.ensures.some
+
+-- some page is resident then
+not_bare : (g : Over) (c : In-Some g)
+    → NoneResident (mapping_at c.args.self.now) (c.args.first / 512 * 512) ((c.args.end + 511) / 512 * 512) → ⊥
+not_bare g c = no_entry c.args.self.now c.loop-entry.from c.args.end (c.args.first / 512 * 512) ((c.args.end + 511) / 512 * 512) c.in-Some.entry
+    (found g c) (omega (arith, c.loop-entry.invariant.from_on)) (omega arith)
 
 pub behind-from-requires : goal.behind-from-requires
-behind-from-requires c = end_fits c.self.inside.pages _ c.in-Some.entry c.in-Some.ensures.some.fits
+behind-from-requires g c = end_fits c.self.inside.pages _ c.in-Some.entry c.in-Some.ensures.some.fits
 
 pub loop-entry-smaller : goal.loop-entry-smaller
-loop-entry-smaller c =
+loop-entry-smaller g c =
     let next = c.in-Some.ensures.some in
     omega (arith, c.behind-from.ensures, next.fits.to, next.next.before_end)
 
 pub loop-entry-preserved : goal.loop-entry-preserved
-loop-entry-preserved c p low before =
+loop-entry-preserved g c =
     let pages = mapping_at c.args.self.now in
     let rights = c.args.rights in
     let e = c.in-Some.entry in
-    let next = found (goal.at.loop-entry-preserved c).In-Some in
+    let here = (goal.at.loop-entry-preserved g c).In-Some in
+    let next = found g here in
     let same = c.has_other_rights.ensures.same c.if-has_other_rights.false in
-    elim (cases_lt p c.loop-entry.from) [
-      | inl earlier ↦ c.loop-entry.invariant p low earlier
-      | inr on ↦ elim (cases_lt p (max c.loop-entry.from e.extent.first)) [
-        | inl bare ↦ let none = next.lowest p on bare in ap (option_map (with_rights rights)) none ∙ sym none
-        | inr after ↦ keeps_within rights c.args.self.now _ e next.fits same p (omega arith) (omega (arith, before, c.behind-from.ensures))
-      ]
-    ]
+    record {
+      from_on = omega (arith, c.loop-entry.invariant.from_on, c.behind-from.ensures, next.fits.to);
+      keeps = λ p low before. elim (cases_lt p c.loop-entry.from) [
+        | inl earlier ↦ c.loop-entry.invariant.keeps p low earlier
+        | inr on ↦ elim (cases_lt p (max c.loop-entry.from e.extent.first)) [
+          | inl bare ↦ let none = next.lowest p on bare in ap (option_map (with_rights rights)) none ∙ sym none
+          | inr after ↦ keeps_within rights c.args.self.now _ e next.fits same p (omega arith) (omega (arith, before, c.behind-from.ensures))
+        ]
+      ];
+      cost = omega (
+        arith,
+        c.loop-entry.invariant.cost,
+        c.in-Some.ensures.cost,
+        c.behind-from.ensures,
+        next.fits.to,
+        next.next.before_end,
+      );
+      bare = λ none. absurd (not_bare g here none);
+    }
+
+pub returns-then-has_other_rights-clause-cost : goal.returns-then-has_other_rights-clause-cost
+returns-then-has_other_rights-clause-cost g c =
+    omega (arith, c.loop-entry.invariant.cost, c.in-Some.ensures.cost, c.in-Some.ensures.some.next.before_end)
+
+pub returns-then-has_other_rights-clause-bare : goal.returns-then-has_other_rights-clause-bare
+returns-then-has_other_rights-clause-bare g c none = absurd (not_bare g (goal.at.returns-then-has_other_rights-clause-bare g c).In-Some none)
+
+pub returns-clause-cost : goal.returns-clause-cost
+returns-clause-cost g c = omega (arith, c.loop-entry.invariant.cost, c.in_default.ensures.cost)
+
+pub returns-clause-bare : goal.returns-clause-bare
+returns-clause-bare g c none =
+    let begun = c.loop-entry.invariant.bare none in
+    let looked = c.in_default.ensures.bare (omega (arith, begun.0, c.requires.range))
+    (λ p low high. rw c.self.view_is (none p (omega (arith, low, begun.0)) high)) in
+    (refl, omega (arith, looked, begun.0, begun.1))

@@ -6,7 +6,7 @@ use Rattle.tiles.proofs.Blocks.{CountsTo, counts_none, counts_more, counts_all, 
 use Rattle.tiles.proofs.base.Base.moves_of_block.Goals as goal
 
 pub loop-i-init : goal.loop-i-init
-loop-i-init c = record {
+loop-i-init g c = record {
   few_promotions = omega arith;
   few_demotions = omega arith;
   in_space = omega arith;
@@ -14,7 +14,7 @@ loop-i-init c = record {
 }
 
 pub loop-i-preserved : goal.loop-i-preserved
-loop-i-preserved c = record {
+loop-i-preserved g c = record {
   few_promotions = omega (
     arith,
     c.loop-i.invariant.few_promotions,
@@ -44,8 +44,8 @@ loop-i-preserved c = record {
       (c.at.ensures.demotions ∙ ap₂ (λ a b. weight (is_grown_at q a b)) has had));
 }
 
-pub returns : goal.returns
-returns c old sizes outside =
+pub returns-clause-moves : goal.returns-clause-moves
+returns-clause-moves g c old sizes outside =
     let past = c.loop-i-test.false in
     let ended = c.loop-i.auto.i-end in
     let all : c.loop-i.i ≡ 64 = omega arith in

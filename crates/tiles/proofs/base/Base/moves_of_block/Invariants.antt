@@ -8,7 +8,7 @@ use Rattle.tiles.proofs.base.Base.moves_of_block.Given as goal
 
 -- the moves so far
 abbrev pub invariant-loop-i : goal.invariant-loop-i
-invariant-loop-i l = record {
+invariant-loop-i g l = record {
   few_promotions : l.moves.promotions ≤ l.i;
   few_demotions : l.moves.demotions ≤ l.i;
   in_space : IsInSpace l.moves.touched;

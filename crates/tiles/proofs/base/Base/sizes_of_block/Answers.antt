@@ -11,17 +11,19 @@ use Rattle.tiles.specs.Sized.{size_by}
 use Rattle.tiles.proofs.Begun.{size_there}
 use Rattle.tiles.proofs.SizedTiles.{by_absent, by_small}
 use Rattle.tiles.proofs.base.Base.sizes_of_block.Goals as goal
+use Rattle.tiles.proofs.base.Base.sizes_of_block.Given.{Over}
 
 pub loop-entry-init : goal.loop-entry-init
-loop-entry-init c = record {
+loop-entry-init g c = record {
   from_on = omega arith;
   within = omega arith;
   at = λ i low. get_or-alike 64 i 0 ∙ grind (arith, nat_tests);
+  cost = omega arith;
 }
 
 -- the entry in hand, by what is resident
-found : (c : goal.After-set_places) → IsNextTile c.args.self.now c.loop-entry.from (c.args.block * 512 + 512) c.in-Some.entry
-found c = subst (λ r. IsNextTile r c.loop-entry.from (c.args.block * 512 + 512) c.in-Some.entry) c.self.view_is c.in-Some.ensures.some
+found : (g : Over) (c : goal.After-set_places g) → IsNextTile c.args.self.now c.loop-entry.from (c.args.block * 512 + 512) c.in-Some.entry
+found g c = subst (λ r. IsNextTile r c.loop-entry.from (c.args.block * 512 + 512) c.in-Some.entry) c.self.view_is c.in-Some.ensures.some
 
 -- which places are of pages from one on, before one, and before a place
 is_begun : (first page i : ℕ) → nat_le (div_ceil (page - first) 8) i ≡ nat_le page (first + 8 * i)
@@ -48,11 +50,11 @@ place q from page end level size on more bare there = elim (cases_lt q from) [
 ]
 
 pub loop-entry-preserved : goal.loop-entry-preserved
-loop-entry-preserved c =
+loop-entry-preserved g c =
     let z = c.args.sizes in
     let pages = mapping_at c.args.self.now in
     let so_far = c.loop-entry.invariant in
-    let next = found c in
+    let next = found g c in
     let page = c.max.result in
     let end = c.min.result in
     let begins = c.max.ensures in
@@ -75,10 +77,21 @@ loop-entry-preserved c =
           (λ from before. size_there z pages page end (tile_of_entry c.in-Some.entry) tile on
           (omega (arith, c.min.ensures, c.behind.ensures)) q from before ∙ sym (c.level.ensures.level ∙ c.within.ensures))
           ∙ ap (λ b. if b then size else 0) (sym past ∙ sym (begins_before first i c.div_ceil-past.result));
+      cost = omega (
+        arith,
+        so_far.cost,
+        so_far.from_on,
+        c.in-Some.ensures.cost,
+        c.div_ceil-past.ensures,
+        c.min.ensures,
+        c.behind.ensures,
+        next.fits.to,
+        next.next.before_end,
+      );
     }
 
 pub returns-clause-sizes : goal.returns-clause-sizes
-returns-clause-sizes c i low =
+returns-clause-sizes g c i low =
     let pages = mapping_at c.args.self.now in
     let q = c.args.block * 512 + 8 * i in
     let none = subst (λ r. NoneResident (mapping_at r) c.loop-entry.from
@@ -89,8 +102,11 @@ returns-clause-sizes c i low =
     ]
 
 pub returns-clause-small : goal.returns-clause-small
-returns-clause-small c i low =
+returns-clause-small g c i low =
     let q = c.args.block * 512 + 8 * i in
     let is = c.loop-entry.invariant.at i low in
     let small = by_small c.args.sizes (mapping_at c.args.self.now) q in
     grind (arith, nat_tests)
+
+pub returns-clause-cost : goal.returns-clause-cost
+returns-clause-cost g c = omega (arith, c.loop-entry.invariant.cost, c.loop-entry.invariant.within, c.in_default.ensures.cost)
