@@ -12,7 +12,7 @@ TOP = os.path.dirname(os.path.dirname(os.path.abspath(__file__)))
 PROGRAM = os.path.join(TOP, 'crates', 'superpager', 'out', 'superpager')
 # The reference model, which reads and prints the same, slowly.
 MODEL = os.path.join(TOP, 'tools', 'judge')
-# The most calls of a trace that the model runs in place of a program that isn't built: more than half a minute.
+# The most calls of a trace that the model runs in place of a program that isn't built: most take half a minute, and where each access pages out five.
 MODEL_CALLS = 20000
 BUILD = '`cd crates/superpager && rt run -- order <../../examples/lesson/preempted.trace`'
 # What is said of a text that is no trace.
@@ -42,7 +42,7 @@ class Program(NamedTuple):
         """Stops where the trace of this name has more calls."""
         calls = trace.count(b'\n') - 2
         if self.most is not None and calls > self.most:
-            raise Stopped('%s has %d calls, and the reference model, which takes about 2 ms for each, runs at most %d here. Build the program: %s. '
+            raise Stopped('%s has %d calls, and the reference model, which takes 1 to 20 ms for each, runs at most %d here. Build the program: %s. '
                           '(`--program tools/judge` runs it however long it takes)' % (name, calls, self.most, BUILD))
 
 
@@ -62,7 +62,7 @@ def program_or_model(given: Optional[str]) -> Program:
     """The program that is given, or else the built one, or else, which is said, the reference model."""
     if given is not None or os.path.exists(PROGRAM):
         return Program(program_at(given))
-    say('no program is built, so tools/judge runs in its place, the reference model in Python: the same text, about 2 ms a call. Build it: %s' % BUILD)
+    say('no program is built, so tools/judge runs in its place, the reference model in Python: the same text, at 1 to 20 ms a call. Build it: %s' % BUILD)
     return Program(program_at(MODEL), MODEL_CALLS)
 
 

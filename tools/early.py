@@ -4,7 +4,7 @@ import signal
 import sys
 from types import TracebackType
 
-NO_MEMORY = 'there is no memory for it'
+NO_MEMORY = 'not enough memory'
 
 # Until `end` calls a tool's main function an interrupt ends it without a word: Python would tell which module it was reading. One that came while
 # Python started has waited (start.sh), and ends it here.

@@ -14,7 +14,7 @@ mkdir -p "$made/alone/examples/drawn"
 cp -R ../../tools "$made/alone"
 cp ../drawn/random_trace.py "$made/alone/examples/drawn"
 build='`cd crates/superpager && rt run -- order <../../examples/lesson/preempted.trace`'
-model="no program is built, so tools/judge runs in its place, the reference model in Python: the same text, about 2 ms a call. Build it: $build"
+model="no program is built, so tools/judge runs in its place, the reference model in Python: the same text, at 1 to 20 ms a call. Build it: $build"
 run closed told "$made/alone/tools/compare" --sizes 0,01 --csv ../lesson/working-set.trace
 compare compared-alone $? 0 "compare: $model" compared-alone.table
 run closed told "$made/alone/tools/picture" ../lesson/demoted-by-store.trace
@@ -27,7 +27,7 @@ compare judged-alone $? 0 '' ../lesson/preempted.text
 run "$made/long" told "$made/alone/tools/picture" -
 sed 1d "$made/message" >"$made/second"
 mv "$made/second" "$made/message"
-compare long-alone $? 0 "picture: - has 20001 calls, and the reference model, which takes about 2 ms for each, runs at most 20000 here. Build the program: \
+compare long-alone $? 0 "picture: - has 20001 calls, and the reference model, which takes 1 to 20 ms for each, runs at most 20000 here. Build the program: \
 $build. (\`--program tools/judge\` runs it however long it takes)" ''
 
 # By a link to it a tool finds what it is made of.
