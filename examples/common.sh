@@ -21,7 +21,7 @@ trap 'echo "$check: interrupted" >&2; exit 130' INT
 passed=0
 failed=0
 
-# Runs a command on an input and an output, and answers its status.
+# Runs a command on an input and an output, and answers its status. What the program says behind the cause, its usage or where to see more, is left out.
 run() {
     input=$1
     output=$2
@@ -34,6 +34,9 @@ run() {
         *,full) "$@" <"$input" >/dev/full ;;
         *) "$@" <"$input" ;;
     esac >"$made/output" 2>"$made/message"
+    status_of_command=$?
+    sed -i -e '/^usage: superpager /d' -e '/^see: /d' "$made/message"
+    return "$status_of_command"
 }
 
 # Compares what a run of this name came to, its status among it, with what is expected, and counts it.

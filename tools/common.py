@@ -71,7 +71,7 @@ def printed(program: str, words: Sequence[str], trace: bytes, name: str) -> str:
     ran = subprocess.run([program, *words], input=trace, stdout=subprocess.PIPE, stderr=subprocess.PIPE)
     if ran.returncode == 0:
         return ran.stdout.decode(errors='backslashreplace')
-    raise Stopped(told_of(name, ran.stderr.decode(errors='backslashreplace').strip() or 'the program ended with status %d' % ran.returncode))
+    raise Stopped(told_of(name, ran.stderr.decode(errors='backslashreplace').partition('see: ')[0].strip() or 'the program ended with status %d' % ran.returncode))
 
 
 def told_of(name: str, said: str) -> str:

@@ -18,5 +18,12 @@ for trace in *.trace; do
     compare "$trace in cases" $? 0 '' ''
 done
 
+# Behind the cause a line says what the words may be, or where more is told of a line of a trace.
+"$program" ordr <refused.trace 2>&1 | cut -d ' ' -f 1-2 >"$made/output"
+"$program" order <refused.trace 2>&1 | cut -d ' ' -f 1-2 >>"$made/output"
+printf 'superpager: usage\nusage: superpager\nsuperpager: line\nsee: tools/explain\n' >"$made/lines"
+: >"$made/message"
+compare more-of-a-refusal 0 0 '' "$made/lines"
+
 count ./check_grammar.py
 end_of_check

@@ -98,7 +98,7 @@ def judged(text: bytes) -> Row:
 def told(program: str, text: bytes) -> Row:
     """What the program says of a text, and prints."""
     run = subprocess.run([program, 'order', '--history'], input=text, stdout=subprocess.PIPE, stderr=subprocess.PIPE)
-    message = run.stderr.decode('utf-8', 'replace')
+    message = run.stderr.decode('utf-8', 'replace').partition('see: ')[0]
     if run.returncode == 0 and not message:
         return DONE, run.stdout
     if run.returncode == 3 and message.startswith('superpager: ') and message.endswith('\n'):

@@ -9,7 +9,7 @@ examples=$(cd "$(dirname "$0")/.." && pwd) || exit 1
 . "$examples/common.sh"
 cd "$made" || exit 1
 runs=$examples/runs
-mkdir four-folder sixteen-folder one-folder placed-folder closed-folder full-folder killed-folder
+mkdir unread-folder four-folder sixteen-folder one-folder placed-folder closed-folder full-folder killed-folder
 
 # Makes a run by these words over memory and over a folder, and compares them.
 same() {
@@ -39,6 +39,12 @@ same one-folder /dev/null large 7 3
 for number in 0 1 10 11 12 13 14 15 2 3 4 5 6 7 8 9; do echo "space-$number"; done >text
 run /dev/null told env LC_ALL=C ls sixteen-folder
 compare files $? 0 '' text
+
+# Words of no command make no file.
+run four told "$program" --folder unread-folder ordr
+compare unread $? 2 'superpager: usage' ''
+run /dev/null told ls unread-folder
+compare unread-files $? 0 '' ''
 
 # A page's copy stands at its place in the file, the lowest byte of each word first.
 printf 'trace 1 512 1 1\n0 map 0 0 2 fixed write\n0 store 0 8200 72623859790382856\n0 sync 0 1\nend\n' >placed

@@ -25,7 +25,7 @@ explain() {
     shift
     tool "$made/text" "$@"
     status_of_run=$?
-    "$program" order <"$made/text" 2>&1 >/dev/null | sed 's/^superpager: //' >"$made/told"
+    "$program" order <"$made/text" 2>&1 >/dev/null | sed -e 's/^superpager: //' -e '/^see: /d' >"$made/told"
     if [ "$status_of_run" = 3 ] && ! head -n 1 "$made/output" | cmp -s - "$made/told"; then
         cat "$made/told" >>"$made/output"
     fi

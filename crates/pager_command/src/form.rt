@@ -84,6 +84,13 @@ pub fn command_of(words: &[&str]) -> Option<Command>
     Some(Command::Large { number, seed })
 }
 
+/// Whether the words are of a command.
+pub fn is_command(words: &[&str]) -> bool
+    ensures { IsTrue result ↔ IsCommand words.now }
+{
+    command_of(words).is_some()
+}
+
 /// The trace that the words ask to be made, where they do.
 fn making_of(words: &[&str]) -> Option<Making>
     ensures some { IfSome result (AreMakingWords words.now) }

@@ -7,7 +7,7 @@ mod outcome;
 mod running;
 mod status;
 
-pub use form::small_number_of;
+pub use form::{is_command, small_number_of};
 pub use outcome::Outcome;
 pub use running::run;
 pub use status::{DONE, MEMORY, READ_FAULT, REFUSED, USAGE, WRITE_FAULT, message_of, unread_words};

@@ -6,7 +6,7 @@ mod backing;
 
 use backing::{Backing, file_stores, memory_stores, slot_stores, stores_of};
 use io_core::{RealSink, RealSource, Sink, Source};
-use pager_command::{DONE, MEMORY, message_of, run, unread_words};
+use pager_command::{DONE, MEMORY, USAGE, is_command, message_of, run, unread_words};
 use std::fs::File;
 use std::process::ExitCode;
 use std::rt::{Env, Files};
@@ -15,6 +15,9 @@ use std::thread::Threads;
 use std::{env, io};
 use store_core::Store;
 use trace_reader::TraceFault;
+
+/// The words that the program takes.
+const COMMANDS: &str = "superpager [--folder DIR | --swap N] FORM <TRACE, FORM one of: order, turns SEED, replay, each also with --history; plan K; curve; or superpager make NUMBER CALLS PROCESSORS SPACES FRAMES; or superpager large NUMBER SEED";
 
 fn main(rt: HostRuntime) -> ExitCode {
     let mut source = RealSource::of(rt.stdin());
@@ -39,6 +42,10 @@ fn run_words<R: AllocGlobal + Env + Files<File = File> + Threads + Wait + Sync, 
     let arguments: Vec<String> = env::args(rt)?.skip(1).collect(alloc)?;
     let words: Vec<&str> = arguments.iter().map(|word| word.as_str()).collect(alloc)?;
     let (backing, words) = stores_of(words.as_slice());
+    if !is_command(words) {
+        // No file is made for words that ask for no run.
+        return Ok((USAGE, None));
+    }
     run_with(rt, backing, words, source, sink)
 }
 
@@ -79,11 +86,19 @@ fn run_over<R: AllocGlobal + Threads + Wait + Sync, T: Source, K: Sink, S: Store
     (outcome.status, outcome.refusal)
 }
 
-/// Says on standard error why the program ends with this status.
+/// Says on standard error why the program ends with this status, and where there is more to know, in a line behind it.
 fn tell(rt: &HostRuntime, status: u8, refusal: Option<TraceFault>) -> io::Result<()> {
     if let Some(fault) = refusal {
-        return eprintln!(rt; "superpager: {fault}");
+        eprintln!(rt; "superpager: {fault}")?;
+        return match fault {
+            TraceFault::Line { .. } => eprintln!(rt; "see: tools/explain TRACE"),
+            _ => Ok(()),
+        };
     }
     let message = message_of(status);
-    eprintln!(rt; "superpager: {message}")
+    eprintln!(rt; "superpager: {message}")?;
+    match status {
+        USAGE => eprintln!(rt; "usage: {COMMANDS}"),
+        _ => Ok(()),
+    }
 }
