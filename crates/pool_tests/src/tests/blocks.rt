@@ -19,7 +19,9 @@ fn take<L: Ledger>(free: &mut Free, size: Size, blank: Blank) -> (bool, Option<u
     (free.has(size, steps), free.take(size, steps))
 }
 
-/// Takings of 1,024 frames, each with a level, the first frame that is taken, and how many frames are free then.
+/// Takings of 1,024 frames. Each row is `LEVEL FIRST FREE`: an extent of this level is taken, it begins with frame FIRST, and so many frames are
+/// free then. So `2 512 448` is read: an extent of level 2, which has 64 frames, is taken from frame 512 on, and 448 frames are free. Where there is
+/// no extent of the level FIRST is a dash, and nothing is taken.
 const TAKEN: &str = "\
 3 0 512
 2 512 448

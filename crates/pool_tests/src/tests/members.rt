@@ -10,7 +10,8 @@ const FRAMES: u32 = 4096;
 
 /// Steps on new lists: `in` with a level, a stamp and a frame puts a member in, `to` with these moves it there, `out` with a frame
 /// takes one out, and `next` with a level takes the oldest out, which is that of the frame, or none. `first` with a
-/// level tells the oldest of the first list that isn't empty, from that level on, or none, and takes none out.
+/// level tells the oldest of the first list that isn't empty, from that level on, or none, and takes none out. So `in 0 30 2` is read: the member
+/// of frame 2 comes into the list of level 0 with stamp 30; and `next 0 8`: the oldest of level 0 is that of frame 8, and goes out.
 static STEPS: [&str; 11] = [
     // The oldest comes first, whatever the order of insertion.
     "in 0 30 2, in 0 10 8, in 0 40 0, in 0 20 63, next 0 8, next 0 63, next 0 2, next 0 0, next 0 -",

@@ -17,6 +17,9 @@ use std::process::Abort;
 /// - `use SPACE PAGE CAP FRAME PROCESSOR`: a page takes this frame where its processor has dropped the one that it holds;
 /// - `has PROCESSOR CLAIMED HELD`: the frames that it claims and holds;
 /// - `count FREE RESERVED USED WIRED CLAIMED HELD`, and `broken COUNT`: how many reservations were broken.
+///
+/// So `take 0 0 512 0 8 64` is read: page 0 of space 0 takes frame 0, where a reservation for it has at most 512 pages, and seven pages more, each
+/// 64 behind the one before, take frames 64, 128 and so on.
 static SCENES: [(u32, [bool; 3], &str); 21] = [
     // Of two reservations the one that was allocated from least recently is broken.
     (

@@ -17,7 +17,10 @@ fn level_among(taken: (u32, u32), page: u32, want: &Want) -> Option<u8> {
     Some(preferred(page, want, meets).level())
 }
 
-/// The ends of the pages that have a reservation, a page, the ends of its region, its cap, and the level.
+/// Each row is `FIRST END PAGE LOW HIGH CAP LEVEL`: where the pages from FIRST to before END have a reservation, this level is preferred for a page
+/// of a region from page LOW to before page HIGH, of which a reservation may have CAP pages. Words behind the level say what the rows show. So
+/// `1023 1024 600 0 4096 4096 2` is read: page 1023 alone has a reservation, and for page 600 of the region from page 0 to before page 4096, with
+/// a cap of 4096 pages, level 2 is preferred.
 const ROWS: &str = "\
 0 0 512 512 1024 4096 3 the ends of a region
 0 0 1023 512 1024 4096 3

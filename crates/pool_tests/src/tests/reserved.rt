@@ -117,12 +117,19 @@ fn kept_of(parts: &[Part; 8], level: u8, frame: u32) -> Option<u32> {
     Some(kept)
 }
 
-/// Reservations that are added, each with a level, its first page and frame, its stamp and the page that is populated first; and then
-/// steps, each with a first frame. By `fill` a page is populated with a stamp, and so many pages from it on where a number follows, at
-/// this distance where one more does. By `vacate` its place isn't used any more, where a 1 says that it was the last, after which
-/// `dissolve` takes the reservation away. `get` tells the level, first page and stamp, `yield` a level, and `split` the level of the
-/// parts and which of them aren't empty, a bit for each; `at` tells of a frame which reservation has it, and whether it is a used
-/// place.
+/// Reservations that are added, each as `LEVEL FIRST FRAME STAMP PAGE`: its first page and its first frame, and the page that is populated first.
+/// And then steps, of which ID is the first frame of a reservation:
+///
+/// - `fill ID PAGE STAMP`: the page is populated with this stamp. So many pages from it on are where a number follows, and at this distance where
+///   one more does;
+/// - `vacate ID PAGE LAST`: its place isn't used any more, and LAST is 1 where it was the last one. `dissolve ID PAGE LAST`: the reservation goes then;
+/// - `get ID LEVEL FIRST STAMP`: the reservation there, or a dash for none. `yield ID LEVEL`: that of the largest extent in it
+///   without a used place, or a dash where it is full;
+/// - `split ID LEVEL BITS`: it is split into eight parts of this level, and the bits, the lowest for the first part, are 1 where a part isn't empty;
+/// - `at FRAME ID USED`: the reservation that has the frame, or none, and USED is 1 where the frame is a used place.
+///
+/// So `1 24 64 3 29` is read: a reservation of level 1 for the eight pages from page 24 on, over the frames from frame 64 on, of stamp 3, with page
+/// 29 populated; and `at 69 64 1`: frame 69 is of that reservation, and a used place.
 static SCENES: [(&str, &str); 12] = [
     (
         "1 24 64 3 29, 0 7 72 4 7",

@@ -48,7 +48,9 @@ fn sizes_have_powers_of_eight_pages(rt: HostRuntime) {
     assert!(rt; size_of(4).is_none());
 }
 
-/// Of each set of sizes whether it has levels 1, 2 and 3, and the largest of its levels up to 0, 1, 2 and 3.
+/// Of each set of sizes whether it has levels 1, 2 and 3, a 1 or a 0 each, and then the largest of its levels up to 0, up to 1, up to 2 and up to
+/// 3. So `1 0 1 0 1 1 3` is read: the set has levels 1 and 3, and not 2; its largest level up to 0 is 0, up to 1 it is 1, up to 2 it is 1, and up
+/// to 3 it is 3.
 const SETS: &str = "\
 0 0 0 0 0 0 0
 1 0 0 0 1 1 1

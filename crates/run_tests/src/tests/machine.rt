@@ -4,6 +4,10 @@
 //! turn; after them it is always that of the lowest processor that can step. Then its `stores`: at which reads and writes that of each space
 //! fails, that over one slot where they begin with `slot`, or none finds memory where they are `full`. Then its `trace`, and the `report`: what is
 //! printed from the entry behind the first turns on, as `tools/judge schedule --history` prints it.
+//!
+//! So `turns: 1025 1100` is read: 1,025 turns of processor 0, and then two of processor 1 and two of processor 0. `stores: reads 516 writes; reads
+//! writes 4`: of space 0 the 516th read fails, and of space 1 the fourth write. And in a report `1026 1 s1+f claim 0 7 9 for 3 read`: entry 1026 is
+//! of processor 1, and names space 1 and the frames; for a load of page 3 of space 1 it claims the frame of page 7 of space 0, which is frame 9.
 ghost use Rattle.std.specs.Prelude.{◌<◌};
 ghost use Rattle.std.specs.List.{All};
 ghost use Rattle.pager_model.specs.Showing.{actors};

@@ -25,8 +25,12 @@ const FRAMES: u32 = 1536;
 //     meet FIRST LENGTH COUNT           how many larger than a page have one of these pages
 //     tile PAGE LEVEL FIRST FRAME       the page's tile, if it has one
 //
-// MOVES are the promotions and the demotions, TOUCHED is the range outside of which each tile is one still, and TILES are how many of all four
-// sizes went and came. Neighbours of kind 0 can be of one tile; each other kind differs from it in one thing.
+// MOVES are two numbers, how many promotions and how many demotions. TOUCHED is a range outside of which each tile is one still. TILES are two
+// numbers, how many tiles of all four sizes went and how many came. KIND says how the pages are mapped: neighbours of kind 0 can be of one tile,
+// and each other kind differs from it in one thing. Words behind the last place say what a row shows.
+//
+// So `dirty 100 0 1 0 512 1 22` is read: page 100 becomes dirty, with no promotion and one demotion; outside of the 512 pages from page 0 on each
+// tile is one still; one tile went, and 22 came.
 
 /// By all four sizes.
 const BY_ALL: &str = "\

@@ -8,11 +8,15 @@ use store_core::{Copied, Store, StoreFailed, WriteRefused};
 #[derive(Drop)]
 pub(super) struct Full {
     reads: u64,
+    writes: u64,
 }
 
 impl Full {
     pub(super) fn new() -> Full {
-        Full { reads: 0 }
+        Full {
+            reads: 0,
+            writes: 0,
+        }
     }
 }
 
@@ -20,6 +24,8 @@ impl Store for Full {
     ghost seen = { λ _. record { tells = true; told = true; copies = []; kept = Some []; faults = 0 } };
 
     ghost reads = { λ s. s.reads };
+
+    ghost writes = { λ s. s.writes };
 
     #[tactic(auto, unfolding(pager_model::specs::Stored::copy_at))]
     fn read(&mut self, _page: u32, _words: &mut [u64]) -> Result<Copied, StoreFailed> {
@@ -29,6 +35,7 @@ impl Store for Full {
 
     #[tactic(auto, unfolding(pager_model::specs::Stored::keeps_at))]
     fn write(&mut self, _page: u32, _words: &[u64]) -> Result<(), WriteRefused> {
+        self.writes = self.writes.saturating_add(1);
         Err(WriteRefused::NoMemory)
     }
 

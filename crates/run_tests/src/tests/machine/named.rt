@@ -16,7 +16,7 @@ report: 1025 0 s1 answer 513 done; 1026 0 s1+f claim 0 0 0 for 0 read; 1027 0 s0
 1029 0 s1+f use 0 0 0 8 8 0; 1030 0 s1 answer 514 value 0 miss 0; tiles 8 7 7 0; promotions 64; demotions 1; \
 preemptions 0; images 0 513; frames 0 0 512; end
 
-run: the write of the oldest page fails
+run: the write of the oldest page fails, and is done when the call is made again
 turns: 1025
 stores: reads writes 1; reads writes 1
 trace: trace 1 512 1 2; 0 map 0 0 512 fixed write; 0 store 0 0 5; 511 times 8192: 0 load 0 #; 0 map 1 0 8 fixed write; \

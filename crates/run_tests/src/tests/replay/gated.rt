@@ -1,4 +1,4 @@
-//! A store whose calls wait for a call of another store.
+//! Stores whose calls wait until a call of another store has begun.
 
 ghost use Rattle.std.specs.Prelude.{◌-◌, ◌^◌, ◌≤◌, false, [], None};
 
@@ -13,39 +13,80 @@ const ROUNDS: u32 = 5_000;
 
 const LOOKS: u32 = 10_000;
 
-/// A store that keeps no copy. Each of its reads, or each of its writes, shows that it has begun and then waits until the other store has
-/// shown a call, and fails where it waits in vain.
+/// What a call does as it begins: it raises a flag, and then waits until another is raised.
+#[derive(Clone, Copy)]
+struct Gate<'a> {
+    raises: Option<&'a AtomicBool>,
+    awaits: Option<&'a AtomicBool>,
+}
+
+/// Raises none, and waits for none.
+const OPEN: Gate<'static> = Gate {
+    raises: None,
+    awaits: None,
+};
+
+/// A store that keeps no copy. Its reads go through one gate and its writes through another, and a call that waits in vain fails.
 #[derive(Drop)]
 pub(super) struct Gated<'a> {
-    // whether it is a write that shows, and not a read
-    writes: bool,
-    // whether this store has shown a call, and whether the other has
-    own: &'a AtomicBool,
-    other: &'a AtomicBool,
+    reading: Gate<'a>,
+    writing: Gate<'a>,
     reads: u64,
+    writes: u64,
     faults: u64,
     ghost most: { faults ≤ 2 ^ 64 - 1 },
 }
 
-/// Two stores, each of which is the other's other: the first shows its writes, where these are asked for, and the second its reads.
-pub(super) fn two_stores<'a, R: Abort + AllocGlobal>(
+/// Two stores with these gates, for reads and for writes.
+fn two_stores<'a, R: Abort + AllocGlobal>(
     rt: &R,
-    own: &'a AtomicBool,
-    other: &'a AtomicBool,
-    writes: bool,
+    gates: [(Gate<'a>, Gate<'a>); 2],
 ) -> Vec<Gated<'a>> {
     let mut stores = Vec::new(rt.alloc());
-    for (writes, own, other) in [(writes, own, other), (false, other, own)] {
+    for (reading, writing) in gates {
         let store = Gated {
-            writes,
-            own,
-            other,
+            reading,
+            writing,
             reads: 0,
+            writes: 0,
             faults: 0,
         };
         stores.push(store).expect(rt, NO_MEMORY);
     }
     stores
+}
+
+/// Two stores, of which the reads of each wait until one of the other has begun.
+pub(super) fn reads_that_meet<'a, R: Abort + AllocGlobal>(
+    rt: &R,
+    first: &'a AtomicBool,
+    second: &'a AtomicBool,
+) -> Vec<Gated<'a>> {
+    let one = Gate {
+        raises: Some(first),
+        awaits: Some(second),
+    };
+    let other = Gate {
+        raises: Some(second),
+        awaits: Some(first),
+    };
+    two_stores(rt, [(one, OPEN), (other, OPEN)])
+}
+
+/// Two stores, of which the writes of the first wait until a read of the second has begun. Nothing else waits.
+pub(super) fn write_that_awaits_a_read<'a, R: Abort + AllocGlobal>(
+    rt: &R,
+    begun: &'a AtomicBool,
+) -> Vec<Gated<'a>> {
+    let awaits = Gate {
+        raises: None,
+        awaits: Some(begun),
+    };
+    let raises = Gate {
+        raises: Some(begun),
+        awaits: None,
+    };
+    two_stores(rt, [(OPEN, awaits), (raises, OPEN)])
 }
 
 /// Whether the flag is raised, after a while at the latest. A look exchanges it for itself, which takes longer than a load, so that others have
@@ -63,14 +104,16 @@ fn is_raised_soon(flag: &AtomicBool) -> bool {
     false
 }
 
-impl Gated<'_> {
-    /// Shows a call where it is one of those, and waits for the other store. Whether it waits in vain.
-    fn waits_in_vain(&self, writes: bool) -> bool {
-        if writes != self.writes {
-            return false;
+impl Gate<'_> {
+    /// Whether a call gets through, and doesn't wait in vain.
+    fn lets_through(&self) -> bool {
+        if let Some(flag) = self.raises {
+            flag.store(true, Ordering::SeqCst);
         }
-        self.own.store(true, Ordering::SeqCst);
-        !is_raised_soon(self.other)
+        match self.awaits {
+            Some(flag) => is_raised_soon(flag),
+            None => true,
+        }
     }
 }
 
@@ -79,10 +122,12 @@ impl Store for Gated<'_> {
 
     ghost reads = { λ s. s.reads };
 
+    ghost writes = { λ s. s.writes };
+
     #[tactic(auto, unfolding(pager_model::specs::Stored::keeps_at))]
     fn read(&mut self, _page: u32, _words: &mut [u64]) -> Result<Copied, StoreFailed> {
         self.reads = self.reads.saturating_add(1);
-        if self.waits_in_vain(false) {
+        if !self.reading.lets_through() {
             self.faults = self.faults.saturating_add(1);
             return Err(StoreFailed);
         }
@@ -91,7 +136,8 @@ impl Store for Gated<'_> {
 
     #[tactic(auto, unfolding(pager_model::specs::Stored::keeps_at))]
     fn write(&mut self, _page: u32, _words: &[u64]) -> Result<(), WriteRefused> {
-        if self.waits_in_vain(true) {
+        self.writes = self.writes.saturating_add(1);
+        if !self.writing.lets_through() {
             self.faults = self.faults.saturating_add(1);
             return Err(WriteRefused::Failed);
         }
