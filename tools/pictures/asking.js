@@ -75,7 +75,7 @@ function form() {
 }
 function check(part) {
   const given = question.all.map((_, at) => part.elements["asked" + at].value.trim());
-  const marks = question.all.map(([text, , is], at) => [text, given[at], is, given[at].toLowerCase() === is]);
+  const marks = question.all.map(([text, , is], at) => [text, given[at], is, given[at].toLowerCase() === is.toLowerCase()]);
   answers += marks.length;
   right += marks.filter((mark) => mark[3]).length;
   told = { at: question.at + 1, marks };

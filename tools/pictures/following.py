@@ -39,8 +39,9 @@ class Change(NamedTuple):
 
     `page` is the space and the page that it is about; `paints` are runs of frames with their code, a later one over an earlier one; `outlines`
     tells of first frames which reservation begins there, and `tiles` of spaces and first pages which tile does; `regions` are all regions of
-    spaces; `counts` has the place in COUNTS of each thing that is counted; `why` are more sentences, of what the images and the lists of reservations led to; `used` is whose image the entry uses; `left` is what
-    left the images; and `broken` is the reservation that the entry broke.
+    spaces; `counts` has the place in COUNTS of each thing that is counted; `why` are more sentences, of what the images and the lists of
+    reservations led to; `used` is whether the entry uses its processor's image; `left` is what left the images; and `broken` is the reservation that
+    the entry broke.
     """
     line: str
     call: str

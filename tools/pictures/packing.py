@@ -2,12 +2,12 @@
 import re
 import zlib
 from base64 import b85encode
+from functools import lru_cache
 from itertools import groupby
 from json import JSONEncoder
 from typing import Any, Dict, List, Optional, Tuple
 
 from pictures.following import Change, Outline, Walk
-from pictures.images import Left
 from pictures.spaces import Tile
 from pictures.words import PAGE_BYTES
 
@@ -20,10 +20,14 @@ EFFORT = 7
 NUMBERS = re.compile('([0-9]+)')
 # A number from REFERRED on that stands in its entry's line or call is told by its place there, as -1 for the first: so entries of a kind are told alike.
 REFERRED = 16
-# Numbers of so many digits or more stand as text, since they are not exact in JavaScript, and none of so many more than an address has is one.
-INEXACT, ADDRESS = 16, 10
+# Numbers from here on stand as text, since they are not exact in JavaScript; and no address is so large.
+INEXACT, NO_ADDRESS = 10 ** 15, 10 ** 10
 
 to_json = JSONEncoder(separators=(',', ':')).encode
+
+
+# The places of an entry's numbers in its line and its call.
+Places = Dict[int, int]
 
 
 class Sentences:
@@ -32,36 +36,37 @@ class Sentences:
     def __init__(self) -> None:
         self.kinds: Dict[str, int] = {}
 
-    def coded(self, sentence: str, places: Dict[str, int]) -> List[Any]:
+    @lru_cache(maxsize=1 << 12)
+    def parts(self, sentence: str) -> Tuple[int, List[int]]:
         """The number of the sentence's words, and its numbers."""
         parts = NUMBERS.split(sentence)
-        kind = self.kinds.setdefault('#'.join(parts[::2]), len(self.kinds))
-        return [kind] + [places[word] if word in places else int(word) if len(word) < INEXACT else word for word in parts[1::2]]
+        return self.kinds.setdefault('#'.join(parts[::2]), len(self.kinds)), list(map(int, parts[1::2]))
+
+    def coded(self, sentence: str, places: Places) -> List[Any]:
+        """The same, with places in place of numbers that the entry has."""
+        kind, numbers = self.parts(sentence)
+        return [kind] + [places[number] if number in places else number if number < INEXACT else str(number) for number in numbers]
 
 
-def places_of(number: int, line: str, call: str) -> Dict[str, int]:
+def places_of(number: int, line: str, call: str) -> Places:
     """The places of the numbers of an entry: those of its line and of its call, then the pages of the addresses among them, and its own number."""
-    words = NUMBERS.findall(line) + NUMBERS.findall(call)
-    words += [str(int(word) // PAGE_BYTES) for word in words if len(word) <= ADDRESS] + [str(number)]
+    numbers = list(map(int, NUMBERS.findall(line + call)))
+    numbers += [one // PAGE_BYTES for one in numbers if one < NO_ADDRESS]
+    numbers.append(number)
     # Of several equal ones the first counts.
-    return {word: at - len(words) for at, word in enumerate(reversed(words)) if int(word) >= REFERRED}
+    return {one: at - len(numbers) for at, one in enumerate(reversed(numbers)) if one >= REFERRED}
 
 
-def referred(part: Any, places: Dict[str, int]) -> Any:
-    """A part of a row with the places of numbers in place of them."""
-    if isinstance(part, (list, tuple)):
-        return [referred(one, places) for one in part]
-    return places.get(str(part), part)
-
-
-def tile_row(first: int, tile: Optional[Tile]) -> List[Any]:
+def tile_row(first: int, tile: Optional[Tile], places: Places) -> List[Any]:
     """What begins at a page: a tile, or none."""
-    return [first] if tile is None else [first, tile.size, tile.frame, int(tile.dirty), tile.rights]
+    first = places.get(first, first)
+    return [first] if tile is None else [first, tile.size, places.get(tile.frame, tile.frame), int(tile.dirty), tile.rights]
 
 
-def outline_row(frame: int, outline: Optional[Outline]) -> List[Any]:
+def outline_row(frame: int, r: Optional[Outline], places: Places) -> List[Any]:
     """What begins at a frame: a reservation, or none."""
-    return [frame] if outline is None else [frame, *outline]
+    frame = places.get(frame, frame)
+    return [frame] if r is None else [frame, r.size, r.space, places.get(r.first, r.first), places.get(r.stamp, r.stamp), r.gives]
 
 
 def line_of(change: Change) -> str:
@@ -70,19 +75,13 @@ def line_of(change: Change) -> str:
     return ' '.join(words[1:4] + words[4 + (words[3] == 'answer'):])
 
 
-def left_row(left: Left, places: Dict[str, int]) -> List[Any]:
-    """What left an image. The tile that was put out is the last one there."""
-    first = None if left.put_out else places.get(str(left.first), left.first)
-    return [*left.owner, first, left.size]
-
-
 def start(walk: Walk) -> Dict[str, Any]:
     """The state that a chunk begins in. An image is the first pages of its tiles, the last used first."""
     state = walk.state
     return {
         'codes': [[len(list(run)), code] for code, run in groupby(state.codes)],
-        'outlines': [outline_row(*pair) for pair in state.outlines.items()],
-        'tiles': [[tile_row(*pair) for pair in tiles.items()] for tiles in state.tiles],
+        'outlines': [outline_row(*pair, {}) for pair in state.outlines.items()],
+        'tiles': [[tile_row(*pair, {}) for pair in tiles.items()] for tiles in state.tiles],
         'regions': [state.regions[space] for space in range(walk.run.spaces)],
         'counts': state.counts, 'answered': walk.follower.answered,
         'images': [[*owner, list(reversed(image))] for owner, image in walk.follower.images.images.items()],
@@ -115,23 +114,31 @@ class Packer:
         self.lines.append(line)
         self.calls.append('' if self.named.get(processor) == change.call else change.call)
         self.named[processor] = change.call
-        self.rows.append(self.row(change, places_of(self.first + len(self.rows), line, change.call)))
+        self.rows.append(self.row(change, places_of(self.first + len(self.rows), line, ' ' + change.call)))
         if len(self.rows) == self.most:
             self.end()
 
-    def row(self, change: Change, places: Dict[str, int]) -> List[Any]:
+    def row(self, change: Change, places: Places) -> List[Any]:
         """What an entry changes, without the empty parts behind the last that isn't."""
-        def coded(sentences: List[str]) -> List[List[Any]]:
-            return [self.sentences.coded(sentence, places) for sentence in sentences]
-
-        often = [coded(change.meaning), referred(change.page or 0, places), change.counts or 0, int(change.used)]
-        seldom = [coded(change.why)] + [referred(part, places) for part in (
-            change.paints, [outline_row(*pair) for pair in change.outlines.items()],
-            [[space, [tile_row(*pair) for pair in tiles.items()]] for space, tiles in change.tiles.items()])]
-        seldom += [[left_row(left, places) + coded([left.why]) for left in change.left], list(change.regions.items()), change.broken or 0]
+        meaning = [self.sentences.coded(sentence, places) for sentence in change.meaning]
+        page = 0 if change.page is None else [change.page[0], places.get(change.page[1], change.page[1])]
+        seldom = self.seldom(change, places)
         while seldom and not seldom[-1]:
             seldom.pop()
-        return often + [part or 0 for part in seldom]
+        return [meaning, page, change.counts or 0, int(change.used)] + [part or 0 for part in seldom]
+
+    def seldom(self, change: Change, places: Places) -> List[Any]:
+        """The parts that few entries have."""
+        coded = self.sentences.coded
+        return [
+            [coded(sentence, places) for sentence in change.why],
+            [[places.get(first, first), length, code] for first, length, code in change.paints],
+            [outline_row(frame, r, places) for frame, r in change.outlines.items()],
+            [[space, [tile_row(first, tile, places) for first, tile in tiles.items()]] for space, tiles in change.tiles.items()],
+            # A tile that was put out is the last one of its image.
+            [[*left.owner, None if left.put_out else places.get(left.first, left.first), left.size, coded(left.why, places)] for left in change.left],
+            list(change.regions.items()), change.broken or 0,
+        ]
 
     def end(self) -> None:
         """The chunk is whole, and another one begins."""

@@ -6,7 +6,7 @@ const last = data.entries - 1;
 function textOf(at) {
   const entry = entryAt(at), number = String(at).padStart(String(data.entries).length);
   if (!entry) return `${number} …`;
-  return isAnswer(entry) ? `${number} ${entry.processor} ${entry.call.replace(/^[0-9]+ /, "")} → ${entry.line.split(" ").slice(4).join(" ")}` : `${number}   ${entry.line}`;
+  return isAnswer(entry) ? `${number} ${entry.call} → ${entry.line.split(" ").slice(4).join(" ")}` : `${number}   ${entry.line}`;
 }
 function showNow() {
   const part = byId("now");

@@ -20,16 +20,16 @@ function chunkAt(entry) {
   return low;
 }
 // A number below zero is a place in the entry's line and call: a number that stands there, the page of one that is an address, or the entry's own.
-const INEXACT = 16, ADDRESS = 10, PAGE_BYTES = 8192;
+const INEXACT = 1e15, NO_ADDRESS = 1e10, PAGE_BYTES = 8192;
 function numbersIn(number, line, call) {
   const words = `${line} ${call}`.match(/[0-9]+/g);
-  return [...words, ...words.filter((word) => word.length <= ADDRESS).map((word) => Math.floor(word / PAGE_BYTES)), number];
+  return [...words, ...words.filter((word) => word < NO_ADDRESS).map((word) => Math.floor(word / PAGE_BYTES)), number];
 }
 function resolved(part, numbers) {
   if (Array.isArray(part)) return part.map((one) => resolved(one, numbers));
   if (typeof part !== "number" || part >= 0) return part;
   const word = numbers[-1 - part];
-  return word.length >= INEXACT ? word : Number(word);
+  return word < INEXACT ? Number(word) : word;
 }
 // Each entry has its line without its number, its call, and what it changes. Packed, an answer lacks the number of its call, and a call stands where its
 // processor's was another one before, in the chunk.
