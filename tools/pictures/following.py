@@ -1,14 +1,26 @@
 """A run of the program, and what each entry of its history changes, worked out by the rules of docs/model.md and docs/steps.md."""
 import subprocess
-from typing import Callable, Dict, List, NamedTuple, Optional, Tuple
+from typing import Callable, Dict, Iterator, List, NamedTuple, Optional, Tuple
 
 from common import SIZE_SETS, Stopped
 from pictures import words
-from pictures.frames import CLAIMED, FREE, LARGEST, UNUSED, USED, WIRED, Astray, Frames, Reservation, Want, begin_of
+from pictures.frames import CLAIMED, FREE, LARGEST, UNUSED, USED, WIRED, Astray, Broken, Frames, Reservation, Want, begin_of
+from pictures.images import Images, Left
+from pictures.progress import Progress
 from pictures.spaces import Region, Space, Tile
 
-# A reservation as it is drawn: its size, its space and its first page.
-Outline = Tuple[int, int, int]
+# What is counted; of a run, how many of each.
+COUNTS = ('hits', 'misses', 'promotions', 'demotions', 'preemptions', 'claims')
+HITS, MISSES, PROMOTIONS, DEMOTIONS, PREEMPTIONS, CLAIMS = range(len(COUNTS))
+
+
+class Outline(NamedTuple):
+    """A reservation as it is drawn: its size, its space and first page, the entry of its latest taking, and its yield."""
+    size: int
+    space: int
+    first: int
+    stamp: int
+    gives: Optional[int]
 
 
 class Run(NamedTuple):
@@ -22,35 +34,28 @@ class Run(NamedTuple):
     counts: Dict[str, List[int]]
 
 
-class Counts(NamedTuple):
-    """What is counted, of one entry or of many."""
-    hits: int = 0
-    misses: int = 0
-    promotions: int = 0
-    demotions: int = 0
-    preemptions: int = 0
-    claims: int = 0
-
-    def plus(self, other: 'Counts') -> 'Counts':
-        return Counts(*(one + more for one, more in zip(self, other)))
-
-
 class Change(NamedTuple):
     """An entry: its line, the call that it is a step of, what it means, and what is another from it on.
 
     `page` is the space and the page that it is about; `paints` are runs of frames with their code, a later one over an earlier one; `outlines`
     tells of first frames which reservation begins there, and `tiles` of spaces and first pages which tile does; `regions` are all regions of
-    spaces.
+    spaces; `counts` has the place in COUNTS of each thing that is counted; `why` are more sentences, of what the images and the lists of
+    reservations led to; `used` is whether the entry uses its processor's image; `left` is what left the images; and `broken` is the reservation that
+    the entry broke.
     """
     line: str
     call: str
     meaning: List[str]
+    why: List[str]
     page: Optional[Tuple[int, int]]
     paints: List[Tuple[int, int, int]]
     outlines: Dict[int, Optional[Outline]]
     tiles: Dict[int, Dict[int, Optional[Tile]]]
     regions: Dict[int, List[Region]]
-    counts: Counts
+    counts: List[int]
+    used: bool
+    left: List[Left]
+    broken: Optional[Broken]
 
 
 def printed(program: str, words: List[str], trace: bytes) -> str:
@@ -102,7 +107,12 @@ class Follower:
         self.calls = run.calls
         self.frames = Frames(run.frames, run.sizes, lambda *painted: self.paints.append(painted), self.outline)
         self.spaces = [Space(run.sizes) for _ in range(run.spaces)]
+        self.images = Images(self.spaces)
         self.answered = [0] * len(run.calls)
+        # What follows an entry of each kind.
+        self.made: Dict[str, Callable[[int, int, Optional[int], List[str]], None]] = {
+            'answer': self.answer, 'take': self.take, 'use': self.use, 'give': self.give, 'clear': self.clear, 'out': self.out, 'failed': self.failed,
+            'claim': self.claim, 'got': self.got, 'drop': self.drop, 'unclaim': self.unclaim, 'refused': self.refused, 'rest': self.rest}
         self.begin()
 
     def begin(self) -> None:
@@ -111,11 +121,15 @@ class Follower:
         self.outlines: Dict[int, Optional[Outline]] = {}
         self.regions: Dict[int, List[Region]] = {}
         self.meaning: List[str] = []
+        self.why: List[str] = []
         self.page: Optional[Tuple[int, int]] = None
-        self.counts = Counts()
+        self.counts: List[int] = []
+        # The size that an access told, where the entry is its answer.
+        self.size: Optional[int] = None
+        self.broken: Optional[Broken] = None
 
     def outline(self, frame: int, r: Optional[Reservation]) -> None:
-        self.outlines[frame] = None if r is None else (r.size, r.space, r.first)
+        self.outlines[frame] = None if r is None else Outline(r.size, r.space, r.first, r.stamp, r.give_back())
 
     def entry(self, line: str) -> Change:
         """Follows an entry."""
@@ -124,23 +138,34 @@ class Follower:
         c, space = int(processor), int(part[1:].split('+')[0]) if part[0] == 's' else None
         call = self.calls[c][self.answered[c]] if self.answered[c] < len(self.calls[c]) else ''
         try:
-            self.made(kind)(int(number), c, space, rest)
+            self.made[kind](int(number), c, space, rest)
         except (Astray, KeyError, IndexError, StopIteration, ValueError) as fault:
             raise Stopped("entry %s of the history doesn't follow from those before it: %s" % (line, fault))
-        tiles = {}
-        for other, moves in enumerate([one.moves() for one in self.spaces]):
-            if moves.tiles:
-                tiles[other] = moves.tiles
-            self.counts = self.counts.plus(Counts(promotions=len(moves.promoted), demotions=len(moves.demoted)))
-            self.meaning += words.moved(other, moves.promoted, moves.demoted)
-        return Change(line, '%d %s' % (c, call) if call else '', self.meaning, self.page, self.paints, self.outlines, tiles, self.regions,
-                      self.counts)
+        tiles = self.moved()
+        left = self.imaged(int(number), c, tiles)
+        return Change(line, '%d %s' % (c, call) if call else '', self.meaning, self.why, self.page, self.paints, self.outlines, tiles, self.regions,
+                      self.counts, self.size is not None, left, self.broken)
 
-    def made(self, kind: str) -> Callable[[int, int, Optional[int], List[str]], None]:
-        """What follows an entry of this kind."""
-        return {'answer': self.answer, 'take': self.take, 'use': self.use, 'give': self.give, 'clear': self.clear, 'out': self.out,
-                'failed': self.failed, 'claim': self.claim, 'got': self.got, 'drop': self.drop, 'unclaim': self.unclaim,
-                'refused': self.refused, 'rest': self.rest}[kind]
+    def moved(self) -> Dict[int, Dict[int, Optional[Tile]]]:
+        """The tiles that changed, by space."""
+        tiles = {}
+        for space, one in enumerate(self.spaces):
+            if one.touched:
+                moves = one.moves()
+                tiles[space] = moves.tiles
+                self.counts += [PROMOTIONS] * len(moves.promoted) + [DEMOTIONS] * len(moves.demoted)
+                self.meaning += words.moved(space, moves.promoted, moves.demoted)
+        return {space: some for space, some in tiles.items() if some}
+
+    def imaged(self, number: int, c: int, tiles: Dict[int, Dict[int, Optional[Tile]]]) -> List[Left]:
+        """What left the images, by the tiles that changed and by the access that is answered."""
+        left = [one for space, some in tiles.items() for one in self.images.forget(number, space, some)]
+        if self.size is not None:
+            space, page = self.page
+            if self.spaces[space].tile_of(page)[1].size != self.size:
+                raise Stopped('entry %d of the history tells size %d, and by the rules it is another' % (number, self.size))
+            left += self.images.use(number, (c, space), page)
+        return left
 
     def answer(self, _: int, c: int, space: int, rest: List[str]) -> None:
         call = self.calls[c][self.answered[c]].split(' ')
@@ -149,12 +174,20 @@ class Follower:
         reply = rest[1:]
         if reply[-2:-1] in (['hit'], ['miss']):
             hit, size, reply = reply[-2] == 'hit', int(reply[-1]), reply[:-2]
-            self.counts = self.counts.plus(Counts(hits=int(hit), misses=int(not hit)))
+            self.access((c, space), page_of(call), hit, size)
         if call[0] in ('load', 'store', 'sync', 'evict'):
             self.page = (space, page_of(call))
         if reply[0] in ('done', 'written', 'clean'):
             self.does(self.spaces[space], space, call[0], page_of(call), call[3:])
         self.meaning += words.answered(words.Answered(c, call, reply, hit, size))
+
+    def access(self, owner: Tuple[int, int], page: int, hit: bool, size: int) -> None:
+        """An access that was done told a hit, which has to be one by the images, and a size."""
+        if self.images.has(owner, page) != hit:
+            raise Astray('by the images it is %s' % ('a miss' if hit else 'a hit'))
+        self.size = size
+        self.counts.append(HITS if hit else MISSES)
+        self.why += [self.images.why_missed(owner, page)] * (not hit)
 
     def does(self, one: Space, space: int, name: str, page: int, more: List[str]) -> None:
         """What a call that was done changes in its space, and of the frames where it evicts a resident page."""
@@ -187,7 +220,10 @@ class Follower:
     def take(self, number: int, c: int, space: int, rest: List[str]) -> None:
         page, frame, low, high, cap, wired = map(int, rest)
         how = self.frames.take(number, space, page, frame, Want(low, high, cap, wired == 1))
-        self.counts = self.counts.plus(Counts(preemptions=int(how.broken is not None)))
+        self.broken = how.broken
+        if how.broken is not None:
+            self.counts.append(PREEMPTIONS)
+            self.why.append(words.oldest(how.broken))
         self.spaces[space].fill(page, frame)
         self.page = (space, page)
         self.meaning += words.taken(space, page, frame, how)
@@ -223,7 +259,7 @@ class Follower:
         other, page, frame = map(int, rest[:3])
         self.frames.claim(c, other, page, frame)
         self.page = (other, page)
-        self.counts = self.counts.plus(Counts(claims=1))
+        self.counts.append(CLAIMS)
         why, what_for = 'Frames are short', ''
         if space is not None:
             why, what_for = 'No frame is free or unused', ', for page %s of space %d' % (rest[4], space)
@@ -257,7 +293,7 @@ class State:
         self.outlines: Dict[int, Outline] = {}
         self.tiles: List[Dict[int, Tile]] = [{} for _ in range(run.spaces)]
         self.regions: Dict[int, List[Region]] = {space: [] for space in range(run.spaces)}
-        self.counts = Counts()
+        self.counts = [0] * len(COUNTS)
 
     def apply(self, change: Change) -> None:
         """The state after one entry more."""
@@ -266,7 +302,8 @@ class State:
         for space, tiles in change.tiles.items():
             replace(self.tiles[space], tiles)
         self.regions.update(change.regions)
-        self.counts = self.counts.plus(change.counts)
+        for place in change.counts:
+            self.counts[place] += 1
 
     def paint(self, paints: List[Tuple[int, int, int]]) -> None:
         """The frames of these runs have these codes."""
@@ -306,15 +343,33 @@ def state_after(run: Run, changes: List[Change], entries: int) -> State:
     return state
 
 
+class Walk:
+    """A run, followed entry by entry: what is walked over are its changes. At the end it has to come to the counts that the program printed."""
+
+    def __init__(self, run: Run) -> None:
+        self.run, self.follower, self.state = run, Follower(run), State(run)
+
+    def __iter__(self) -> Iterator[Change]:
+        progress = Progress('entries followed', len(self.run.history))
+        for line in self.run.history:
+            change = self.follower.entry(line)
+            self.state.apply(change)
+            progress.step()
+            yield change
+        progress.end()
+        self.check()
+
+    def check(self) -> None:
+        """Compares what the history led to with what the program printed."""
+        counts = self.state.counts
+        found = {'tiles': self.state.sizes(), 'promotions': [counts[PROMOTIONS]], 'demotions': [counts[DEMOTIONS]],
+                 'preemptions': [counts[PREEMPTIONS]], 'images': [counts[HITS], counts[MISSES]], 'frames': self.state.shares(), 'end': []}
+        for name, numbers in self.run.counts.items():
+            if found.get(name) != numbers:
+                raise Stopped("the history leads to `%s %s`, and the program printed `%s %s`" % (
+                    name, ' '.join(map(str, found.get(name, []))), name, ' '.join(map(str, numbers))))
+
+
 def follow(run: Run) -> List[Change]:
-    """What each entry changes. At the end it has to come to the counts that the program printed."""
-    follower = Follower(run)
-    changes = [follower.entry(line) for line in run.history]
-    end = state_after(run, changes, len(changes))
-    found = {'tiles': end.sizes(), 'promotions': [end.counts.promotions], 'demotions': [end.counts.demotions],
-             'preemptions': [end.counts.preemptions], 'images': [end.counts.hits, end.counts.misses], 'frames': end.shares(), 'end': []}
-    for name, numbers in run.counts.items():
-        if found.get(name) != numbers:
-            raise Stopped("the history leads to `%s %s`, and the program printed `%s %s`" % (
-                name, ' '.join(map(str, found.get(name, []))), name, ' '.join(map(str, numbers))))
-    return changes
+    """What each entry changes."""
+    return list(Walk(run))

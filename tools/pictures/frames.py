@@ -105,11 +105,20 @@ class FreeBlocks:
         return frame
 
 
+class Broken(NamedTuple):
+    """A reservation that was broken: its first frame, its size, its stamp, its yield, and how many others its list had."""
+    frame: int
+    size: int
+    stamp: int
+    gives: int
+    others: int
+
+
 class Taken(NamedTuple):
     """How a page got its frame: the reservation that has it, if that was made for it, and what was broken before."""
     reservation: Reservation
     made: bool
-    broken: Optional[Reservation]
+    broken: Optional[Broken]
 
 
 class Frames:
@@ -176,11 +185,14 @@ class Frames:
             else:
                 self.enter(part, 1)
 
-    def break_up(self, r: Reservation) -> None:
+    def break_up(self, r: Reservation) -> Broken:
         """Breaks the reservation: where no part is empty, the lowest part that gives as much back is broken in the same way."""
-        gives, parts = r.give_back(), self.split(r)
+        gives = r.give_back()
+        broken = Broken(r.frame, r.size, r.stamp, gives, len(self.partial[gives]) - 1)
+        parts = self.split(r)
         while not any(part.is_empty() for part in parts):
             parts = self.split(next(part for part in parts if part.give_back() == gives))
+        return broken
 
     def oldest(self, size: int) -> Optional[Reservation]:
         """The oldest of the first list, from that of this size up, that has a reservation."""
@@ -210,6 +222,7 @@ class Frames:
         r.add(place, 1)
         r.stamp = stamp
         self.file(r, 1)
+        self.outline(r.frame, r)
         if want.wired:
             self.wired.add(frame)
         self.paint(frame, 1, coded(WIRED if want.wired else USED, space))
@@ -222,11 +235,11 @@ class Frames:
             size = sizes[-1]
             frame = self.free.take(size)
             if frame is None:
-                broken = self.oldest(size)
-                if broken is None:
+                oldest = self.oldest(size)
+                if oldest is None:
                     sizes = sizes[:-1]
                     continue
-                self.break_up(broken)
+                broken = self.break_up(oldest)
                 frame = self.free.take(size)
             r = Reservation(space, begin_of(size, page), sizes, frame, stamp, bytes(pages_of(size)))
             self.enter(r, 1)
@@ -252,6 +265,7 @@ class Frames:
             self.fall_free(r.frame, r.size)
         else:
             self.paint(frame, 1, coded(UNUSED, space))
+            self.outline(r.frame, r)
         return claimer
 
     def carve(self, r: Reservation, frame: int, claimer: int) -> None:

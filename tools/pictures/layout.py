@@ -1,8 +1,9 @@
 """Where the frames and pages of a run are drawn, and in which colours; for the page and for the still picture."""
-from typing import Dict, List, NamedTuple, Set, Tuple
+from typing import Dict, Iterable, List, NamedTuple, Set, Tuple
 
 from pictures.following import Change, Run
 from pictures.frames import CLAIMED, FREE, HELD, UNUSED, USED, WIRED
+from pictures.spaces import Region
 from pictures.words import SIZE_NAMES, pages, run_of
 
 # Frames and pages a row: a page of size 2 is a row, and one of size 3 eight rows.
@@ -98,30 +99,46 @@ def frame_grid(run: Run) -> Grid:
     return placed([Box(-1, first, BOX, ROW, 0, 0, run_of('frame', first, BOX)) for first in range(0, run.frames, BOX)])
 
 
-def drawn_rows(changes: List[Change]) -> Dict[Tuple[int, int], Set[int]]:
-    """By space and box the rows of pages that are drawn: those with a page that is resident once, and those where a region begins."""
-    some = {(space, page // ROW) for change in changes for space, tiles in change.tiles.items() for page in tiles}
-    some |= {(space, region.first // ROW) for change in changes for space, regions in change.regions.items() for region in regions}
-    rows: Dict[Tuple[int, int], Set[int]] = {}
-    for space, row in some:
-        rows.setdefault((space, row * ROW // BOX), set()).add(row)
-    return rows
+class Drawn:
+    """The pages that are drawn: the rows with a page that is resident once, and those where a region begins."""
+
+    def __init__(self) -> None:
+        self.rows: Set[Tuple[int, int]] = set()
+        self.regions: Set[Tuple[int, Region]] = set()
+
+    def add(self, change: Change) -> None:
+        """What an entry changes is drawn too."""
+        self.rows.update((space, page // ROW) for space, tiles in change.tiles.items() for page in tiles)
+        self.regions.update((space, region) for space, regions in change.regions.items() for region in regions)
+
+    def boxes(self) -> Dict[Tuple[int, int], Set[int]]:
+        """By space and box the rows that are drawn."""
+        out: Dict[Tuple[int, int], Set[int]] = {}
+        for space, row in self.rows | {(space, region.first // ROW) for space, region in self.regions}:
+            out.setdefault((space, row * ROW // BOX), set()).add(row)
+        return out
+
+    def lengths(self) -> Dict[Tuple[int, int], int]:
+        """By space and row how far into it regions reach."""
+        reach: Dict[Tuple[int, int], int] = {}
+        for space, region in self.regions:
+            row = region.first // ROW
+            reach[space, row] = max(reach.get((space, row), 0), min(ROW, region.end - row * ROW))
+        return reach
 
 
-def lengths(changes: List[Change]) -> Dict[Tuple[int, int], int]:
-    """By space and row how far into it regions reach."""
-    reach: Dict[Tuple[int, int], int] = {}
-    regions = {(space, region) for change in changes for space, all_of in change.regions.items() for region in all_of}
-    for space, region in regions:
-        row = region.first // ROW
-        reach[space, row] = max(reach.get((space, row), 0), min(ROW, region.end - row * ROW))
-    return reach
+def drawn_of(changes: Iterable[Change]) -> Drawn:
+    """What is drawn of these entries."""
+    drawn = Drawn()
+    for change in changes:
+        drawn.add(change)
+    return drawn
 
 
-def page_grid(changes: List[Change]) -> Tuple[Grid, int]:
+def page_grid(drawn: Drawn) -> Tuple[Grid, int]:
     """The pages that are drawn, in boxes of rows of one extent of 512 pages; and how many boxes are left out."""
-    boxes, rows_left, reach = [], MOST_ROWS, lengths(changes)
-    rows = drawn_rows(changes)
+    boxes, rows_left, reach = [], MOST_ROWS, drawn.lengths()
+    rows = drawn.boxes()
     for (space, _), some in sorted(rows.items()):
         low, count = min(some), max(some) - min(some) + 1
         rows_left -= count

@@ -1,6 +1,6 @@
 """What docs/model.md says of a space, followed entry by entry: its regions, rights, resident and dirty pages, and their tiles."""
 from bisect import bisect_left, bisect_right
-from typing import Dict, List, NamedTuple, Optional, Sequence, Set, Tuple
+from typing import Dict, Iterator, List, NamedTuple, Optional, Sequence, Set, Tuple
 
 from pictures.frames import LARGEST, begin_of, pages_of
 
@@ -59,7 +59,7 @@ class Ranges:
 
 
 class Moves(NamedTuple):
-    """What an entry made of the tiles: what is at a first page now, a tile or none; and the first pages of what was promoted and demoted."""
+    """What an entry made of the tiles: what is at a first page now, a tile or none; and the first pages and sizes of what was promoted and demoted."""
     tiles: Dict[int, Optional[Tile]]
     promoted: List[Tuple[int, int]]
     demoted: List[Tuple[int, int]]
@@ -70,14 +70,17 @@ class Space:
 
     def __init__(self, sizes: Sequence[int]) -> None:
         self.sizes = sizes
+        # The sizes with their lengths in pages, the largest first.
+        self.lengths = [(size, pages_of(size)) for size in reversed(sizes)]
         self.regions: List[Region] = []
         self.rights = Ranges()
         self.frames: Dict[int, int] = {}
         self.dirty: Set[int] = set()
-        # By number of an extent of the largest size: the kind of each of its pages, or None; and its tiles by first page.
+        # By number of an extent of the largest size the kind of each of its pages, or None. Equal kinds are one object, so that comparing them is fast.
         self.kinds: Dict[int, List[Optional[Kind]]] = {}
-        self.tiles: Dict[int, Dict[int, Tile]] = {}
-        # The extents of the largest size that have pages which changed.
+        self.known: Dict[Kind, Kind] = {}
+        # The tiles by first page, and the pages that changed since they were found.
+        self.tiles: Dict[int, Tile] = {}
         self.touched: Set[int] = set()
 
     def region_of(self, page: int) -> Region:
@@ -135,42 +138,66 @@ class Space:
         kind = None
         if page in self.frames:
             kind = Kind(self.frames[page] - page, self.region_of(page).first, self.rights.at(page), page in self.dirty)
+            kind = self.known.setdefault(kind, kind)
         self.kinds.setdefault(page // BLOCK, [None] * BLOCK)[page % BLOCK] = kind
-        self.touched.add(page // BLOCK)
+        self.touched.add(page)
+
+    def new_tile(self, page: int) -> Optional[Tuple[int, Tile]]:
+        """The largest eligible extent round the page as it is now, by first page, or None where the page isn't resident."""
+        if page not in self.frames:
+            return None
+        kinds, place = self.kinds[page // BLOCK], page % BLOCK
+        kind = kinds[place]
+        size = next(size for size, length in self.lengths if length == 1 or is_eligible(kinds, kind, place - place % length, length))
+        first = begin_of(size, page)
+        return first, Tile(size, first + kind.distance, kind.rights, kind.dirty)
+
+    def tile_of(self, page: int) -> Optional[Tuple[int, Tile]]:
+        """The tile that has the page, by first page, as the tiles were found last."""
+        for size, length in self.lengths:
+            first = page - page % length
+            tile = self.tiles.get(first)
+            if tile is not None and tile.size >= size:
+                return first, tile
+        return None
+
+    def reach(self, page: int) -> Tuple[int, int]:
+        """How far a change of the page reaches: the larger of its tiles before and after it, as a first page and a size."""
+        old, new = self.tile_of(page), self.new_tile(page)
+        size = max(old[1].size if old else 0, new[1].size if new else 0)
+        return begin_of(size, page), size
 
     def moves(self) -> Moves:
         """Finds the tiles again where pages changed, and answers what became of them."""
         moves = Moves({}, [], [])
-        for block in self.touched:
-            old, new = self.tiles.get(block, {}), tiles_of(block, self.kinds[block], self.sizes)
-            self.tiles[block] = new
-            moves.tiles.update({first: new.get(first) for first in old.keys() | new.keys() if old.get(first) != new.get(first)})
-            moves.promoted.extend(outside(new, old))
-            moves.demoted.extend(outside(old, new))
+        # An extent comes before those that lie in it, in which nothing changes then.
+        for first, size in sorted({self.reach(page) for page in self.touched}, key=lambda extent: (extent[0], -extent[1])):
+            self.move(first, first + pages_of(size), moves)
         self.touched.clear()
         return moves
 
+    def move(self, first: int, end: int, moves: Moves) -> None:
+        """Finds the tiles of an extent again, and adds what became of them."""
+        old = {page: self.tiles.pop(page) for page in range(first, end) if page in self.tiles}
+        new = dict(self.tiles_in(first, end))
+        self.tiles.update(new)
+        moves.tiles.update({page: new.get(page) for page in old.keys() | new.keys() if old.get(page) != new.get(page)})
+        moves.promoted.extend(outside(new, old))
+        moves.demoted.extend(outside(old, new))
 
-def tiles_of(block: int, kinds: List[Optional[Kind]], sizes: Sequence[int]) -> Dict[int, Tile]:
-    """The tiles of an extent of the largest size: the eligible extents in it that lie in no larger one, by first page."""
-    tiles: Dict[int, Tile] = {}
-    at = 0
-    while at < BLOCK:
-        size = size_at(kinds, at, sizes)
-        if size is not None:
-            kind, page = kinds[at], block * BLOCK + at
-            tiles[page] = Tile(size, page + kind.distance, kind.rights, kind.dirty)
-        at += pages_of(size or 0)
-    return tiles
+    def tiles_in(self, page: int, end: int) -> Iterator[Tuple[int, Tile]]:
+        """The tiles of the pages of an extent round which no larger one is eligible, by first page."""
+        while page < end:
+            found = self.new_tile(page)
+            if found is not None:
+                yield found
+            page += 1 if found is None else pages_of(found[1].size)
 
 
-def size_at(kinds: List[Optional[Kind]], at: int, sizes: Sequence[int]) -> Optional[int]:
-    """The size of the largest eligible extent that begins here, or None where no page is resident."""
-    kind = kinds[at]
-    if kind is None:
-        return None
-    aligned = (size for size in reversed(sizes) if at % pages_of(size) == 0 and kind.distance % pages_of(size) == 0)
-    return next((size for size in aligned if kinds[at:at + pages_of(size)].count(kind) == pages_of(size)), 0)
+def is_eligible(kinds: List[Optional[Kind]], kind: Kind, at: int, length: int) -> bool:
+    """Whether the pages of this extent of an extent of the largest size are all of the kind, and its frames are an extent too."""
+    # The last page is looked at alone before the others are: an extent that is being filled mostly lacks it.
+    return kind.distance % length == 0 and kinds[at + length - 1] is kind and kinds[at:at + length].count(kind) == length
 
 
 def outside(some: Dict[int, Tile], others: Dict[int, Tile]) -> List[Tuple[int, int]]:

@@ -76,7 +76,7 @@ def frames_of(grid: Grid, state: State) -> List[str]:
         out += [text(box.x, box.y - 4, box.title, 't')]
         out += cells(box, grid.cell, [layout.colour_of(code) for code in state.codes[box.first:box.first + box.count]])
         out += [lines(box, grid.cell, 'l')]
-    return out + [outlines(grid, -1, [(frame, pages_of(size)) for frame, (size, _, _) in sorted(state.outlines.items())])]
+    return out + [outlines(grid, -1, [(frame, pages_of(r.size)) for frame, r in sorted(state.outlines.items())])]
 
 
 def mapped(box: Box, state: State) -> List[str]:
@@ -155,7 +155,7 @@ def focus(state: State, change: Change, frames: Grid, some: Grid) -> Tuple[str, 
 def counts_text(state: State) -> str:
     """The counts so far, in a line."""
     names = ('hits', 'misses', 'promotions', 'demotions', 'preemptions', 'claims', 'frames free', 'unused places', 'under a page')
-    return ', '.join('%s %d' % pair for pair in zip(names, tuple(state.counts) + tuple(state.shares())))
+    return ', '.join('%s %d' % pair for pair in zip(names, state.counts + state.shares()))
 
 
 def heading(name: str, changes: List[Change], entries: int) -> Tuple[List[str], int]:
@@ -171,7 +171,7 @@ def heading(name: str, changes: List[Change], entries: int) -> Tuple[List[str], 
 def drawing(run: Run, changes: List[Change], name: str, entries: int) -> str:
     """The SVG text of the picture after so many entries."""
     state = state_after(run, changes, entries)
-    frames, (some, left) = layout.frame_grid(run), layout.page_grid(changes)
+    frames, (some, left) = layout.frame_grid(run), layout.page_grid(layout.drawn_of(changes))
     marks = focus(state, changes[entries - 1], frames, some) if entries else ('', '')
     roles, tiles = legend(roles_seen(state), frames.height + 9), legend(tiles_seen(state), some.height + 9)
     last = [text(0, 8, counts_text(state), 't')] + [text(0, 24, 'Boxes of pages that are not drawn: %d' % left, 't')] * (left > 0)

@@ -1,7 +1,7 @@
 """What an entry of a history means, in sentences."""
 from typing import List, NamedTuple, Optional, Tuple
 
-from pictures.frames import Taken, pages_of
+from pictures.frames import Broken, Taken, pages_of
 
 PAGE_BYTES = 8192
 SIZE_NAMES = ('8 KiB', '64 KiB', '512 KiB', '4 MiB')
@@ -99,6 +99,14 @@ def taken(space: int, page: int, frame: int, how: Taken) -> List[str]:
     else:
         said.append('%s: %s are reserved for %s.' % (gets, run_of('frame', r.frame, count), run_of('page', r.first, count)))
     return said
+
+
+def oldest(broken: Broken) -> str:
+    """Why this reservation is broken and no other."""
+    others = ['it is alone there', 'the other one got its last page no earlier'][broken.others] if broken.others < 2 else (
+        'none of the %d others got its last page earlier' % broken.others)
+    return 'It is the first in the list of those that can give %s: its last page came at entry %d, and %s.' % (
+        pages(pages_of(broken.gives)), broken.stamp, others)
 
 
 def moved(space: int, promoted: List[Tuple[int, int]], demoted: List[Tuple[int, int]]) -> List[str]:
