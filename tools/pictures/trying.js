@@ -59,6 +59,20 @@ async function unlike() {
   return wrong;
 }
 
+// Of the entries by which something left an image or a reservation was broken some, at most so many, as far apart as may be: the numbers of those after
+// which a text on the page has a hole.
+async function holes(most) {
+  const some = [], wrong = [];
+  for (let number = 0; number < data.chunks.length; number++) some.push(...(await chunk(number)).entries.filter((entry) => entry.left || entry.broken));
+  const step = Math.max(1, Math.floor(some.length / most));
+  for (let place = 0; place < some.length; place += step) {
+    await at(some[place].number + 1);
+    if (/null|undefined|NaN|#/.test(document.querySelector("main").textContent)) wrong.push(some[place].number);
+  }
+  await at(0);
+  return wrong;
+}
+
 // Answers what is asked now, rightly or not.
 function answerAll(rightly) {
   const part = byId("asked").querySelector("form");
