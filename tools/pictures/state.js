@@ -167,8 +167,11 @@ async function walk() {
     if (entries > to || entries < part.first) restore(part);
     while (entries < to) apply(part.entries[entries - part.first]);
   }
+  // What the next entry does may be asked.
+  await chunk(chunkAt(entries));
+  if (entries !== wanted) return walk();
   walking = false;
-  show();
+  return show();
 }
 function goTo(many) {
   wanted = Math.max(0, Math.min(data.entries, many));

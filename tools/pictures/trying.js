@@ -36,8 +36,8 @@ async function seen() {
   await settled();
   const number = (id) => Number(byId(id).textContent), [hits, misses, promotions, demotions, preemptions] = [0, 1, 2, 3, 4].map((at) => number("count" + at));
   return {
-    entries, hash: location.hash, drawn: coloured(), frames: ["free", "reserved", "used"].map(number), tiles: data.tiles.map((_, size) => number("tiles" + size)),
-    images: [hits, misses], promotions: [promotions], demotions: [demotions], preemptions: [preemptions], held: imagesDrawn(), lists: listsDrawn(),
+    entries, hash: location.hash, drawn: coloured(), frames: ["free", "reserved", "used"].map(number),
+    tiles: data.tiles.map((_, size) => number("tiles" + size)), images: [hits, misses], promotions: [promotions], demotions: [demotions], preemptions: [preemptions], held: imagesDrawn(), lists: listsDrawn(),
   };
 }
 
