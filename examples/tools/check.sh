@@ -1,6 +1,6 @@
 #!/bin/sh
-# Runs tools/from-lackey, tools/compare and tools/explain, which need Python, as `conversions`, `comparisons` and `explanations` list it, and compares what
-# they print and say, and the status, with what stands here. The built program runs on each trace of this room by `order`, which prints NAME.text.
+# Runs tools/from-lackey, tools/compare and tools/explain, which need Python, as `conversions`, `comparisons` and `explanations` list it, and
+# tools/lesson-sheet, and compares what they print and say, and the status, with what stands here. The built program runs on each trace of this room by `order`, which prints NAME.text.
 #
 #     examples/tools/check.sh [PROGRAM]
 #
@@ -80,5 +80,13 @@ tool "$made/returns" told ../../tools/from-lackey --calls 11
 compare with-returns $? 0 '' from-lackey-stopped.trace
 
 runs_of explanations none explain ../../tools/explain
+
+# The sheet of the lesson's exercises has each of them with its answer where these are asked for.
+tool /dev/null told ../../tools/lesson-sheet --answers
+status_of_sheet=$?
+grep -o '^\*\*[A-Z][a-z]*\.\*\*\|^\*Answer\.\*' "$made/output" >"$made/text"
+mv "$made/text" "$made/output"
+compare lesson-sheet $status_of_sheet 0 '' lesson-sheet.answers
+
 count ./check-ends.sh
 end_of_check

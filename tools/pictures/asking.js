@@ -18,7 +18,7 @@ function askedOfTaking(entry) {
   return [
     ["Which frame does it get?", null, String(frame)],
     ["What size has the reservation that it lies in?", sizesThere(), data.tiles[reservation[1]][1]],
-    ["Which reservation is broken for it? Its first frame, or none", null, broken],
+    ["Which reservation is broken for it (its first frame, or none)?", null, broken],
   ];
 }
 const raised = (entry, name) => Boolean(entry.counts && entry.counts.includes(data.names.indexOf(name)));
@@ -82,7 +82,8 @@ function check(part) {
   visit(question.at + 1);
 }
 function outcome([text, given, is, isRight]) {
-  return element("div", `${isRight ? "✓" : "✗"} ${text} ${isRight ? is : `${given || "no answer"}: it is ${is}`}`, isRight ? "is-hit" : "is-miss");
+  const answer = isRight ? is : given ? `Not ${given}, but ${is}` : is;
+  return element("div", `${isRight ? "✓" : "✗"} ${text} ${answer}`, isRight ? "is-hit" : "is-miss");
 }
 // The question, or what came of it; both go where another entry is shown.
 function showAsked() {

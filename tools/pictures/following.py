@@ -139,10 +139,10 @@ class Follower:
         call = self.calls[c][self.answered[c]] if self.answered[c] < len(self.calls[c]) else ''
         try:
             self.made[kind](int(number), c, space, rest)
+            tiles = self.moved()
+            left = self.imaged(int(number), c, tiles)
         except (Astray, KeyError, IndexError, StopIteration, ValueError) as fault:
             raise Stopped("entry %s of the history doesn't follow from those before it: %s" % (line, fault))
-        tiles = self.moved()
-        left = self.imaged(int(number), c, tiles)
         return Change(line, '%d %s' % (c, call) if call else '', self.meaning, self.why, self.page, self.paints, self.outlines, tiles, self.regions,
                       self.counts, self.size is not None, left, self.broken)
 
@@ -162,8 +162,9 @@ class Follower:
         left = [one for space, some in tiles.items() for one in self.images.forget(number, space, some)]
         if self.size is not None:
             space, page = self.page
-            if self.spaces[space].tile_of(page)[1].size != self.size:
-                raise Stopped('entry %d of the history tells size %d, and by the rules it is another' % (number, self.size))
+            found = self.spaces[space].tile_of(page)
+            if found is None or found[1].size != self.size:
+                raise Astray('by the tiles the size is %s' % ('none' if found is None else found[1].size))
             left += self.images.use(number, (c, space), page)
         return left
 

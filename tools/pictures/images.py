@@ -2,7 +2,7 @@
 from collections import OrderedDict
 from typing import Dict, List, NamedTuple, Optional, Tuple
 
-from pictures.frames import begin_of, pages_of
+from pictures.frames import pages_of
 from pictures.spaces import Space, Tile
 from pictures.words import SIZE_NAMES, run_of
 
@@ -70,11 +70,11 @@ class Images:
     def why_missed(self, owner: Owner, page: int) -> str:
         """Why the image has no translation of the page."""
         gone = self.gone.get(owner, {})
-        keys = ((begin_of(size, page), size) for size in self.spaces[owner[1]].sizes)
-        last = max((gone[key] for key in keys if key in gone), key=lambda left: left.entry, default=None)
-        if last is None:
+        there = [gone[key] for key in ((page - page % length, size) for size, length in self.spaces[owner[1]].lengths) if key in gone]
+        if not there:
             return 'Processor %d had no translation of page %d before.' % (owner[0], page)
-        return 'It had that of %s up to entry %d: %s.' % (run_of('page', last.first, pages_of(last.size)), last.entry, last.why)
+        last = max(there, key=lambda left: left.entry)
+        return 'The image had a translation of it, that of %s, up to entry %d: %s.' % (run_of('page', last.first, pages_of(last.size)), last.entry, last.why)
 
 
 def why_gone(space: Space, first: int, was: Tile) -> str:
@@ -83,9 +83,9 @@ def why_gone(space: Space, first: int, was: Tile) -> str:
         return 'page %d gave its frame up' % first
     now = space.tile_of(first)[1]
     if now.size > was.size:
-        return 'its pages are a part of a translation of %s now' % SIZE_NAMES[now.size]
+        return 'its pages became a part of a translation of %s' % SIZE_NAMES[now.size]
     if now.size < was.size:
-        return 'its pages have no common translation any more'
+        return 'its pages lost their common translation'
     if now.rights != was.rights:
-        return 'its rights are others now'
-    return 'it is dirty now' if now.dirty else 'it is equal to its copy now'
+        return 'it got other rights'
+    return 'it became dirty' if now.dirty else 'it was written to its copy'

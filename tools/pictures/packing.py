@@ -23,11 +23,10 @@ REFERRED = 16
 # Numbers from here on stand as text, since they are not exact in JavaScript; and no address is so large.
 INEXACT, NO_ADDRESS = 10 ** 15, 10 ** 10
 
-to_json = JSONEncoder(separators=(',', ':')).encode
-
-
 # The places of an entry's numbers in its line and its call.
 Places = Dict[int, int]
+
+to_json = JSONEncoder(separators=(',', ':')).encode
 
 
 class Sentences:

@@ -2,7 +2,7 @@
 import os
 import re
 from html import escape
-from typing import Any, Dict, List, Set
+from typing import Any, Dict, Set
 
 from pictures import layout
 from pictures.following import CLAIMS, COUNTS, DEMOTIONS, PREEMPTIONS, PROMOTIONS, Change, Run, Walk

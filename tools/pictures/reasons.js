@@ -50,6 +50,7 @@ function imageShown(key, image) {
   const title = element("div", `processor ${processor}, space ${space}: ${image.length} of ${data.room}`, open ? "title" : "title shut");
   title.onclick = () => { opened[opened.has(key) ? "delete" : "add"](key); showImages(); };
   part.append(title);
+  part.classList.toggle("shut", !open);
   if (open) part.append(...imageSaid(processor, space), imageChips(processor, space, image));
   return part;
 }
@@ -92,7 +93,7 @@ function showLists() {
   part.replaceChildren(...all.map(([size, list]) => listShown(size, list, !asks())));
   const full = [...outlines.values()].filter((r) => r[4] === null).length;
   const text = broken ? `Entry ${now.number} broke the reservation of ${runOf("frame", broken[0], pagesOf(broken[1]))}, the first of those that could give `
-    + `${pagesOf(broken[3])} page${broken[3] ? "s" : ""}. What is left of it is marked.` : "";
+    + `${pagesOf(broken[3])} page${broken[3] ? "s" : ""}. What is left of it in a list is marked.` : "";
   byId("broken").textContent = text;
   byId("full").textContent = full ? `Full reservations, which give nothing: ${full}` : "";
 }

@@ -148,8 +148,12 @@ class Space:
             return None
         kinds, place = self.kinds[page // BLOCK], page % BLOCK
         kind = kinds[place]
-        size = next(size for size, length in self.lengths if length == 1 or is_eligible(kinds, kind, place - place % length, length))
-        first = begin_of(size, page)
+        for size, length in self.lengths:
+            # The last page of an extent is looked at alone before the others are: an extent that is being filled mostly lacks it.
+            last = place - place % length + length - 1
+            if kinds[last] is kind and is_eligible(kinds, kind, last + 1 - length, length):
+                break
+        first = page - page % length
         return first, Tile(size, first + kind.distance, kind.rights, kind.dirty)
 
     def tile_of(self, page: int) -> Optional[Tuple[int, Tile]]:
@@ -161,20 +165,28 @@ class Space:
                 return first, tile
         return None
 
-    def reach(self, page: int) -> Tuple[int, int]:
-        """How far a change of the page reaches: the larger of its tiles before and after it, as a first page and a size."""
-        old, new = self.tile_of(page), self.new_tile(page)
-        size = max(old[1].size if old else 0, new[1].size if new else 0)
-        return begin_of(size, page), size
-
     def moves(self) -> Moves:
         """Finds the tiles again where pages changed, and answers what became of them."""
         moves = Moves({}, [], [])
+        reached = {extent for extent in (self.reach(page, moves) for page in self.touched) if extent is not None}
         # An extent comes before those that lie in it, in which nothing changes then.
-        for first, size in sorted({self.reach(page) for page in self.touched}, key=lambda extent: (extent[0], -extent[1])):
+        for first, size in sorted(reached, key=lambda extent: (extent[0], -extent[1])):
             self.move(first, first + pages_of(size), moves)
         self.touched.clear()
         return moves
+
+    def reach(self, page: int, moves: Moves) -> Optional[Tuple[int, int]]:
+        """How far a change of the page reaches: the larger of its tiles before and after it, as a first page and a size. Where that is the page alone
+        it is settled at once."""
+        old, new = self.tile_of(page), self.new_tile(page)
+        size = max(old[1].size if old else 0, new[1].size if new else 0)
+        if size > 0:
+            return begin_of(size, page), size
+        if old != new:
+            moves.tiles[page] = new and new[1]
+            self.tiles.pop(page, None)
+            self.tiles.update([new] if new else [])
+        return None
 
     def move(self, first: int, end: int, moves: Moves) -> None:
         """Finds the tiles of an extent again, and adds what became of them."""
@@ -196,8 +208,7 @@ class Space:
 
 def is_eligible(kinds: List[Optional[Kind]], kind: Kind, at: int, length: int) -> bool:
     """Whether the pages of this extent of an extent of the largest size are all of the kind, and its frames are an extent too."""
-    # The last page is looked at alone before the others are: an extent that is being filled mostly lacks it.
-    return kind.distance % length == 0 and kinds[at + length - 1] is kind and kinds[at:at + length].count(kind) == length
+    return kind.distance % length == 0 and kinds[at:at + length].count(kind) == length
 
 
 def outside(some: Dict[int, Tile], others: Dict[int, Tile]) -> List[Tuple[int, int]]:

@@ -107,11 +107,16 @@ function restore({ first, start }) {
   images = new Map(start.images.map(([processor, space, firsts]) => [owned(processor, space), [...firsts]]));
   [entries, now, place] = [first, null, -1];
 }
-// What left is told by its first page, or is the last one.
 function take(image, first) {
-  const at = first === null ? image.length - 1 : image.indexOf(first);
+  const at = image.indexOf(first);
   if (at >= 0) image.splice(at, 1);
   return at;
+}
+// What left an image is told by its first page, or is the last one, whose first page is told from then on. Answers the place that it had.
+function leave(row) {
+  const image = imageOf(row[0], row[1]);
+  if (row[2] === null) row[2] = image[image.length - 1];
+  return take(image, row[2]);
 }
 // The state after one entry more.
 function apply(entry) {
@@ -120,7 +125,7 @@ function apply(entry) {
   for (const [space, rows] of entry.tiles || []) put(tiles[space], rows);
   for (const [space, all] of entry.regions || []) regions[space] = all;
   for (const at of entry.counts || []) counts[at]++;
-  const places = (entry.left || []).map(([processor, space, first]) => take(imageOf(processor, space), first));
+  const places = (entry.left || []).map(leave);
   place = -1;
   if (entry.used) use(entry, places);
   now = entry;
@@ -162,8 +167,11 @@ async function walk() {
     if (entries > to || entries < part.first) restore(part);
     while (entries < to) apply(part.entries[entries - part.first]);
   }
+  // What the next entry does may be asked.
+  await chunk(chunkAt(entries));
+  if (entries !== wanted) return walk();
   walking = false;
-  show();
+  return show();
 }
 function goTo(many) {
   wanted = Math.max(0, Math.min(data.entries, many));

@@ -36,8 +36,8 @@ async function seen() {
   await settled();
   const number = (id) => Number(byId(id).textContent), [hits, misses, promotions, demotions, preemptions] = [0, 1, 2, 3, 4].map((at) => number("count" + at));
   return {
-    entries, hash: location.hash, drawn: coloured(), frames: ["free", "reserved", "used"].map(number), tiles: data.tiles.map((_, size) => number("tiles" + size)),
-    images: [hits, misses], promotions: [promotions], demotions: [demotions], preemptions: [preemptions], held: imagesDrawn(), lists: listsDrawn(),
+    entries, hash: location.hash, drawn: coloured(), frames: ["free", "reserved", "used"].map(number),
+    tiles: data.tiles.map((_, size) => number("tiles" + size)), images: [hits, misses], promotions: [promotions], demotions: [demotions], preemptions: [preemptions], held: imagesDrawn(), lists: listsDrawn(),
   };
 }
 
@@ -54,6 +54,20 @@ async function unlike() {
     const walked = whole();
     restore(await chunk(number));
     if (whole() !== walked) wrong.push(number);
+  }
+  await at(0);
+  return wrong;
+}
+
+// Of the entries by which something left an image or a reservation was broken some, at most so many, as far apart as may be: the numbers of those after
+// which a text on the page has a hole.
+async function holes(most) {
+  const some = [], wrong = [];
+  for (let number = 0; number < data.chunks.length; number++) some.push(...(await chunk(number)).entries.filter((entry) => entry.left || entry.broken));
+  const step = Math.max(1, Math.floor(some.length / most));
+  for (let place = 0; place < some.length; place += step) {
+    await at(some[place].number + 1);
+    if (/null|undefined|NaN|#/.test(document.querySelector("main").textContent)) wrong.push(some[place].number);
   }
   await at(0);
   return wrong;

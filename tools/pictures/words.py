@@ -105,7 +105,7 @@ def oldest(broken: Broken) -> str:
     """Why this reservation is broken and no other."""
     others = ['it is alone there', 'the other one got its last page no earlier'][broken.others] if broken.others < 2 else (
         'none of the %d others got its last page earlier' % broken.others)
-    return 'It is the first in the list of those that can give %s: its last page came at entry %d, and %s.' % (
+    return 'What was broken was the first in the list of those that can give %s: its last page came at entry %d, and %s.' % (
         pages(pages_of(broken.gives)), broken.stamp, others)
 
 
