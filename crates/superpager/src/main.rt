@@ -2,12 +2,17 @@
 //! trace from a number, and prints it or the counts of its run.
 #![tactic(auto)]
 
+ghost use Rattle.std.specs.Prelude.{◌≡◌, ◌++◌, ◌∷◌, [], None, OnOk, codes};
+ghost use Rattle.std.specs.Io.KnownBytes.{Appends};
+ghost use Rattle.pager_command.specs.Messages.{message_text};
+
 mod backing;
 
 use backing::{Backing, file_stores, memory_stores, slot_stores, stores_of};
 use io_core::{RealSink, RealSource, Sink, Source};
 use pager_command::{DONE, MEMORY, message_of, run, unread_words};
 use std::fs::File;
+use std::io::Write;
 use std::process::ExitCode;
 use std::rt::{Env, Files};
 use std::sync::Wait;
@@ -24,7 +29,7 @@ fn main(rt: HostRuntime) -> ExitCode {
         Err(error) => (unread_words(&error), None),
     };
     if status != DONE {
-        let _ = tell(&rt, status, refusal);
+        let _ = tell(&mut rt.stderr(), status, refusal);
     }
     ExitCode::from(status)
 }
@@ -79,11 +84,14 @@ fn run_over<R: AllocGlobal + Threads + Wait + Sync, T: Source, K: Sink, S: Store
     (outcome.status, outcome.refusal)
 }
 
-/// Says on standard error why the program ends with this status.
-fn tell(rt: &HostRuntime, status: u8, refusal: Option<TraceFault>) -> io::Result<()> {
-    if let Some(fault) = refusal {
-        return eprintln!(rt; "superpager: {fault}");
+/// Says why the program ends with this status: the fault, where a trace was refused, and else the message of the status.
+fn tell<W: Write>(out: &mut W, status: u8, refusal: Option<TraceFault>) -> io::Result<()>
+    // Where the writer tells its bytes.
+    ensures message { OnOk result (refusal ≡ None
+        → Appends (W.contents out.old) (W.contents out.new) (codes "superpager: " ++ message_text status ++ 10 ∷ [])) }
+{
+    match refusal {
+        Some(fault) => writeln!(out, "superpager: {fault}"),
+        None => writeln!(out, "superpager: {}", message_of(status)),
     }
-    let message = message_of(status);
-    eprintln!(rt; "superpager: {message}")
 }
