@@ -2,12 +2,17 @@
 //! trace from a number, and prints it or the counts of its run.
 #![tactic(auto)]
 
+ghost use Rattle.std.specs.Prelude.{◌≡◌, ◌++◌, ◌∷◌, [], None, OnOk, codes};
+ghost use Rattle.std.specs.Io.KnownBytes.{Appends};
+ghost use Rattle.pager_command.specs.Messages.{message_text};
+
 mod backing;
 
 use backing::{Backing, file_stores, memory_stores, slot_stores, stores_of};
 use io_core::{RealSink, RealSource, Sink, Source};
 use pager_command::{DONE, MEMORY, USAGE, is_command, message_of, run, unread_words};
 use std::fs::File;
+use std::io::Write;
 use std::process::ExitCode;
 use std::rt::{Env, Files};
 use std::sync::Wait;
@@ -15,9 +20,6 @@ use std::thread::Threads;
 use std::{env, io};
 use store_core::Store;
 use trace_reader::TraceFault;
-
-/// The words that the program takes.
-const COMMANDS: &str = "superpager [--folder DIR | --swap N] FORM <TRACE, FORM one of: order, turns SEED, replay, each also with --history; plan K; curve; or superpager make NUMBER CALLS PROCESSORS SPACES FRAMES; or superpager large NUMBER SEED";
 
 fn main(rt: HostRuntime) -> ExitCode {
     let mut source = RealSource::of(rt.stdin());
@@ -27,7 +29,9 @@ fn main(rt: HostRuntime) -> ExitCode {
         Err(error) => (unread_words(&error), None),
     };
     if status != DONE {
-        let _ = tell(&rt, status, refusal);
+        let mut errors = rt.stderr();
+        let _ = tell(&mut errors, status, refusal);
+        let _ = tell_more(&mut errors, status, refusal);
     }
     ExitCode::from(status)
 }
@@ -86,19 +90,28 @@ fn run_over<R: AllocGlobal + Threads + Wait + Sync, T: Source, K: Sink, S: Store
     (outcome.status, outcome.refusal)
 }
 
-/// Says on standard error why the program ends with this status, and where there is more to know, in a line behind it.
-fn tell(rt: &HostRuntime, status: u8, refusal: Option<TraceFault>) -> io::Result<()> {
-    if let Some(fault) = refusal {
-        eprintln!(rt; "superpager: {fault}")?;
-        return match fault {
-            TraceFault::Line { .. } => eprintln!(rt; "see: tools/explain TRACE"),
-            _ => Ok(()),
-        };
+/// Says why the program ends with this status: the fault, where a trace was refused, and else the message of the status.
+fn tell<W: Write>(out: &mut W, status: u8, refusal: Option<TraceFault>) -> io::Result<()>
+    // Where the writer tells its bytes.
+    ensures message { OnOk result (refusal ≡ None
+        → Appends (W.contents out.old) (W.contents out.new) (codes "superpager: " ++ message_text status ++ 10 ∷ [])) }
+{
+    match refusal {
+        Some(fault) => writeln!(out, "superpager: {fault}"),
+        None => writeln!(out, "superpager: {}", message_of(status)),
     }
-    let message = message_of(status);
-    eprintln!(rt; "superpager: {message}")?;
-    match status {
-        USAGE => eprintln!(rt; "usage: {COMMANDS}"),
+}
+
+/// Says, in a line behind that, what the arguments may be where they ask for nothing, and what says more of a line that was refused.
+fn tell_more<W: Write>(out: &mut W, status: u8, refusal: Option<TraceFault>) -> io::Result<()> {
+    if status == USAGE {
+        return writeln!(
+            out,
+            "usage: superpager [--folder DIR | --swap N] order|turns SEED|replay [--history], or plan K, or curve, <TRACE; make NUMBER CALLS PROCESSORS SPACES FRAMES; large NUMBER SEED"
+        );
+    }
+    match refusal {
+        Some(TraceFault::Line { .. }) => writeln!(out, "see: tools/explain TRACE"),
         _ => Ok(()),
     }
 }
