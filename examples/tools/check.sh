@@ -1,6 +1,7 @@
 #!/bin/sh
 # Runs tools/from-lackey, tools/compare and tools/explain, which need Python, as `conversions`, `comparisons` and `explanations` list it, and
-# tools/lesson-sheet, and compares what they print and say, and the status, with what stands here. The built program runs on each trace of this room by `order`, which prints NAME.text.
+# tools/lesson-sheet, and compares what they print and say, and the status, with what stands here. The built program runs on each trace of this room by
+# `order`, which prints NAME.text.
 #
 #     examples/tools/check.sh [PROGRAM]
 #
