@@ -1,3 +1,4 @@
 pub mod PageBits
 pub mod PageMoves
+pub mod PageWords
 pub mod UntoldCopies

@@ -21,6 +21,8 @@ pub record FileState : Type 0 where
   pub copied : List Bool
   -- how many reads there were
   pub reads : ℕ
+  -- how many writes there were
+  pub writes : ℕ
   -- how many faults it has had
   pub faults : ℕ
 
@@ -36,9 +38,9 @@ none_yet = record { bytes = 0; end = 0; row = 0 }
 abbrev pub fresh_file : Bool → FileSeen
 fresh_file opened = record { opened = opened; took = none_yet; gave = none_yet }
 
--- a store with no copy, no read and no fault so far
+-- a store with no copy, no read, no write and no fault so far
 abbrev pub fresh : Bool → FileState
-fresh opened = record { file = fresh_file opened; copied = no_pages; reads = 0; faults = 0 }
+fresh opened = record { file = fresh_file opened; copied = no_pages; reads = 0; writes = 0; faults = 0 }
 
 -- the page has a copy of its own
 abbrev pub is_copied : FileState → ℕ → Bool

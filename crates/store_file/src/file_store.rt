@@ -9,8 +9,8 @@ ghost use Rattle.store_core.specs.CopiedWords.{copied_words};
 ghost use Rattle.store_core.specs.MemoryState.{one_more};
 ghost use Rattle.store_file.specs.FileState.{fresh, is_copied, is_in_file, no_pages, MovesPage, untold};
 
-use crate::page_bytes::{PAGE_BYTES, put_words, read_page, take_words, write_page};
-use crate::page_file::PageFile;
+use crate::page_bytes::{put_words, read_page, take_words, write_page};
+use crate::page_file::{PAGE_BYTES, PageFile};
 use crate::page_set::PageSet;
 use pager_model::{NoMemory, PAGES};
 use std::alloc::Global;
@@ -32,6 +32,7 @@ pub struct FileStore<F> {
     file: PageFile<F>,
     copied: PageSet,
     reads: u64,
+    writes: u64,
     faults: u64,
 }
 
@@ -41,7 +42,7 @@ impl<F> Model for FileStore<F> {
 
     ghost Value = { FileState };
 
-    ghost view = { λ s. record { file = s.file; copied = s.copied; reads = s.reads; faults = s.faults } };
+    ghost view = { λ s. record { file = s.file; copied = s.copied; reads = s.reads; writes = s.writes; faults = s.faults } };
 
     ghost invariant = { λ s. s.faults ≤ 2 ^ 64 - 1 };
 }
@@ -64,6 +65,7 @@ impl<F: FileExt + Drop> FileStore<F> {
             file: PageFile::of(file),
             copied,
             reads: 0,
+            writes: 0,
             faults: 0,
         }
     }
@@ -115,6 +117,8 @@ impl<F: FileExt + Drop> Store for FileStore<F> {
 
     ghost reads = { λ s. s.reads };
 
+    ghost writes = { λ s. s.writes };
+
     fn read(&mut self, page: u32, words: &mut [u64]) -> Result<Copied, StoreFailed>
         requires count { length words.old ≡ 1024 }
 
@@ -124,6 +128,8 @@ impl<F: FileExt + Drop> Store for FileStore<F> {
             → IfSome (copy_at (untold self.old.faults) page) (λ copy. copied_words copied words.new ≡ copy)) }
         ensures same { SameCopies (untold self.old.faults) (untold self.new.faults) }
         ensures counted { self.new.reads ≡ one_more self.old.reads }
+        ensures unwritten { self.new.writes ≡ self.old.writes }
+        ensures unfailed { IfOk result (λ _. self.new.faults ≡ self.old.faults) }
         ensures rose { OnErr result (Rises self.old.faults self.new.faults) }
         ensures never_falls { self.old.faults ≤ self.new.faults }
         ensures capped { self.new.faults ≤ 2 ^ 64 - 1 }
@@ -163,7 +169,9 @@ impl<F: FileExt + Drop> Store for FileStore<F> {
             (λ _. SetsCopy page (Some words.now) (untold self.old.faults) (untold self.new.faults) × (keeps_at (untold self.new.faults) page ≡ true)) }
         ensures failed { result ≡ Err WriteRefused.Failed
             → SetsCopy page None (untold self.old.faults) (untold self.new.faults) × Rises self.old.faults self.new.faults }
+        ensures counted { self.new.writes ≡ one_more self.old.writes }
         ensures unread { self.new.reads ≡ self.old.reads }
+        ensures unfailed { IfOk result (λ _. self.new.faults ≡ self.old.faults) }
         ensures never_falls { self.old.faults ≤ self.new.faults }
         ensures capped { self.new.faults ≤ 2 ^ 64 - 1 }
 
@@ -184,6 +192,7 @@ impl<F: FileExt + Drop> Store for FileStore<F> {
         ensures gave { self.new.file.gave ≡ self.old.file.gave }
         ensures same_file { self.new.file.opened ≡ self.old.file.opened }
     {
+        self.writes = self.writes.saturating_add(1);
         let mut bytes = [0; PAGE_BYTES];
         put_words(words, &mut bytes);
         if page >= PAGES || !write_page(&mut self.file, page, &bytes) {
@@ -198,6 +207,7 @@ impl<F: FileExt + Drop> Store for FileStore<F> {
         // As at any store.
         ensures dropped { DropsCopies first length (untold self.old.faults) (untold self.new.faults) }
         ensures unread { self.new.reads ≡ self.old.reads }
+        ensures unwritten { self.new.writes ≡ self.old.writes }
 
         // No page of the range has a copy of its own then, any other page has what it had, and the file is asked for nothing.
         ensures copied { (p : ℕ) → is_copied self.new p ≡ (if in_range first length p then false else is_copied self.old p) }

@@ -1,36 +1,42 @@
-//! The bytes of a page, and where they stand in a file.
+//! The bytes of a page, read from a file and written to it in pieces.
 
-ghost use Rattle.std.specs.Prelude.{◌≡◌, ◌+◌, ◌*◌, ◌<◌, ◌≤◌, true};
+ghost use Rattle.std.specs.Int.{from_le_bytes, to_le_bytes, w64};
+ghost use Rattle.std.specs.Prelude.{◌≡◌, ℕ, ◌+◌, ◌*◌, ◌/◌, ◌%◌, ◌<◌, true, length, slice_index, slice_range};
 ghost use Rattle.store_file.specs.FileState.{MovesPage};
 
-use crate::page_file::PageFile;
+use crate::page_file::{PAGE_BYTES, PageFile};
 use std::os::unix::fs::FileExt;
 
-/// How many bytes a page has.
-pub(crate) const PAGE_BYTES: usize = pager_model::PAGE_BYTES as usize;
-
 /// Puts the bytes of words into a page's, each word's lowest byte first.
-pub(crate) fn put_words(words: &[u64], bytes: &mut [u8; PAGE_BYTES]) {
-    let (pieces, _) = bytes.as_chunks_mut::<8>();
-    for (piece, word) in pieces.iter_mut().zip(words) {
-        *piece = word.to_le_bytes();
+pub(crate) fn put_words(words: &[u64], bytes: &mut [u8; PAGE_BYTES])
+    requires { length words.now ≡ 1024 }
+    ensures { (at : ℕ) → at < 8192 → slice_index bytes.new at ≡ slice_index (to_le_bytes w64 (slice_index words.now (at / 8))) (at % 8) }
+{
+    for (index, word) in words.iter().enumerate() {
+        let first = 8 * index;
+        bytes[first..first + 8].copy_from_slice(&word.to_le_bytes());
     }
+}
+
+/// The word of this number that a page's bytes are of.
+fn word_at(bytes: &[u8; PAGE_BYTES], index: usize) -> u64
+    requires { index < 1024 }
+    ensures { result ≡ from_le_bytes w64 (slice_range bytes.now (8 * index) (8 * index + 8)) }
+{
+    let Some(piece) = bytes[8 * index..].first_chunk::<8>() else {
+        unreachable!()
+    };
+    u64::from_le_bytes(*piece)
 }
 
 /// The words that a page's bytes are of.
-pub(crate) fn take_words(bytes: &[u8; PAGE_BYTES], words: &mut [u64]) {
-    let (pieces, _) = bytes.as_chunks::<8>();
-    for (word, piece) in words.iter_mut().zip(pieces) {
-        *word = u64::from_le_bytes(*piece);
-    }
-}
-
-/// Where a byte of a page stands in the file.
-fn place(page: u32, byte: usize) -> u64
-    requires { byte ≤ 8192 }
-    ensures { result ≡ 8192 * page + byte }
+pub(crate) fn take_words(bytes: &[u8; PAGE_BYTES], words: &mut [u64])
+    requires { length words.old ≡ 1024 }
+    ensures { (i : ℕ) → i < 1024 → slice_index words.new i ≡ from_le_bytes w64 (slice_range bytes.now (8 * i) (8 * i + 8)) }
 {
-    u64::from(page) * PAGE_BYTES as u64 + byte as u64
+    for (index, word) in words.iter_mut().enumerate() {
+        *word = word_at(bytes, index);
+    }
 }
 
 /// Reads the bytes of a page, as many at a time as the file gives, and answers whether it gave all.
@@ -45,7 +51,7 @@ pub(crate) fn read_page<F: FileExt + Drop>(
 {
     let mut at = 0;
     while at < PAGE_BYTES {
-        let count = file.read_at(&mut bytes[at..], place(page, at));
+        let count = file.read_from(page, bytes, at);
         if count == 0 {
             return false;
         }
@@ -67,7 +73,7 @@ pub(crate) fn write_page<F: FileExt + Drop>(
 {
     let mut at = 0;
     while at < PAGE_BYTES {
-        let count = file.write_at(&bytes[at..], place(page, at));
+        let count = file.write_from(page, bytes, at);
         if count == 0 {
             return false;
         }

@@ -1,10 +1,21 @@
 //! A file that counts the bytes that it says it took and gave.
 
-ghost use Rattle.std.specs.Prelude.{◌≡◌, ◌+◌, ◌^◌, ◌<◌, ◌≤◌, ◌==◌, true, length, is_some, if◌then◌else◌};
+ghost use Rattle.std.specs.Prelude.{◌≡◌, ◌+◌, ◌*◌, ◌^◌, ◌<◌, ◌≤◌, ◌==◌, true, is_some, if◌then◌else◌};
 ghost use Rattle.store_file.specs.FileState.{fresh_file, moved, none_yet};
 
 use std::marker::Model;
 use std::os::unix::fs::FileExt;
+
+/// How many bytes a page has.
+pub(crate) const PAGE_BYTES: usize = pager_model::PAGE_BYTES as usize;
+
+/// Where a byte of a page stands in the file.
+fn place(page: u32, byte: usize) -> u64
+    requires { byte ≤ 8192 }
+    ensures { result ≡ 8192 * page + byte }
+{
+    u64::from(page) * PAGE_BYTES as u64 + byte as u64
+}
 
 /// Bytes that a file took, or gave.
 #[derive(Drop)]
@@ -80,15 +91,16 @@ impl<F: FileExt + Drop> PageFile<F> {
         self.file.is_some()
     }
 
-    /// Reads from a place on, and answers how many bytes the file says it gave: none where it fails.
-    pub(crate) fn read_at(&mut self, bytes: &mut [u8], place: u64) -> usize
-        requires { place + length bytes.old < 2 ^ 64 }
-        ensures most { result ≤ length bytes.old }
-        ensures counted { self.new ≡ (if result == 0 then self.old else record self.old { gave = moved self.old.gave place result }) }
+    /// Reads the bytes of a page from one on, from where that one stands, and answers how many the file says it gave: none where it fails.
+    pub(crate) fn read_from(&mut self, page: u32, bytes: &mut [u8; PAGE_BYTES], at: usize) -> usize
+        requires { at ≤ 8192 }
+        ensures most { at + result ≤ 8192 }
+        ensures counted { self.new ≡ (if result == 0 then self.old else record self.old { gave = moved self.old.gave (8192 * page + at) result }) }
         ensures there { 0 < result → self.old.opened ≡ true }
     {
         let Some(file) = &self.file else { return 0 };
-        match file.read_at(bytes, place) {
+        let place = place(page, at);
+        match file.read_at(&mut bytes[at..], place) {
             Ok(count) if count > 0 => {
                 self.gave.count(place, count);
                 count
@@ -97,15 +109,16 @@ impl<F: FileExt + Drop> PageFile<F> {
         }
     }
 
-    /// Writes from a place on, and answers how many bytes the file says it took: none where it fails.
-    pub(crate) fn write_at(&mut self, bytes: &[u8], place: u64) -> usize
-        requires { place + length bytes.now < 2 ^ 64 }
-        ensures most { result ≤ length bytes.now }
-        ensures counted { self.new ≡ (if result == 0 then self.old else record self.old { took = moved self.old.took place result }) }
+    /// Writes the bytes of a page from one on to where that one stands, and answers how many the file says it took: none where it fails.
+    pub(crate) fn write_from(&mut self, page: u32, bytes: &[u8; PAGE_BYTES], at: usize) -> usize
+        requires { at ≤ 8192 }
+        ensures most { at + result ≤ 8192 }
+        ensures counted { self.new ≡ (if result == 0 then self.old else record self.old { took = moved self.old.took (8192 * page + at) result }) }
         ensures there { 0 < result → self.old.opened ≡ true }
     {
         let Some(file) = &self.file else { return 0 };
-        match file.write_at(bytes, place) {
+        let place = place(page, at);
+        match file.write_at(&bytes[at..], place) {
             Ok(count) if count > 0 => {
                 self.took.count(place, count);
                 count

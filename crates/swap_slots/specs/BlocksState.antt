@@ -19,4 +19,4 @@ pub record BlocksState : Type 0 where
 
 -- blocks in memory as a device, which tells its words
 abbrev pub device_of : BlocksState → Device
-device_of b = record { slots = length b.slots; tells = true; words = b.slots; faults = b.faults }
+device_of b = record { slots = length b.slots; tells = true; words = b.slots; reads = b.reads; writes = b.writes; faults = b.faults }

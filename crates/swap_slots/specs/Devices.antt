@@ -9,6 +9,10 @@ pub record Device : Type 0 where
   pub tells : Bool
   -- the words of each slot, or nothing where they are unknown
   pub words : List (Option (List ℕ))
+  -- how many reads there were
+  pub reads : ℕ
+  -- how many writes there were
+  pub writes : ℕ
   -- how many faults it has had
   pub faults : ℕ
 

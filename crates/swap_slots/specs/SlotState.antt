@@ -9,12 +9,14 @@ use Rattle.swap_slots.specs.declared.table.PageCopy.TheVariants.{Zero, Lost, Slo
 use Rattle.swap_slots.specs.Devices.{Device, words_at, SetsWords}
 use Rattle.swap_slots.specs.Slots.{Slots, IsSlotFor, SetsPage}
 
--- its device, where its copies are, how often it was read, and how many writes had no slot to go to
+-- its device, where its copies are, how often it was read and written, and how many writes had no slot to go to
 pub record SlotState : Type 0 where
   pub device : Device
   pub slots : Slots
   -- how many reads there were, those of pages without a slot among them
   pub reads : ℕ
+  -- how many writes there were, those without a slot to go to among them
+  pub writes : ℕ
   -- how many writes were refused since no slot was free
   pub refused : ℕ
 

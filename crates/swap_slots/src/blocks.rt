@@ -2,6 +2,7 @@
 
 ghost use Rattle.std.specs.Prelude.{◌≡◌, ◌<◌, ◌≤◌, true, length, Some, None, IfSome, OnOk, OnErr};
 ghost use Rattle.pager_model.specs.SpaceStates.{Rises};
+ghost use Rattle.store_core.specs.MemoryState.{one_more};
 ghost use Rattle.swap_slots.specs.Devices.{Device, words_at, SameWords, SetsWords};
 
 /// A read or a write of a slot failed. The device's count of faults rose.
@@ -10,7 +11,8 @@ pub struct BlockFailed;
 
 /// A device of slots, numbered from 0, of 1,024 words each.
 ///
-/// It counts its faults: a call that fails raises the count. How many slots there are, and whether it tells their words, never changes.
+/// It counts its faults: a call that fails raises the count, and no other does. And it counts its reads and its writes, so whoever says that it read
+/// or wrote once can be held to it. How many slots there are, and whether it tells their words, never changes.
 pub trait Blocks {
     // What contracts see of it.
     ghost device: { Self → Device };
@@ -30,6 +32,9 @@ pub trait Blocks {
         ensures read { OnOk result
             ((device self.old).tells ≡ true → IfSome (words_at (device self.old) slot) (λ known. words.new ≡ known)) }
         ensures same { SameWords (device self.old) (device self.new) }
+        ensures counted { (device self.new).reads ≡ one_more (device self.old).reads }
+        ensures unwritten { (device self.new).writes ≡ (device self.old).writes }
+        ensures unfailed { OnOk result ((device self.new).faults ≡ (device self.old).faults) }
         ensures rose { OnErr result (Rises (device self.old).faults (device self.new).faults) }
         ensures never_falls { (device self.old).faults ≤ (device self.new).faults };
 
@@ -39,6 +44,9 @@ pub trait Blocks {
         requires count { length words.now ≡ 1024 }
         ensures wrote { OnOk result (SetsWords slot (Some words.now) (device self.old) (device self.new)) }
         ensures failed { OnErr result (SetsWords slot None (device self.old) (device self.new)) }
+        ensures counted { (device self.new).writes ≡ one_more (device self.old).writes }
+        ensures unread { (device self.new).reads ≡ (device self.old).reads }
+        ensures unfailed { OnOk result ((device self.new).faults ≡ (device self.old).faults) }
         ensures rose { OnErr result (Rises (device self.old).faults (device self.new).faults) }
         ensures never_falls { (device self.old).faults ≤ (device self.new).faults };
 

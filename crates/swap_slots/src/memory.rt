@@ -93,6 +93,9 @@ impl Blocks for MemoryBlocks {
         ensures read { OnOk result
             ((device_of self.old).tells ≡ true → IfSome (words_at (device_of self.old) slot) (λ known. words.new ≡ known)) }
         ensures same { SameWords (device_of self.old) (device_of self.new) }
+        ensures counted { self.new.reads ≡ one_more self.old.reads }
+        ensures unwritten { self.new.writes ≡ self.old.writes }
+        ensures unfailed { OnOk result (self.new.faults ≡ self.old.faults) }
         ensures rose { OnErr result (Rises self.old.faults self.new.faults) }
         ensures never_falls { self.old.faults ≤ self.new.faults }
 
@@ -120,6 +123,9 @@ impl Blocks for MemoryBlocks {
         // As at any device.
         ensures wrote { OnOk result (SetsWords slot (Some words.now) (device_of self.old) (device_of self.new)) }
         ensures failed { OnErr result (SetsWords slot None (device_of self.old) (device_of self.new)) }
+        ensures counted { self.new.writes ≡ one_more self.old.writes }
+        ensures unread { self.new.reads ≡ self.old.reads }
+        ensures unfailed { OnOk result (self.new.faults ≡ self.old.faults) }
         ensures rose { OnErr result (Rises self.old.faults self.new.faults) }
         ensures never_falls { self.old.faults ≤ self.new.faults }
 

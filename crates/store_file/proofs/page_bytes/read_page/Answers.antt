@@ -9,14 +9,14 @@ loop-at-init g c = record { most = omega arith; moves = moves_none c.args.page c
 
 pub loop-at-preserved : goal.loop-at-preserved
 loop-at-preserved g c =
-    let n = c.read_at-count.result in
+    let n = c.read_from-count.result in
     let file = c.loop-at.file in
     let at = c.loop-at.at in
     let some : 0 < n = omega arith in
-    let most : at + n ≤ 8192 = omega (arith, c.read_at-count.ensures.most) in
+    let most : at + n ≤ 8192 = omega (arith, c.read_from-count.ensures.most) in
     let none : nat_eq n 0 ≡ false = grind (arith, nat_tests) in
-    let is : c.read_at-count.new.self ≡ record file { gave = moved file.gave (8192 * c.args.page + at) n } =
-    rw (c.place.ensures, none) at c.read_at-count.ensures.counted in
+    let is : c.read_from-count.new.self ≡ record file { gave = moved file.gave (8192 * c.args.page + at) n } =
+    rw none at c.read_from-count.ensures.counted in
     let P = λ (t : FileSeen). MovesFirst c.args.page (at + n) c.args.file.now.gave t.gave in
     record {
       most = most;

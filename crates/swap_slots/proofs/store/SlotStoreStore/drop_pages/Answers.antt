@@ -14,6 +14,7 @@ returns-clause-dropped g c =
       device = g.B.Blocks.device c.self.inside.blocks;
       slots = c.drop_range.new.self;
       reads = c.self.inside.reads;
+      writes = c.self.inside.writes;
       refused = c.self.inside.refused;
     } in
     drops_copies before after c.args.first c.args.length (ap (λ s. s.device) c.self.view_is) (ap (λ s. s.refused) c.self.view_is)

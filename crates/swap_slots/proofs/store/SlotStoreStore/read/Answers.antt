@@ -18,6 +18,7 @@ returns-in_default-read-clause-same g c =
       device = g.B.Blocks.device c.read.new.self;
       slots = c.self.inside.table;
       reads = c.self.inside.reads;
+      writes = c.self.inside.writes;
       refused = c.self.inside.refused;
     } in
     let Same : Device → Type 0 = λ d. SameWords d after.device in
@@ -31,6 +32,7 @@ returns-clause-same g c =
       device = g.B.Blocks.device c.read.new.self;
       slots = c.self.inside.table;
       reads = c.self.inside.reads;
+      writes = c.self.inside.writes;
       refused = c.self.inside.refused;
     } in
     let Same : Device → Type 0 = λ d. SameWords d after.device in
@@ -72,6 +74,7 @@ returns-in_default-read-clause-rose g c =
       device = g.B.Blocks.device c.read.new.self;
       slots = c.self.inside.table;
       reads = c.self.inside.reads;
+      writes = c.self.inside.writes;
       refused = c.self.inside.refused;
     } in
     rises_device c.args.self.now after (ap (λ s. s.refused) c.self.view_is)
