@@ -8,7 +8,7 @@ use std::alloc::Global;
 use std::marker::Brand;
 use std::process::Abort;
 use std::sync::ledger::Blank;
-use tiles::counted::{after_dirty, after_fill, after_remove};
+use tiles::counted::{after_dirty, after_fill, after_remove, after_rights};
 use tiles::{Base, Changes, Moves};
 
 /// The pages that the tests use, and the frames.
@@ -233,7 +233,8 @@ impl Pages {
             return None;
         }
         let rights = rights_of(word)?;
-        Some(self.base.after_rights(first, length, rights, sizes))
+        let blank = Blank::new(1);
+        Some(after_rights::<Brand>(&mut self.base, first, length, rights, sizes, blank))
     }
 
     /// Fills the pages from one to before another. The promotions and demotions.
