@@ -126,7 +126,8 @@ const NO_REGION: &str = "trace 1 512 1 1; 700 times 8192: 0 load 0 #; end";
 /// The words that make a trace of a map and two calls.
 const MAKE: &[&str] = &["make", "7", "3", "1", "1", "512"];
 
-/// Words, a trace, how many bytes the sink takes and which write fails, and how many bytes are there then.
+/// Words, a trace, how many bytes the sink takes and which write fails, and how many bytes are there then. So `(&["order"], NO_REGION, 16_384, 2, 4090)`
+/// is read: by `order` over `NO_REGION` the second write fails of a sink that takes 16,384 bytes, and 4,090 bytes are there.
 type Cut = (&'static [&'static str], &'static str, usize, u64, usize);
 
 static CUTS: [Cut; 14] = [

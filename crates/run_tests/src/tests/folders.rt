@@ -29,7 +29,8 @@ fn gives<S: Store>(store: &mut S, page: u32, number: u64) -> bool {
 }
 
 /// Whether a store does a step of a page: to `write` the words of a number, to `read` these, to `drop` the copies of so many pages from it on,
-/// and to leave it `unread` or `unwritten`, as the fault of a number.
+/// and to leave it `unread` or `unwritten`, as the fault of a number. So `write 62 1` is read: the words of number 1 are written to page 62; and
+/// `drop 63 65`: the copies of the 65 pages from page 63 on are dropped.
 fn does<S: Store>(store: &mut S, call: &str, page: u32, number: u32) -> bool {
     if call == "write" {
         return store.write(page, &words_of(u64::from(number))).is_ok();

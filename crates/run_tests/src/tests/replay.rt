@@ -3,7 +3,7 @@ mod gated;
 
 use super::command::{AMPLE, ran};
 use super::machine::{stores_of, text_of};
-use gated::{reads_that_meet, write_that_awaits_a_read};
+use gated::{calls_that_meet, write_that_awaits_a_read};
 use pager_command::DONE;
 use std::process::Abort;
 use std::sync::Wait;
@@ -41,16 +41,22 @@ const EVICT_AND_LOAD_TEXT: &str =
 promotions 0; demotions 0; preemptions 0; images 0 2; frames 504 7 1; end";
 
 #[test]
-fn reads_of_two_spaces_run_at_once(rt: HostRuntime) {
-    for _ in 0..TIMES {
-        let (first, second) = (AtomicBool::new(false), AtomicBool::new(false));
-        let stores = reads_that_meet(&rt, &first, &second);
-        assert!(rt; prints(&rt, TWO_LOADS, stores, TWO_LOADS_TEXT));
+fn calls_on_two_spaces_run_at_once(rt: HostRuntime) {
+    // Each of two reads waits for the other, and then a write and a read do.
+    for (trace, writes, text) in [
+        (TWO_LOADS, false, TWO_LOADS_TEXT),
+        (EVICT_AND_LOAD, true, EVICT_AND_LOAD_TEXT),
+    ] {
+        for _ in 0..TIMES {
+            let (first, second) = (AtomicBool::new(false), AtomicBool::new(false));
+            let stores = calls_that_meet(&rt, &first, &second, writes);
+            assert!(rt; prints(&rt, trace, stores, text), "{trace}");
+        }
     }
 }
 
 #[test]
-fn a_space_reads_while_another_writes(rt: HostRuntime) {
+fn a_write_may_wait_for_a_read_of_another_space(rt: HostRuntime) {
     for _ in 0..TIMES {
         let begun = AtomicBool::new(false);
         let stores = write_that_awaits_a_read(&rt, &begun);

@@ -56,11 +56,13 @@ fn two_stores<'a, R: Abort + AllocGlobal>(
     stores
 }
 
-/// Two stores, of which the reads of each wait until one of the other has begun.
-pub(super) fn reads_that_meet<'a, R: Abort + AllocGlobal>(
+/// Two stores, of which calls of each wait until one of the other has begun: the reads of both or, where writes are asked for, the first one's
+/// writes and the second one's reads.
+pub(super) fn calls_that_meet<'a, R: Abort + AllocGlobal>(
     rt: &R,
     first: &'a AtomicBool,
     second: &'a AtomicBool,
+    writes: bool,
 ) -> Vec<Gated<'a>> {
     let one = Gate {
         raises: Some(first),
@@ -70,7 +72,8 @@ pub(super) fn reads_that_meet<'a, R: Abort + AllocGlobal>(
         raises: Some(second),
         awaits: Some(first),
     };
-    two_stores(rt, [(one, OPEN), (other, OPEN)])
+    let gates = if writes { (OPEN, one) } else { (one, OPEN) };
+    two_stores(rt, [gates, (other, OPEN)])
 }
 
 /// Two stores, of which the writes of the first wait until a read of the second has begun. Nothing else waits.
