@@ -10,7 +10,7 @@ use Rattle.pager_model.specs.Regions.{region_at}
 use Rattle.pager_model.specs.SpaceStates.{SpaceState, IsRegionOf}
 use Rattle.pager_model.proofs.CountLemmas.{count-one_more}
 use Rattle.pager_model.proofs.FrameEntries.{given_in-entries}
-use Rattle.space_core.specs.Beginning.{IsUnmapping, ClearsOne, ClearsNone}
+use Rattle.space_core.specs.Beginning.{IsUnmapping, ClearsOne, ClearsNone, SameStore}
 use Rattle.space_core.specs.Standing.{Kept, IsResting, StandsBeside, StandsFor, StandsBut, frame_at, is_in, is_clearing}
 use Rattle.pager_model.specs.CallEntries.{clear_entry}
 use Rattle.flight_core.specs.declared.flight.Flight.{Flight}
@@ -18,7 +18,7 @@ use Rattle.flight_core.specs.declared.flight.Phase.TheVariants.{Clear, Gone}
 use Rattle.flight_core.specs.Flights.{IsReady}
 use Rattle.flight_core.specs.Rows.{call_in}
 use Rattle.flight_core.specs.Steps.{Makes, SameSpace}
-use Rattle.flight_core.proofs.EntrySteps.{Leaves-on, SpaceAndFrames, same_space, same_space-on}
+use Rattle.flight_core.proofs.EntrySteps.{Leaves-on, SpaceAndFrames, same_space, same_space-on, same_store-on}
 use Rattle.flight_core.proofs.MadeEntries.{made_on_frames}
 use Rattle.pager_laws.proofs.GivenRanges.{give_range-none, give_range-lowest}
 use Rattle.flight_core.proofs.Purposes.{in_phase, with_phase, same_work, by_ready}
@@ -36,6 +36,7 @@ pub record IsClearing (was now : SpaceAndFrames) (first len : ℕ) : Type 0 wher
   pub agrees : (p : ℕ) → frame_at now.space p ≡ frame_of now.frames was.space.number p
   pub leads : give_range now.frames was.space.number first len ≡ give_range was.frames was.space.number first len
   pub same_entries : now.frames.entries ≡ was.frames.entries
+  pub same_store : SameStore was.space now.space
 
 -- The lowest page gives its frame up.
 pub record GivesLowest (was now : SpaceAndFrames) (first len own : ℕ) : Type 0 where
@@ -62,6 +63,7 @@ module _ (was mid now : SpaceAndFrames) (first len own : ℕ) where
         ∙ so_far.leads;
     same_entries = ap (λ (t : FrameState). t.entries) gives.given
         ∙ given_in-entries mid.frames gives.page (covering own gives.page mid.frames.records) ∙ so_far.same_entries;
+    same_store = same_store-on so_far.same_store gives.clears.gave.same_store;
   }
     where
       parts : (leb first gives.page ≡ true) × (ltb gives.page (first + len) ≡ true)

@@ -6,7 +6,7 @@ use Rattle.pager_model.specs.Options.{is_that}
 use Rattle.pager_model.specs.FrameStates.{FrameState}
 use Rattle.pager_model.specs.Locks.{own_if}
 use Rattle.pager_model.specs.SpaceStates.{SpaceState, Next, Anyone, MayGoOn, WhatAllowed, SpaceAllows, space_after}
-use Rattle.space_core.specs.Beginning.{SameRegions}
+use Rattle.space_core.specs.Beginning.{SameRegions, SameStore}
 use Rattle.space_core.specs.Standing.{Kept, StandsFor, IsResting}
 use Rattle.flight_core.specs.declared.flight.Flight.{Flight}
 use Rattle.flight_core.specs.Flights.{Fits, LeftBy, PhaseStands}
@@ -31,6 +31,11 @@ same_space-on first second =
       processors = second.processors
           ∙ first.processors;
     }
+
+-- its store is as it was after two steps that left it so
+pub same_store-on : {was mid now : Kept} → SameStore was mid → SameStore mid now → SameStore was now
+same_store-on first second =
+    record { store = second.store ∙ first.store; unread = second.unread ∙ first.unread; unwritten = second.unwritten ∙ first.unwritten }
 
 pub unchanged : (kept : Kept) → SameSpace kept kept
 unchanged kept = record { number = refl; frames = refl; processors = refl }

@@ -88,6 +88,11 @@ given_up (OfCall call claimed) v None = Lack v.space
 given_up (OfCall call claimed) v (Some count) = Fault v.space count
 given_up (OfTurn mark evictions) v fault = Rested
 
+-- What a flight does once the frame that it held goes free: a call is answered late, and a turn looks again.
+abbrev pub let_go : Purpose → Phase
+let_go (OfCall call claimed) = Late
+let_go (OfTurn mark evictions) = Look
+
 -- How much is left at most: of a call so much; of a turn so much of the eviction that it is in, that of a whole one for each that it may make
 -- after this, and one for its end.
 abbrev pub left_by : Purpose → ℕ → ℕ → ℕ → ℕ

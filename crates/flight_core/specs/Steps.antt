@@ -1,23 +1,25 @@
 -- What a step of a flight does, for every state that the space it is made under stands for.
-use Rattle.std.specs.Prelude.{ℕ, ◌≡◌, ◌<◌, ◌≤◌, true, if◌then◌else◌, Option, Some, None, IfSome, length}
+use Rattle.std.specs.Prelude.{ℕ, ◌≡◌, ◌<◌, ◌≤◌, Bool, true, false, if◌then◌else◌, Option, Some, None, IfSome, length}
 use Rattle.pager_model.specs.declared.call.Call.{Call}
 use Rattle.pager_model.specs.declared.entry.Entry.{Entry}
 use Rattle.pager_model.specs.declared.entry.What.{What}
-use Rattle.pager_model.specs.declared.entry.What.TheVariants.{Answer}
+use Rattle.pager_model.specs.declared.entry.What.TheVariants.{Answer, Out as PagedOut, Failed, Take, Give, Clear as Cleared, Claim, UseHeld, DropHeld, Got, Unclaim as Unclaimed, Refused, Rest}
 use Rattle.pager_model.specs.declared.reply.Reply.{Reply}
-use Rattle.pager_model.specs.declared.reply.Reply.TheVariants.{NoFrames, StoreFault, NoMemory}
+use Rattle.pager_model.specs.declared.reply.Reply.TheVariants.{Done, NoFrames, StoreFault, NoMemory}
 use Rattle.pager_model.specs.Entries.{NamesItsParts, names_space}
 use Rattle.pager_model.specs.FrameStates.{FrameState, frames_after, frame_of, FramesAllow}
-use Rattle.pager_model.specs.Order.{progress_after}
+use Rattle.pager_model.specs.Flat.{space_of_call}
+use Rattle.pager_model.specs.Order.{is_served, progress_after}
 use Rattle.pager_model.specs.Showing.{answer_in}
-use Rattle.pager_model.specs.SpaceStates.{SpaceState, space_after, SpaceAllows}
-use Rattle.space_core.specs.Beginning.{LacksMemory}
-use Rattle.space_core.specs.Standing.{Kept, frame_at}
+use Rattle.pager_model.specs.SpaceStates.{SpaceState, Rises, space_after, SpaceAllows}
+use Rattle.space_core.specs.Beginning.{LacksMemory, copied_reply}
+use Rattle.space_core.specs.Standing.{Kept, dirty_at, frame_at, must_write}
 use Rattle.pager_laws.specs.Laid.{IsSound}
 use Rattle.flight_core.specs.declared.flight.Flight.{Flight}
 use Rattle.flight_core.specs.declared.flight.Phase.{Phase}
-use Rattle.flight_core.specs.declared.flight.Phase.TheVariants.{Short, Unclaim, Fault, Lack}
-use Rattle.flight_core.specs.Rows.{call_in, is_of_call, mark_in, row_of, is_between, Going, reply_in}
+use Rattle.flight_core.specs.declared.flight.Phase.TheVariants.{Start, Evict, Clear, Gone, Frame, Short, Fill, Unfill, Out, Write, Hand, Unclaim, Back, Drop, Late, Use, Fault, Lack, Look, Rested, Ended}
+use Rattle.flight_core.specs.declared.flight.Purpose.{Purpose}
+use Rattle.flight_core.specs.Rows.{call_in, is_of_call, mark_in, row_of, is_between, Going, reply_in, won, given_up, let_go}
 use Rattle.flight_core.specs.Flights.{Fits, IsReady, LeftBy}
 
 -- the state of a space after an entry that may name it
@@ -117,3 +119,60 @@ pub record Passes (old new : Flight) (was now : Kept) (st : SpaceState) : Type 0
   pub same_progress : (row_of new).progress ≡ (row_of old).progress
   pub going : (row_of new).outcome ≡ Going
   pub no_more : (row_of new).entries ≤ (row_of old).entries
+
+-- The table of steps: what a step from a phase makes, and the phase that it leads to. No other entry is made from a phase.
+abbrev pub RowMakes : Purpose → Phase → What → Phase → Type 0
+RowMakes purpose Start (Answer number call a) new = new ≡ Ended a.reply
+RowMakes purpose Start (Failed page writing count) new = (writing ≡ true) × (new ≡ Fault (space_of_call (call_in purpose)) count)
+RowMakes purpose (Evict page) (Answer number call a) new = ((written : Bool) × (a.reply ≡ copied_reply written)) × (new ≡ Ended a.reply)
+RowMakes purpose (Clear first len) (Cleared from size) new = (from ≡ first) × (size ≡ len) × (new ≡ Gone first len)
+RowMakes purpose (Gone first len) (Answer number call a) new = (a.reply ≡ Done) × (new ≡ Ended a.reply)
+RowMakes purpose (Frame page want) (Take p frame w) new = (p ≡ page) × (w ≡ want) × (new ≡ Fill page frame)
+RowMakes purpose (Frame page want) (Claim space p frame need) new = new ≡ Out (record { space = space; page = p; frame = frame })
+RowMakes purpose (Frame page want) (Refused wired claimed held) new = new ≡ Short wired claimed held
+RowMakes purpose (Short wired claimed held) (Answer number call a) new = (a.reply ≡ NoFrames wired claimed held) × (new ≡ Ended a.reply)
+RowMakes purpose (Fill page frame) (Answer number call a) new = (is_served a.reply ≡ true) × (new ≡ Ended a.reply)
+RowMakes purpose (Fill page frame) (Failed p writing count) new = (p ≡ page) × (writing ≡ false) × (new ≡ Unfill page frame count)
+RowMakes purpose (Unfill page frame count) (Give p f) new = (p ≡ page) × (new ≡ Fault (space_of_call (call_in purpose)) count)
+RowMakes purpose (Out v) (Got frame) new = new ≡ won purpose v
+RowMakes purpose (Write v) (PagedOut page written) new = (page ≡ v.page) × (new ≡ Hand v)
+RowMakes purpose (Write v) (Failed page writing count) new = (page ≡ v.page) × (writing ≡ true) × (new ≡ Unclaim v (Some count))
+RowMakes purpose (Hand v) (Give page frame) new = (page ≡ v.page) × (new ≡ won purpose v)
+RowMakes purpose (Unclaim v fault) (Unclaimed frame) new = new ≡ given_up purpose v fault
+RowMakes purpose (Drop v) (DropHeld frame) new = new ≡ let_go purpose
+RowMakes purpose Late (Answer number call a) new = new ≡ Ended a.reply
+RowMakes purpose (Use page want v) (UseHeld p frame w) new = (p ≡ page) × (w ≡ want) × (new ≡ Fill page frame)
+RowMakes purpose (Fault space count) (Answer number call a) new = (a.reply ≡ StoreFault space count) × (new ≡ Ended a.reply)
+RowMakes purpose (Lack space) (Answer number call a) new = (a.reply ≡ NoMemory) × (new ≡ Ended a.reply)
+RowMakes purpose Look (Claim space page frame need) new = new ≡ Out (record { space = space; page = page; frame = frame })
+RowMakes purpose Look (Rest short) new = new ≡ Rested
+RowMakes purpose phase what new = ⊥
+
+-- And the phase that a step leads to which makes no entry. From no other phase is there such a step.
+abbrev pub RowPasses : Phase → Phase → Type 0
+RowPasses Start (Frame page want) = Unit {0}
+RowPasses Start (Clear first len) = Unit {0}
+RowPasses Start (Evict page) = Unit {0}
+RowPasses (Out v) new = new ≡ Write v
+RowPasses (Write v) new = new ≡ Unclaim v None
+RowPasses (Back v) (Drop w) = w ≡ v
+RowPasses (Back v) (Use page want w) = w ≡ v
+RowPasses phase new = ⊥
+
+-- What a step does with the store.
+
+-- a step from the phase reads a copy
+abbrev pub reads_at : Phase → Bool
+reads_at (Fill page frame) = true
+reads_at phase = false
+
+-- a step from the phase writes a copy: that of a dirty page which the call is to copy, or which is to be paged out
+abbrev pub writes_at : Kept → Call → Phase → Bool
+writes_at kept call Start = must_write kept call
+writes_at kept call (Write v) = dirty_at kept v.page
+writes_at kept call phase = false
+
+-- the store's count of faults after a step that makes this: it rose to the failure that is told, and else is as before
+abbrev pub FaultsTold : ℕ → ℕ → What → Type 0
+FaultsTold before after (Failed page writing count) = Rises before count × (count ≡ after)
+FaultsTold before after what = after ≡ before

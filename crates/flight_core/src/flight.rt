@@ -10,7 +10,9 @@ ghost use Rattle.flight_core.specs.Flights.{Fits, IsReady};
 ghost use Rattle.flight_core.specs.Rows.{alone, both, call_in, has_ended, is_of_call, new_flight, new_turn, own_space, reply_in, row_of, space_under, won};
 ghost use Rattle.pager_model.specs.Flat.{space_of_call};
 ghost use Rattle.pager_model.specs.Locks.{own_if};
-ghost use Rattle.flight_core.specs.Steps.{AreAgreed, Makes, MakesOnFrames, Passes};
+ghost use Rattle.flight_core.specs.Steps.{AreAgreed, Makes, MakesOnFrames, Passes, RowMakes, RowPasses, reads_at, writes_at, FaultsTold};
+ghost use Rattle.space_core.specs.Beginning.{LacksItsMemory, SameStore};
+ghost use Rattle.space_core.specs.Standing.{one_more_if};
 
 mod on_both;
 mod on_frames;
@@ -266,13 +268,21 @@ impl Flight {
         }
     }
 
-    /// Does the next step under the lock of a space: makes one entry on it, or finds what the call needs next.
+    /// Does the next step under the lock of a space, by its row of the table: makes one entry on it, or finds what the call needs next. The space's
+    /// store is read once to fill a page, written once to copy a dirty one, and else neither; and it fails only where the entry tells it.
     pub fn step_space<S: Store + Send + Drop>(&mut self, space: &mut Space<S>) -> Option<Entry>
         requires needs { (row_of self.old).needs ≡ Needs.Space space.old.number }
         requires image { self.old.processor < length space.old.images }
         requires ready { (st : SpaceState) × IsReady self.old space.old st }
         ensures entry { IfSome result (λ e. (st : SpaceState) (frames : FrameState) → IsReady self.old space.old st → Makes self.old self.new space.old space.new st frames frames e) }
         ensures none { IfNone result ((st : SpaceState) → IsReady self.old space.old st → Passes self.old self.new space.old space.new st) }
+        ensures row { IfSome result (λ e. RowMakes self.old.purpose self.old.phase e.what self.new.phase) }
+        ensures row_passed { IfNone result (RowPasses self.old.phase self.new.phase) }
+        ensures reads { space.new.reads ≡ one_more_if (reads_at self.old.phase) space.old.reads }
+        ensures writes { space.new.writes ≡ one_more_if (writes_at space.old (call_in self.old.purpose) self.old.phase) space.old.writes }
+        ensures faults { IfSome result (λ e. FaultsTold space.old.store.faults space.new.store.faults e.what) }
+        ensures unfailed { IfNone result (space.new.store.faults ≡ space.old.store.faults) }
+        ensures memory { self.old.phase ≡ Phase.Start → self.new.phase ≡ Phase.Ended Reply.NoMemory → LacksItsMemory space.old (call_in self.old.purpose) }
         ensures nearer { (row_of self.new).steps < (row_of self.old).steps }
     {
         match self.phase {
@@ -297,8 +307,8 @@ impl Flight {
         }
     }
 
-    /// Does the next step under the lock of a space and that of the frames: makes one entry on both or on one of them, or finds what the
-    /// call needs next.
+    /// Does the next step under the lock of a space and that of the frames, by its row of the table: makes one entry on both or on one of them, or
+    /// finds what the call needs next. The space's store is neither read nor written.
     pub fn step_both<S: Store + Send + Drop>(
         &mut self,
         space: &mut Space<S>,
@@ -313,6 +323,9 @@ impl Flight {
         requires room { pool.old.entries < 2 ^ 45 }
         ensures entry { IfSome result (λ e. (st : SpaceState) → IsReady self.old space.old st → Makes self.old self.new space.old space.new st pool.old pool.new e) }
         ensures none { IfNone result ((pool.new ≡ pool.old) × ((st : SpaceState) → IsReady self.old space.old st → Passes self.old self.new space.old space.new st)) }
+        ensures row { IfSome result (λ e. RowMakes self.old.purpose self.old.phase e.what self.new.phase) }
+        ensures row_passed { IfNone result (RowPasses self.old.phase self.new.phase) }
+        ensures same_store { SameStore space.old space.new }
         ensures nearer { (row_of self.new).steps < (row_of self.old).steps }
     {
         match self.phase {
@@ -329,7 +342,7 @@ impl Flight {
         }
     }
 
-    /// Does the next step under the frames' lock alone, which a turn makes: it makes one entry.
+    /// Does the next step under the frames' lock alone, which a turn makes, by its row of the table: it makes one entry.
     pub fn step_frames(&mut self, pool: &mut Pool) -> Entry
         requires needs { (row_of self.old).needs ≡ Needs.Frames }
         requires fits { Fits self.old }
@@ -337,6 +350,7 @@ impl Flight {
         requires known { self.old.processor < length pool.old.held }
         requires room { pool.old.entries < 2 ^ 45 }
         ensures entry { MakesOnFrames self.old self.new pool.old pool.new result }
+        ensures row { RowMakes self.old.purpose self.old.phase result.what self.new.phase }
         ensures nearer { (row_of self.new).steps < (row_of self.old).steps }
     {
         match (self.purpose, self.phase) {

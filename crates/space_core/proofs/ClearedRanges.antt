@@ -151,7 +151,11 @@ module _ (old mid : Kept) (first len from : ℕ) (clears : ClearsFrom old mid fi
           gave = record {
             had = ap (λ (t : Table). frame_in t page) (sym mid_table) ∙ had;
             same = same_taken;
-            unread = ap (λ (k : Kept). k.reads) takes;
+            same_store = record {
+              store = ap (λ (k : Kept). k.store) takes;
+              unread = ap (λ (k : Kept). k.reads) takes;
+              unwritten = ap (λ (k : Kept). k.writes) takes;
+            };
             gone = frame_gone;
             same_others = frame_others;
           };
@@ -288,7 +292,11 @@ module _ (old mid : Kept) (first len from : ℕ) (clears : ClearsFrom old mid fi
           same_pending = ap (λ (k : Kept). k.pending) ends;
           same_paged = ap (λ (k : Kept). k.paged) ends;
           same = record { same = same_left; frame = frame_left };
-          unread = ap (λ (k : Kept). k.reads) ends;
+          same_store = record {
+            store = ap (λ (k : Kept). k.store) ends;
+            unread = ap (λ (k : Kept). k.reads) ends;
+            unwritten = ap (λ (k : Kept). k.writes) ends;
+          };
           stands = clear_stands;
         }
 
@@ -332,12 +340,14 @@ pub record DropsRegion (old new : Kept) (page : ℕ) (r : Region) : Type 0 where
   pub cleared : old.clearing ≡ Some (range_of r.first r.length)
   pub drops : DropsCopies r.first r.length old.store new.store
   pub unread : new.reads ≡ old.reads
+  pub unwritten : new.writes ≡ old.writes
   pub same : new ≡ record old {
     regions = without_region page old.regions;
     table = new.table;
     clearing = None;
     store = new.store;
     reads = new.reads;
+    writes = new.writes;
   }
 
 module _ (old new : Kept) (page : ℕ) (r : Region) (goes_away : DropsRegion old new page r) where
@@ -516,6 +526,8 @@ module _ (old new : Kept) (page : ℕ) (r : Region) (goes_away : DropsRegion old
         same_frames = ap (λ (k : Kept). k.frames) goes_away.same;
         same_processors = ap (λ (k : Kept). length k.images) goes_away.same;
         unread = goes_away.unread;
+        unwritten = goes_away.unwritten;
+        unfailed = goes_away.drops.faults;
         resting = record {
           none_pending = pending_then;
           none_clearing = ap (λ (k : Kept). k.clearing) goes_away.same;

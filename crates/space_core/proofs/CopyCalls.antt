@@ -1,5 +1,5 @@
 -- What a sync and an evict are answered, and what they do, where a region has their page.
-use Rattle.std.proofs.Common.{◌≡◌, ◌≢◌, ℕ, Bool, true, false, ◌&&◌, ◌==◌, if◌then◌else◌, not, List, Option, Some, None, is_some, option_map, ◌<◌, refl, sym, ap, ◌∙◌, arith, subst}
+use Rattle.std.proofs.Common.{◌≡◌, ◌≢◌, ℕ, Bool, true, false, ◌&&◌, ◌==◌, if◌then◌else◌, not, List, Option, Some, None, is_some, option_map, ◌<◌, refl, sym, ap, ◌∙◌, subst}
 use Rattle.std.proofs.lemmas.Bool.{cond-true, not-true, false≢true}
 use Rattle.std.proofs.lemmas.Option.{same_Some}
 use Rattle.pager_model.specs.declared.call.Call.{Call}
@@ -27,7 +27,7 @@ use Rattle.space_core.specs.Translating.{CleansPage}
 use Rattle.space_core.proofs.TableLemmas.{dirty_in-absent, cleans_none}
 use Rattle.space_core.proofs.Translations.{Still}
 use Rattle.space_core.proofs.SameView.{next_stands, none_in}
-use Rattle.space_core.proofs.SavedCopies.{with_flat, cleaned_resting, cleaned_same, cleaned_out, fails_to_write, leaves_unwritten, cleaned_reads, CopiesOut, IsSaved, saved, copied_aside, store_frames, store_reads, store_resting, store_still}
+use Rattle.space_core.proofs.SavedCopies.{with_flat, cleaned_resting, cleaned_same, cleaned_out, fails_to_write, leaves_unwritten, cleaned_reads, cleaned_faults, CopiesOut, IsSaved, saved, copied_aside, store_frames, store_reads, store_resting, store_still}
 
 -- a page with a region is written where it is dirty
 sync_asked : (o : Option Region) (dirty : Bool) → is_some o ≡ true → sync_reply o dirty ≡ copied_reply dirty
@@ -93,6 +93,7 @@ syncs old new c page written resting has copies =
       same_frames = same.same.frames;
       same_processors = same.same.processors;
       unread = cleaned_reads old new page written resting copies;
+      unfailed = cleaned_faults old new page written resting copies;
       resting = cleaned_resting old new page written resting copies;
       answers = record {
         allowed = λ st s n. record {
@@ -166,6 +167,7 @@ module _ (old new : Kept) (c page : ℕ) (resting : IsResting old) where
         same_frames = leaves.same.same.frames;
         same_processors = leaves.same.same.processors;
         unread = leaves.unread;
+        unfailed = leaves.unfailed;
         resting = leaves.resting;
         answers = record {
           allowed = λ st s n. record {
@@ -212,7 +214,7 @@ saves_clean old page clean = record {
   same = refl;
   wrote = λ e. absurd (false≢true e);
   left = λ _. refl;
-  never_falls = omega arith;
+  unfailed = refl;
 }
 
 cleans_clean : (old : Kept) (page : ℕ) → dirty_at old page ≡ false → CleansPage old old page
@@ -237,6 +239,7 @@ evicts_absent old c page resting unwired absent =
       same_frames = refl;
       same_processors = refl;
       unread = refl;
+      unfailed = refl;
       resting = resting;
       answers = record {
         allowed = λ st s n. record {
@@ -296,6 +299,7 @@ begins_evicting old mid new page written resting in_space unwired resident saves
       };
       same = record { same = same; frame = frame };
       unread = outs.unread ∙ store_reads old mid saves.same;
+      unfailed = ap (λ (s : Stored). s.faults) outs.store ∙ saves.unfailed;
       stands = copied_aside old resting new page
           (record {
             saved = subst (λ (store : Stored). IsSaved old store page) (sym outs.store) (saved old resting mid page written saves);

@@ -77,7 +77,7 @@ module _ (old new : Kept) (page : ℕ) (reads : ReadsCopy old new page) where
   unbehind = ap (λ d. d && not (is_that page old.paged)) reads.clean
 
   -- the page was read in
-  module _ (done : new.pending ≡ None)
+  module _ (done : new.pending ≡ None) (unfailed : new.store.faults ≡ old.store.faults)
       (read : (words : List ℕ) → old.store.tells ≡ true → copy_at old.store page ≡ Some words → HasWords new.table page words) where
     at_other : (p : ℕ) → p ≢ page → SameAt old new p
     at_other p n =
@@ -123,6 +123,8 @@ module _ (old new : Kept) (page : ℕ) (reads : ReadsCopy old new page) where
           same_paged = paged;
           same = record { same = same; frame = frame_filled };
           read_once = reads.once;
+          unwritten = ap (λ (k : Kept). k.writes) reads.same;
+          unfailed = unfailed;
           stands = λ st s. one_stands old new st st page whole clearing (record { regions = refl; rights = λ p. refl; told = refl })
               (omega (arith, s.beside.highest, reads.faults)) at_other (λ p n. record {
                 dirty = refl;
@@ -162,6 +164,7 @@ module _ (old new : Kept) (page : ℕ) (reads : ReadsCopy old new page) where
           same_paged = paged;
           same = record { same = same; frame = frame_filled };
           read_once = reads.once;
+          unwritten = ap (λ (k : Kept). k.writes) reads.same;
           allowed = λ st s c. (
             resident_from st.base page _ (s.base page) reads.resident,
             s.beside.dirty page (ap (λ r. is_in r page) alone)

@@ -12,7 +12,7 @@ use Rattle.pager_model.specs.Tiles.{mappings, promotions_in, demotions_in}
 use Rattle.pager_model.specs.SpaceStates.{SpaceState, pages_of, space_after}
 use Rattle.pager_model.specs.SpaceStates.Next.{Anyone}
 use Rattle.pager_model.specs.Stores.{IsCopy}
-use Rattle.space_core.specs.Beginning.{SameRegions, GaveUp, Removes, Evicts, IsEvicting, copied_reply}
+use Rattle.space_core.specs.Beginning.{SameRegions, SameStore, GaveUp, Removes, Evicts, IsEvicting, copied_reply}
 use Rattle.space_core.specs.Pages.{Maps}
 use Rattle.space_core.specs.Standing.{Kept, StandsFor, IsResting, IsCopied, frame_at, dirty_at, is_in, is_settled, is_behind, is_unwired, word_at, word_in_copy}
 use Rattle.pager_model.specs.CallEntries.{give_entry}
@@ -72,8 +72,7 @@ pub record GivesFrame (old new : Kept) (page frame : ℕ) : Type 0 where
   pub retouched : Retouches old new
   pub resting : IsResting new
   pub same : SameRegions old new
-  pub store : new.store ≡ old.store
-  pub unread : new.reads ≡ old.reads
+  pub same_store : SameStore old new
 
 module _ (old new : Kept) (page frame : ℕ) (gives : GivesFrame old new page frame) where
   abbrev moves : Maps page None old.table new.table
@@ -86,8 +85,8 @@ module _ (old new : Kept) (page frame : ℕ) (gives : GivesFrame old new page fr
   whole = record {
     regions = gives.same.regions;
     rights = gives.same.rights;
-    tells = ap (λ (s : Stored). s.tells) gives.store;
-    faults = omega (arith, ap (λ (s : Stored). s.faults) gives.store);
+    tells = ap (λ (s : Stored). s.tells) gives.same_store.store;
+    faults = omega (arith, ap (λ (s : Stored). s.faults) gives.same_store.store);
   }
 
   this : (page == page) ≡ true
@@ -103,7 +102,7 @@ module _ (old new : Kept) (page frame : ℕ) (gives : GivesFrame old new page fr
   clean_after = maps_dirty page None old.table new.table moves page ∙ cond-true _ _ _ this
 
   pub gave_up : GaveUp old new page frame
-  gave_up = record { had = gives.had; same = gives.same; unread = gives.unread; gone = gone; same_others = frame_other }
+  gave_up = record { had = gives.had; same = gives.same; same_store = gives.same_store; gone = gone; same_others = frame_other }
 
   at_other : (p : ℕ) → p ≢ page → SameAt old new p
   at_other p n =
@@ -113,7 +112,7 @@ module _ (old new : Kept) (page frame : ℕ) (gives : GivesFrame old new page fr
         pending = ap (is_that p) resting.none_pending ∙ sym (gives.only.pending p n);
         paged = ap (is_that p) resting.none_paged ∙ sym (gives.only.paged p n);
         word = λ i _. moves.word p i n;
-        copy = λ _. ap (λ s. copy_at s p) gives.store;
+        copy = λ _. ap (λ s. copy_at s p) gives.same_store.store;
       }
 
   unsettled : is_settled new page ≡ false
@@ -125,7 +124,7 @@ module _ (old new : Kept) (page frame : ℕ) (gives : GivesFrame old new page fr
   -- the page without a frame has its copy's words, as before
   copied_after : IsCopied old page → IsCopied new page
   copied_after is =
-      let known = ap (λ s. copy_at s page) gives.store ∙ is.known in
+      let known = ap (λ s. copy_at s page) gives.same_store.store ∙ is.known in
       record { words = is.words; known = known; equal = λ i. cond-false _ _ _ unsettled ∙ ap (λ copy. word_in_copy copy i) known }
 
   -- what is said of the other pages is as before
@@ -154,7 +153,7 @@ module _ (old new : Kept) (page frame : ℕ) (gives : GivesFrame old new page fr
             words i ∙ was.words page i out ∙ is.equal i ∙ sym ((copied_after is).equal i);
         copies = λ told out _.
             let was = b.told (sym rest.told ∙ told) in
-            subst (λ (t : Stored). IsCopy (after.flat.copies page) (copy_at t page)) (sym gives.store)
+            subst (λ (t : Stored). IsCopy (after.flat.copies page) (copy_at t page)) (sym gives.same_store.store)
             (copies (sym rest.told ∙ told) (was.copied page out gives.unbehind) (λ i. was.words page i out));
         copied = λ told out _. copied_after ((b.told (sym rest.told ∙ told)).copied page out gives.unbehind);
         tied = λ i w tied is. absurd (true≢false (sym is ∙ unsettled));

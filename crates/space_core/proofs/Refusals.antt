@@ -101,6 +101,7 @@ begins_refused old c call r can resting refused alone asked =
       same_frames = refl;
       same_processors = refl;
       unread = refl;
+      unfailed = refl;
       resting = resting;
       answers = record {
         allowed = λ st s number. record {

@@ -141,6 +141,7 @@ module _ (old new : Kept) (first len : ℕ) (rights : Rights) (resting : IsResti
         same_frames = ap (λ (k : Kept). k.frames) gives.same;
         same_processors = turned_processors old new gives.turned;
         unread = ap (λ (k : Kept). k.reads) gives.same;
+        unfailed = ap (λ (k : Kept). k.store.faults) gives.same;
         resting = record {
           none_pending = ap (λ (k : Kept). k.pending) gives.same ∙ resting.none_pending;
           none_clearing = ap (λ (k : Kept). k.clearing) gives.same ∙ resting.none_clearing;

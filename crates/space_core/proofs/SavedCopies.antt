@@ -71,7 +71,7 @@ abbrev pub HasCopy : Kept → Stored → ℕ → Type 0
 HasCopy kept store page = (words : List ℕ) × (copy_at store page ≡ Some words) × ((i : ℕ) → word_at kept page i ≡ slice_index_or words i 0)
 
 -- A space whose store alone changed is seen the same but for the copies.
-module _ (old new : Kept) (only : new ≡ with_store old new.store) where
+module _ (old new : Kept) (only : new ≡ with_store old new) where
   pub store_resting : IsResting old → IsResting new
   store_resting r =
       record {
@@ -152,7 +152,7 @@ module _ (old : Kept) (resting : IsResting old) where
       let sets = wrote.2 in
       record {
         tells = sets.tells;
-        faults = saves.never_falls;
+        faults = omega (arith, saves.unfailed);
         others = λ tells p n. sets.copies tells p ∙ cond-false _ _ _ (ne_eqb p page n);
         copied = λ st s told. (
           wrote.0,
@@ -164,7 +164,7 @@ module _ (old : Kept) (resting : IsResting old) where
       let same : new.store ≡ old.store = ap (λ (k : Kept). k.store) (saves.left refl) in
       record {
         tells = ap (λ (s : Stored). s.tells) same;
-        faults = saves.never_falls;
+        faults = omega (arith, saves.unfailed);
         others = λ tells p n. ap (λ s. copy_at s p) same;
         copied = λ st s told.
             let is = (s.beside.told told).copied page (none_in old resting page) (ap (λ d. d && not (is_that page old.paged)) saves.was) in
@@ -348,13 +348,14 @@ module _ (old : Kept) (resting : IsResting old) where
         resting = store_resting old new lacks.same resting;
         same = store_frames old new lacks.same;
         unread = store_reads old new lacks.same;
-        stands = λ st s. same_stands old new st (store_whole old new lacks.same lacks.copies.tells lacks.never_falls)
+        unfailed = lacks.unfailed;
+        stands = λ st s. same_stands old new st (store_whole old new lacks.same lacks.copies.tells (omega (arith, lacks.unfailed)))
             (ap (λ (k : Kept). k.clearing) lacks.same) (λ p. store_at old new lacks.same p (λ tells. lacks.copies.copies tells p))
             (store_mapping old new lacks.same) (store_still old new lacks.same) s;
       }
 
 -- the moves and the images are those of what became of the pages from the space before its store changed
-retouches_from : (old mid new : Kept) → mid ≡ with_store old mid.store → Retouches mid new → Retouches old new
+retouches_from : (old mid new : Kept) → mid ≡ with_store old mid → Retouches mid new → Retouches old new
 retouches_from old mid new only r =
     let is = subst (λ (k : Kept). Retouches k new) only r in
     record { sizes = is.sizes; processors = is.processors; images = is.images; promotions = is.promotions; demotions = is.demotions }
@@ -423,6 +424,9 @@ module _ (old new : Kept) (page : ℕ) (written : Bool) (resting : IsResting old
   pub cleaned_reads : new.reads ≡ old.reads
   cleaned_reads = ap (λ (k : Kept). k.reads) cleans.same ∙ store_reads old mid saves.same
 
+  pub cleaned_faults : new.store.faults ≡ old.store.faults
+  cleaned_faults = ap (λ (k : Kept). k.store.faults) cleans.same ∙ saves.unfailed
+
   pub cleaned_out : (st : SpaceState) (c : ℕ) (next : Next) → StandsFor old st → StandsFor new (outed st c page next)
   cleaned_out st c next s =
       copied_out old resting new page
@@ -444,6 +448,7 @@ module _ (old new : Kept) (page : ℕ) (written : Bool) (resting : IsResting old
         resting = cleaned_resting;
         same = cleaned_same;
         unread = cleaned_reads;
+        unfailed = cleaned_faults;
         allowed = λ st s c. (
           resident_from st.base page _ (s.base page) resident,
           s.beside.dirty page (none_in old resting page)

@@ -200,7 +200,11 @@ module _ (old new : Kept) (page : ℕ) (m : Mapping) (resting : IsResting old) (
         same_clearing = ap (λ (k : Kept). k.clearing) placed.same;
         same_paged = ap (λ (k : Kept). k.paged) placed.same;
         same = placed_regions;
-        unread = ap (λ (k : Kept). k.reads) placed.same;
+        same_store = record {
+          store = ap (λ (k : Kept). k.store) placed.same;
+          unread = ap (λ (k : Kept). k.reads) placed.same;
+          unwritten = ap (λ (k : Kept). k.writes) placed.same;
+        };
         resident = frame_placed page ∙ cond-true _ _ _ this;
         same_others = frame_other;
         stands = λ st c want s. placed_stands st c want s;
@@ -494,7 +498,11 @@ module _ (old new : Kept) (c address : ℕ) (tile : Tile) (accesses : Accesses o
           served = refl;
           resting = touched_resting;
           same = record { same = changed_regions old new touched touched_own touches.processors; frame = λ p. (touched_at p).frame };
-          unread = ap (λ (k : Kept). k.reads) touches.same;
+          same_store = record {
+            store = ap (λ (k : Kept). k.store) touches.same;
+            unread = ap (λ (k : Kept). k.reads) touches.same;
+            unwritten = ap (λ (k : Kept). k.writes) touches.same;
+          };
           answers = record { allowed = load_allowed; stands = load_stands };
         }
 
@@ -658,7 +666,11 @@ module _ (old new : Kept) (c address word : ℕ) (stored : IsStored old new c ad
           same = changed_regions old new changes writes.same.own (used_processors old new c page stored.uses);
           frame = frame_stored;
         };
-        unread = ap (λ (k : Kept). k.reads) changes;
+        same_store = record {
+          store = ap (λ (k : Kept). k.store) changes;
+          unread = ap (λ (k : Kept). k.reads) changes;
+          unwritten = ap (λ (k : Kept). k.writes) changes;
+        };
         answers = record { allowed = store_allowed; stands = store_stands };
       }
 

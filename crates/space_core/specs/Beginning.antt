@@ -1,4 +1,5 @@
--- What the calls of a space promise, for every state that the space stands for. None but a read of the pending page's copy reads the store.
+-- What the calls of a space promise, for every state that the space stands for. None but a read of the pending page's copy reads the store, and how
+-- often it is written is a clause of each call that may write it.
 use Rattle.std.specs.Prelude.{ℕ, ◌≡◌, ◌≢◌, ◌+◌, ◌<◌, ◌≤◌, Bool, true, false, if◌then◌else◌, length, Some, None, IfSome}
 use Rattle.pager_model.specs.declared.call.Call.{Call}
 use Rattle.pager_model.specs.declared.call.Call.TheVariants.{Unmap, Evict}
@@ -44,10 +45,20 @@ pub record SameFrames (old new : Kept) : Type 0 where
   pub same : SameRegions old new
   pub frame : (page : ℕ) → frame_at new page ≡ frame_at old page
 
+-- The store is as it was, and was neither read nor written.
+pub record SameStore (old new : Kept) : Type 0 where
+  pub store : new.store ≡ old.store
+  pub unread : new.reads ≡ old.reads
+  pub unwritten : new.writes ≡ old.writes
+
 -- There was no memory to write the copy of the page: the page is dirty, and the store doesn't keep it.
 pub record LacksMemory (kept : Kept) (page : ℕ) : Type 0 where
   pub dirty : dirty_at kept page ≡ true
   pub unkept : keeps_at kept.store page ≡ false
+
+-- it was so of the page that a call is to copy
+abbrev pub LacksItsMemory : Kept → Call → Type 0
+LacksItsMemory kept call = (page : ℕ) × (copied_page call ≡ Some page) × LacksMemory kept page
 
 -- The call is answered at once, with its effect, by an answer that needs no other entry before it.
 pub record BeginsAnswered (old new : Kept) (c : ℕ) (call : Call) (a : Answered) : Type 0 where
@@ -56,9 +67,10 @@ pub record BeginsAnswered (old new : Kept) (c : ℕ) (call : Call) (a : Answered
   pub same_frames : new.frames ≡ old.frames
   pub same_processors : length new.images ≡ length old.images
   pub unread : new.reads ≡ old.reads
+  pub unfailed : new.store.faults ≡ old.store.faults
   pub resting : IsResting new
   pub answers : Answers old new c call a
-  pub memory : a.reply ≡ NoMemory → (page : ℕ) × (copied_page call ≡ Some page) × LacksMemory old page
+  pub memory : a.reply ≡ NoMemory → LacksItsMemory old call
 
 -- The call is a lawful load or store at a page that isn't resident, with its region's want.
 pub record NeedsItsFrame (kept : Kept) (call : Call) (page : ℕ) (want : Want) : Type 0 where
@@ -124,6 +136,7 @@ pub record BeginsEvicting (old new : Kept) (call : Call) (page : ℕ) : Type 0 w
   pub evicting : IsEvicting new page
   pub same : SameFrames old new
   pub unread : new.reads ≡ old.reads
+  pub unfailed : new.store.faults ≡ old.store.faults
   pub stands : (st : SpaceState) → StandsFor old st → StandsFor new st
 
 -- The write of a page's copy failed: the page stays dirty and resident, the store's count rose, and the space stands for the failure.
@@ -156,7 +169,7 @@ pub record Places (old new : Kept) (page frame : ℕ) : Type 0 where
   pub same_clearing : new.clearing ≡ old.clearing
   pub same_paged : new.paged ≡ old.paged
   pub same : SameRegions old new
-  pub unread : new.reads ≡ old.reads
+  pub same_store : SameStore old new
   pub resident : frame_at new page ≡ Some frame
   pub same_others : (p : ℕ) → p ≢ page → frame_at new p ≡ frame_at old p
   pub stands : (st : SpaceState) (c : ℕ) (want : Want) → StandsFor old st
@@ -169,6 +182,8 @@ pub record ReadsIn (old new : Kept) : Type 0 where
   pub same_paged : new.paged ≡ old.paged
   pub same : SameFrames old new
   pub read_once : new.reads ≡ one_more old.reads
+  pub unwritten : new.writes ≡ old.writes
+  pub unfailed : new.store.faults ≡ old.store.faults
   pub stands : (st : SpaceState) → StandsFor old st → StandsFor new st
 
 -- The one read of the pending page's copy failed: the page stays pending and clean, the store's count of faults rose, and the space stands
@@ -182,6 +197,7 @@ pub record FailsToRead (old new : Kept) (page count : ℕ) : Type 0 where
   pub same_paged : new.paged ≡ old.paged
   pub same : SameFrames old new
   pub read_once : new.reads ≡ one_more old.reads
+  pub unwritten : new.writes ≡ old.writes
   pub allowed : (st : SpaceState) → StandsFor old st → (c : ℕ) → WhatAllowed st false c (Failed page false count)
   pub stands : (st : SpaceState) → StandsFor old st → (c : ℕ) → StandsFor new (space_after st (failed_entry c old.number page false count))
 
@@ -190,7 +206,7 @@ pub record Finishes (old new : Kept) (c : ℕ) (call : Call) (a : Answered) : Ty
   pub served : is_served a.reply ≡ true
   pub resting : IsResting new
   pub same : SameFrames old new
-  pub unread : new.reads ≡ old.reads
+  pub same_store : SameStore old new
   pub answers : Answers old new c call a
 
 -- The page is equal to its copy, which was written where the page was dirty, and is clean, and the space stands for one paging out more.
@@ -200,6 +216,7 @@ pub record WritesOut (old new : Kept) (page : ℕ) (written : Bool) : Type 0 whe
   pub resting : IsResting new
   pub same : SameFrames old new
   pub unread : new.reads ≡ old.reads
+  pub unfailed : new.store.faults ≡ old.store.faults
   pub allowed : (st : SpaceState) → StandsFor old st → (c : ℕ) → WhatAllowed st false c (Out page written)
   pub stands : (st : SpaceState) → StandsFor old st → (c : ℕ) → StandsFor new (space_after st (out_entry c old.number page written))
 
@@ -210,13 +227,14 @@ pub record LeavesUnwritten (old new : Kept) (page : ℕ) : Type 0 where
   pub resting : IsResting new
   pub same : SameFrames old new
   pub unread : new.reads ≡ old.reads
+  pub unfailed : new.store.faults ≡ old.store.faults
   pub stands : (st : SpaceState) → StandsFor old st → StandsFor new st
 
 -- The page gave this frame up, and every other page keeps its own.
 pub record GaveUp (old new : Kept) (page frame : ℕ) : Type 0 where
   pub had : frame_at old page ≡ Some frame
   pub same : SameRegions old new
-  pub unread : new.reads ≡ old.reads
+  pub same_store : SameStore old new
   pub gone : frame_at new page ≡ None
   pub same_others : (p : ℕ) → p ≢ page → frame_at new p ≡ frame_at old p
 
@@ -260,7 +278,7 @@ pub record ClearsNone (old new : Kept) (first len : ℕ) : Type 0 where
   pub same_pending : new.pending ≡ old.pending
   pub same_paged : new.paged ≡ old.paged
   pub same : SameFrames old new
-  pub unread : new.reads ≡ old.reads
+  pub same_store : SameStore old new
   pub stands : (st : SpaceState) (c : ℕ) → StandsBut first len old st → StandsFor new (space_after st (clear_entry c old.number first len))
 
 -- The region whose range was cleared is gone, in each state in which its clearing was the last entry and this processor's.
@@ -270,6 +288,8 @@ pub record Unmapped (old new : Kept) (page : ℕ) (a : Answered) : Type 0 where
   pub same_frames : new.frames ≡ old.frames
   pub same_processors : length new.images ≡ length old.images
   pub unread : new.reads ≡ old.reads
+  pub unwritten : new.writes ≡ old.writes
+  pub unfailed : new.store.faults ≡ old.store.faults
   pub resting : IsResting new
   pub allowed : (st : SpaceState) → StandsFor old st → (c number : ℕ) (r : Region) → region_at old.regions page ≡ Some r
       → st.next ≡ AfterClear c r.first r.length → WhatAllowed st false c (Answer number (Unmap old.number page) a)

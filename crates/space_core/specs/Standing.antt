@@ -15,6 +15,7 @@ use Rattle.pager_model.specs.TraceText.{IsCall}
 use Rattle.pager_model.specs.Stored.{Stored, copy_at}
 use Rattle.pager_model.specs.Stores.{IsCopy}
 use Rattle.space_core.specs.Tables.{Table, mapping_in, frame_in, word_in, own_in, dirty_in}
+use Rattle.store_core.specs.MemoryState.{one_more}
 use Rattle.tiles.specs.Sized.{large_tiles_meeting_in}
 
 pub record Kept : Type 0 where
@@ -35,6 +36,8 @@ pub record Kept : Type 0 where
   pub store : Stored
   -- how often that store was read
   pub reads : ℕ
+  -- how often a copy was written to it, or was to be
+  pub writes : ℕ
   -- of each processor its image: the tiles that it used last
   pub images : List (List Tile)
   -- how many extents became tiles that lay in none, and how many tiles were broken; each stands still at its type's end
@@ -182,6 +185,19 @@ pub record MustWrite (kept : Kept) (call : Call) (page : ℕ) : Type 0 where
   pub is : copied_page call ≡ Some page
   pub may : may_copy call (region_at kept.regions page) ≡ true
   pub dirty : dirty_at kept page ≡ true
+
+-- a call that copies this page is lawful, and the page is dirty
+abbrev pub must_copy : Kept → Call → Option ℕ → Bool
+must_copy kept call None = false
+must_copy kept call (Some page) = may_copy call (region_at kept.regions page) && dirty_at kept page
+
+-- the call is a lawful sync or evict of a dirty page: the one whose copy is written
+abbrev pub must_write : Kept → Call → Bool
+must_write kept call = must_copy kept call (copied_page call)
+
+-- a count with one more where it is so, and else as it was
+abbrev pub one_more_if : Bool → ℕ → ℕ
+one_more_if more count = if more then one_more count else count
 
 -- the calls that a space can begin: those that a line of a trace may hold
 abbrev pub CanBegin : Call → Type 0

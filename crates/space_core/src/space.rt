@@ -11,7 +11,7 @@ ghost use Rattle.space_core.specs.Beginning.{Begins, Finds, IsMappedBy, NeedsIts
 ghost use Rattle.space_core.specs.Beginning.{NoneResident, ClearsOne, ClearsNone, Unmapped};
 ghost use Rattle.space_core.specs.Pages.{Maps};
 ghost use Rattle.space_core.specs.Saving.{Saves, FailsToSave, LacksRoom, unwritten_by};
-ghost use Rattle.space_core.specs.Standing.{Kept, StandsFor, IsResting, range_of, frame_at, dirty_at, image_at, is_allowed, CanBegin};
+ghost use Rattle.space_core.specs.Standing.{Kept, StandsFor, IsResting, range_of, frame_at, dirty_at, image_at, is_allowed, must_write, one_more_if, CanBegin};
 ghost use Rattle.space_core.specs.Tables.{mapping_in, own_in};
 ghost use Rattle.space_core.specs.Translating.{counted_up, untouched_tiles, Retouches, ChangesPages, CleansPage, Touches, BeginsClear};
 ghost use Rattle.pager_model.specs.Bounds.{space_bytes, space_pages, most_spaces};
@@ -105,6 +105,7 @@ impl<S: Store + Send + Drop> Model for Space<S> {
       paged = s.paged;
       store = S.seen s.store;
       reads = S.reads s.store;
+      writes = S.writes s.store;
       images = s.images;
       promotions = s.promotions;
       demotions = s.demotions;
@@ -120,6 +121,7 @@ impl<S: Store + Send + Drop> Space<S> {
         requires few { number < most_spaces }
         ensures made { (result.number ≡ number) × (result.frames ≡ room.frames) × (length result.images ≡ room.processors) × (result.store ≡ S.seen store) × IsResting result }
         ensures unread { result.reads ≡ S.reads store }
+        ensures unwritten { result.writes ≡ S.writes store }
         ensures stands { (told : Bool) → (told ≡ true → TellsZero result.store) → StandsFor result (empty_state room.sizes told result.store.faults) }
     {
         let (table, images) = room.into_parts();
@@ -147,13 +149,15 @@ impl<S: Store + Send + Drop> Space<S> {
         self.number
     }
 
-    /// Begins a processor's call on this space: the whole answer, or what it needs first.
+    /// Begins a processor's call on this space: the whole answer, or what it needs first. The store is written once where the call is a lawful
+    /// sync or evict of a dirty page, and else not.
     pub fn begin(&mut self, processor: u32, call: &Call) -> Begun
         requires processor { processor < length self.old.images }
         requires space { space_of_call call.now ≡ self.old.number }
         requires resting { IsResting self.old }
         requires can { CanBegin call.now }
-        ensures { Begins self.old self.new processor call.now result }
+        ensures begins { Begins self.old self.new processor call.now result }
+        ensures writes { self.new.writes ≡ one_more_if (must_write self.old call.now) self.old.writes }
     {
         match *call {
             Call::Map {
@@ -253,13 +257,14 @@ impl<S: Store + Send + Drop> Space<S> {
         }
     }
 
-    /// Makes a resident page equal to its copy, and tells whether it was dirty and its copy was written.
+    /// Makes a resident page equal to its copy, and tells whether it was dirty and its copy was written, once.
     pub fn write_out(&mut self, page: u32) -> Result<bool, OutFault>
         requires resting { IsResting self.old }
         requires resident { frame_at self.old page ≢ None }
         ensures written { IfOk result (λ written. WritesOut self.old self.new page written) }
         ensures failed { (count : ℕ) → result ≡ Err (OutFault.Failed count) → FailsToWrite self.old self.new page count }
         ensures no_memory { result ≡ Err OutFault.NoMemory → LeavesUnwritten self.old self.new page }
+        ensures writes { self.new.writes ≡ one_more_if (dirty_at self.old page) self.old.writes }
     {
         self.copy_out(page)
     }
@@ -352,7 +357,8 @@ impl<S: Store + Send + Drop> Space<S> {
     fn begin_map(&mut self, page: u32, length: u32, kind: Kind, rights: Rights) -> Begun
         requires resting { IsResting self.old }
         requires can { CanBegin (Call.Map self.old.number page length kind rights) }
-        ensures { (c : ℕ) → Begins self.old self.new c (Call.Map self.old.number page length kind rights) result }
+        ensures begins { (c : ℕ) → Begins self.old self.new c (Call.Map self.old.number page length kind rights) result }
+        ensures unwritten { self.new.writes ≡ self.old.writes }
     {
         match self.regions.map(page, length, kind, rights) {
             Ok(()) => Begun::Answered(answered(Reply::Done)),
@@ -364,7 +370,8 @@ impl<S: Store + Send + Drop> Space<S> {
     fn begin_grow(&mut self, page: u32, by: u32) -> Begun
         requires resting { IsResting self.old }
         requires can { CanBegin (Call.Grow self.old.number page by) }
-        ensures { (c : ℕ) → Begins self.old self.new c (Call.Grow self.old.number page by) result }
+        ensures begins { (c : ℕ) → Begins self.old self.new c (Call.Grow self.old.number page by) result }
+        ensures unwritten { self.new.writes ≡ self.old.writes }
     {
         match self.regions.grow(page, by) {
             Ok(()) => Begun::Answered(answered(Reply::Done)),
@@ -376,7 +383,8 @@ impl<S: Store + Send + Drop> Space<S> {
     fn begin_unmap(&mut self, page: u32) -> Begun
         requires resting { IsResting self.old }
         requires can { CanBegin (Call.Unmap self.old.number page) }
-        ensures { (c : ℕ) → Begins self.old self.new c (Call.Unmap self.old.number page) result }
+        ensures begins { (c : ℕ) → Begins self.old self.new c (Call.Unmap self.old.number page) result }
+        ensures unwritten { self.new.writes ≡ self.old.writes }
     {
         match self.regions.find(page) {
             Some(region) => Begun::NeedsClear {
@@ -391,7 +399,8 @@ impl<S: Store + Send + Drop> Space<S> {
     fn begin_protect(&mut self, page: u32, length: u32, rights: Rights) -> Begun
         requires resting { IsResting self.old }
         requires can { CanBegin (Call.Protect self.old.number page length rights) }
-        ensures { (c : ℕ) → Begins self.old self.new c (Call.Protect self.old.number page length rights) result }
+        ensures begins { (c : ℕ) → Begins self.old self.new c (Call.Protect self.old.number page length rights) result }
+        ensures unwritten { self.new.writes ≡ self.old.writes }
     {
         let Some(region) = self.regions.find(page) else {
             return Begun::Answered(answered(Reply::Unmapped));
@@ -411,7 +420,8 @@ impl<S: Store + Send + Drop> Space<S> {
         requires resting { IsResting self.old }
         requires can { CanBegin call.now }
         requires access { is_access call.now ≡ true }
-        ensures { Begins self.old self.new processor call.now result }
+        ensures begins { Begins self.old self.new processor call.now result }
+        ensures unwritten { self.new.writes ≡ self.old.writes }
     {
         let Some(page) = accessed_page(call) else {
             unreachable!()
@@ -460,7 +470,8 @@ impl<S: Store + Send + Drop> Space<S> {
     fn begin_sync(&mut self, page: u32) -> Begun
         requires resting { IsResting self.old }
         requires can { CanBegin (Call.Sync self.old.number page) }
-        ensures { (c : ℕ) → Begins self.old self.new c (Call.Sync self.old.number page) result }
+        ensures begins { (c : ℕ) → Begins self.old self.new c (Call.Sync self.old.number page) result }
+        ensures writes { self.new.writes ≡ one_more_if (must_write self.old (Call.Sync self.old.number page)) self.old.writes }
     {
         if self.regions.find(page).is_none() {
             return Begun::Answered(answered(Reply::Unmapped));
@@ -475,7 +486,8 @@ impl<S: Store + Send + Drop> Space<S> {
     fn begin_evict(&mut self, page: u32) -> Begun
         requires resting { IsResting self.old }
         requires can { CanBegin (Call.Evict self.old.number page) }
-        ensures { (c : ℕ) → Begins self.old self.new c (Call.Evict self.old.number page) result }
+        ensures begins { (c : ℕ) → Begins self.old self.new c (Call.Evict self.old.number page) result }
+        ensures writes { self.new.writes ≡ one_more_if (must_write self.old (Call.Evict self.old.number page)) self.old.writes }
     {
         let Some(region) = self.regions.find(page) else {
             return Begun::Answered(answered(Reply::Unmapped));
@@ -500,6 +512,7 @@ impl<S: Store + Send + Drop> Space<S> {
         ensures copied { IfOk result (λ written. (saved : Kept) × Saves self.old saved page written × CleansPage saved self.new page) }
         ensures failed { (count : ℕ) → result ≡ Err (OutFault.Failed count) → FailsToSave self.old self.new page count }
         ensures no_memory { result ≡ Err OutFault.NoMemory → LacksRoom self.old self.new page }
+        ensures writes { self.new.writes ≡ one_more_if (dirty_at self.old page) self.old.writes }
     {
         let Some(mapping) = self.table.mapping(page) else {
             return Ok(false);
@@ -519,6 +532,7 @@ impl<S: Store + Send + Drop> Space<S> {
         ensures saved { IfOk result (λ written. Saves self.old self.new page written) }
         ensures failed { (count : ℕ) → result ≡ Err (OutFault.Failed count) → FailsToSave self.old self.new page count }
         ensures no_memory { result ≡ Err OutFault.NoMemory → LacksRoom self.old self.new page }
+        ensures writes { self.new.writes ≡ one_more_if (dirty_at self.old page) self.old.writes }
     {
         if !mapping.dirty {
             return Ok(false);

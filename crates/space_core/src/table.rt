@@ -208,6 +208,8 @@ impl PageTable {
             → copy_at (S.seen store.old) page ≡ Some words → HasWords self.new page words) }
         ensures same { SameCopies (S.seen store.old) (S.seen store.new) }
         ensures counted { S.reads store.new ≡ one_more (S.reads store.old) }
+        ensures unwritten { S.writes store.new ≡ S.writes store.old }
+        ensures unfailed { IfOk result (λ _. (S.seen store.new).faults ≡ (S.seen store.old).faults) }
         ensures rose { OnErr result (Rises (S.seen store.old).faults (S.seen store.new).faults) }
         ensures never_falls { (S.seen store.old).faults ≤ (S.seen store.new).faults }
     {
@@ -219,7 +221,7 @@ impl PageTable {
         Ok(())
     }
 
-    /// Writes the words of the page that has the frame of this number to its copy in the store.
+    /// Writes the words of the page that has the frame of this number to its copy in the store, once.
     pub fn write_copy<S: Store>(
         &self,
         page: u32,
@@ -232,8 +234,11 @@ impl PageTable {
         ensures failed { result ≡ Err WriteRefused.Failed
             → SetsCopy page None (S.seen store.old) (S.seen store.new) × Rises (S.seen store.old).faults (S.seen store.new).faults }
         ensures no_memory { result ≡ Err WriteRefused.NoMemory
-            → (keeps_at (S.seen store.old) page ≡ false) × SameCopies (S.seen store.old) (S.seen store.new) }
+            → (keeps_at (S.seen store.old) page ≡ false) × SameCopies (S.seen store.old) (S.seen store.new)
+            × ((S.seen store.new).faults ≡ (S.seen store.old).faults) }
+        ensures counted { S.writes store.new ≡ one_more (S.writes store.old) }
         ensures unread { S.reads store.new ≡ S.reads store.old }
+        ensures unfailed { IfOk result (λ _. (S.seen store.new).faults ≡ (S.seen store.old).faults) }
         ensures never_falls { (S.seen store.old).faults ≤ (S.seen store.new).faults }
     {
         let Some(frame) = &self.frames[number as usize] else {

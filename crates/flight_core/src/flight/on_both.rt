@@ -5,12 +5,12 @@ ghost use Rattle.pager_model.specs.declared.entry.Victim.{Victim};
 ghost use Rattle.pager_model.specs.Agreement.{OwnsBy};
 ghost use Rattle.pager_model.specs.FrameStates.{counted, give_page};
 ghost use Rattle.pager_model.specs.SpaceStates.{SpaceState};
-ghost use Rattle.space_core.specs.Beginning.{Removes};
+ghost use Rattle.space_core.specs.Beginning.{Removes, SameStore};
 ghost use Rattle.space_core.specs.Standing.{dirty_at, frame_at};
 ghost use Rattle.pager_model.specs.CallEntries.{give_entry};
 ghost use Rattle.flight_core.specs.Flights.{IsReady};
 ghost use Rattle.flight_core.specs.Rows.{row_of};
-ghost use Rattle.flight_core.specs.Steps.{AreAgreed, Makes};
+ghost use Rattle.flight_core.specs.Steps.{AreAgreed, Makes, RowMakes};
 
 use super::{Flight, Phase};
 use frame_pool::{Full, Pool};
@@ -31,6 +31,8 @@ impl Flight {
         requires agree { AreAgreed space.old pool.old }
         requires room { pool.old.entries < 2 ^ 45 }
         ensures entry { (st : SpaceState) → IsReady self.old space.old st → Makes self.old self.new space.old space.new st pool.old pool.new result }
+        ensures row { RowMakes self.old.purpose self.old.phase result.what self.new.phase }
+        ensures same_store { SameStore space.old space.new }
         ensures nearer { (row_of self.new).steps < (row_of self.old).steps }
     {
         let (frame, answered) = space.evict(page);
@@ -54,6 +56,8 @@ impl Flight {
         requires agree { AreAgreed space.old pool.old }
         requires room { pool.old.entries < 2 ^ 45 }
         ensures entry { (st : SpaceState) → IsReady self.old space.old st → Makes self.old self.new space.old space.new st pool.old pool.new result }
+        ensures row { RowMakes self.old.purpose self.old.phase result.what self.new.phase }
+        ensures same_store { SameStore space.old space.new }
         ensures nearer { (row_of self.new).steps < (row_of self.old).steps }
     {
         let own = self.own();
@@ -81,6 +85,8 @@ impl Flight {
         requires known { self.old.processor < length pool.old.held }
         requires room { pool.old.entries < 2 ^ 45 }
         ensures entry { (st : SpaceState) → IsReady self.old space.old st → Makes self.old self.new space.old space.new st pool.old pool.new result }
+        ensures row { RowMakes self.old.purpose self.old.phase result.what self.new.phase }
+        ensures same_store { SameStore space.old space.new }
         ensures nearer { (row_of self.new).steps < (row_of self.old).steps }
     {
         let own = space.number();
@@ -108,6 +114,8 @@ impl Flight {
         requires agree { AreAgreed space.old pool.old }
         requires room { pool.old.entries < 2 ^ 45 }
         ensures entry { (st : SpaceState) → IsReady self.old space.old st → Makes self.old self.new space.old space.new st pool.old pool.new result }
+        ensures row { RowMakes self.old.purpose self.old.phase result.what self.new.phase }
+        ensures same_store { SameStore space.old space.new }
         ensures nearer { (row_of self.new).steps < (row_of self.old).steps }
     {
         let own = self.own();
@@ -128,6 +136,8 @@ impl Flight {
         requires agree { AreAgreed space.old pool.old }
         requires room { pool.old.entries < 2 ^ 45 }
         ensures entry { (st : SpaceState) → IsReady self.old space.old st → Makes self.old self.new space.old space.new st pool.old pool.new result }
+        ensures row { RowMakes self.old.purpose self.old.phase result.what self.new.phase }
+        ensures same_store { SameStore space.old space.new }
         ensures nearer { (row_of self.new).steps < (row_of self.old).steps }
     {
         let entry = self.give_up(space, pool, victim.space, victim.page);
@@ -149,6 +159,8 @@ impl Flight {
         requires owns { OwnsBy pool.old self.old.processor (row_of self.old).progress.doing }
         requires room { pool.old.entries < 2 ^ 45 }
         ensures entry { (st : SpaceState) → IsReady self.old space.old st → Makes self.old self.new space.old space.new st pool.old pool.new result }
+        ensures row { RowMakes self.old.purpose self.old.phase result.what self.new.phase }
+        ensures same_store { SameStore space.old space.new }
         ensures nearer { (row_of self.new).steps < (row_of self.old).steps }
     {
         let own = space.number();

@@ -9,7 +9,7 @@ ghost use Rattle.pager_model.specs.SpaceStates.{SpaceState};
 ghost use Rattle.space_core.specs.Standing.{Kept};
 ghost use Rattle.flight_core.specs.Flights.{Fits, IsReady};
 ghost use Rattle.flight_core.specs.Rows.{evictions_in, given_up, is_of_call, mark_in, row_of};
-ghost use Rattle.flight_core.specs.Steps.{AreAgreed, Makes, MakesOnFrames, Passes};
+ghost use Rattle.flight_core.specs.Steps.{AreAgreed, Makes, MakesOnFrames, Passes, RowMakes, RowPasses};
 
 use super::{Flight, Phase, Purpose};
 use frame_pool::{Collected, Pool};
@@ -25,6 +25,7 @@ impl Flight {
         requires known { self.old.processor < length pool.old.held }
         requires room { pool.old.entries < 2 ^ 45 }
         ensures entry { (kept : Kept) (st : SpaceState) → IsReady self.old kept st → AreAgreed kept pool.old → Makes self.old self.new kept kept st pool.old pool.new result }
+        ensures row { RowMakes self.old.purpose self.old.phase result.what self.new.phase }
         ensures nearer { (row_of self.new).steps < (row_of self.old).steps }
     {
         match pool.claim(self.processor) {
@@ -73,6 +74,8 @@ impl Flight {
         requires room { pool.old.entries < 2 ^ 45 }
         ensures entry { IfSome result (λ e. (kept : Kept) (st : SpaceState) → IsReady self.old kept st → AreAgreed kept pool.old → Makes self.old self.new kept kept st pool.old pool.new e) }
         ensures none { IfNone result ((pool.new ≡ pool.old) × ((kept : Kept) (st : SpaceState) → IsReady self.old kept st → AreAgreed kept pool.old → Passes self.old self.new kept kept st)) }
+        ensures row { IfSome result (λ e. RowMakes self.old.purpose self.old.phase e.what self.new.phase) }
+        ensures row_passed { IfNone result (RowPasses self.old.phase self.new.phase) }
         ensures nearer { (row_of self.new).steps < (row_of self.old).steps }
     {
         match pool.collect(self.processor) {
@@ -96,6 +99,7 @@ impl Flight {
         requires owns { OwnsBy pool.old self.old.processor (row_of self.old).progress.doing }
         requires room { pool.old.entries < 2 ^ 45 }
         ensures entry { (kept : Kept) (st : SpaceState) → IsReady self.old kept st → AreAgreed kept pool.old → Makes self.old self.new kept kept st pool.old pool.new result }
+        ensures row { RowMakes self.old.purpose self.old.phase result.what self.new.phase }
         ensures nearer { (row_of self.new).steps < (row_of self.old).steps }
     {
         let frame = pool.unclaim(self.processor);
@@ -105,10 +109,12 @@ impl Flight {
 
     /// A call lets the frame that it holds go free.
     pub(super) fn drop_held(&mut self, pool: &mut Pool) -> Entry
+        requires of_call { is_of_call self.old.purpose ≡ true }
         requires phase { (victim : Victim) × (self.old.phase ≡ Phase.Drop victim) }
         requires owns { OwnsBy pool.old self.old.processor (row_of self.old).progress.doing }
         requires room { pool.old.entries < 2 ^ 45 }
         ensures entry { (kept : Kept) (st : SpaceState) → IsReady self.old kept st → Makes self.old self.new kept kept st pool.old pool.new result }
+        ensures row { RowMakes self.old.purpose self.old.phase result.what self.new.phase }
         ensures nearer { (row_of self.new).steps < (row_of self.old).steps }
     {
         let frame = pool.drop_held(self.processor);
@@ -125,6 +131,7 @@ impl Flight {
         requires known { self.old.processor < length pool.old.held }
         requires room { pool.old.entries < 2 ^ 45 }
         ensures entry { MakesOnFrames self.old self.new pool.old pool.new result }
+        ensures row { RowMakes self.old.purpose self.old.phase result.what self.new.phase }
         ensures nearer { (row_of self.new).steps < (row_of self.old).steps }
     {
         let short = pool.is_short(mark) && pool.has_victim();
@@ -148,6 +155,7 @@ impl Flight {
         requires known { self.old.processor < length pool.old.held }
         requires room { pool.old.entries < 2 ^ 45 }
         ensures entry { MakesOnFrames self.old self.new pool.old pool.new result }
+        ensures row { RowMakes self.old.purpose self.old.phase result.what self.new.phase }
         ensures nearer { (row_of self.new).steps < (row_of self.old).steps }
     {
         let Ok(victim) = pool.claim(self.processor) else {
@@ -174,6 +182,7 @@ impl Flight {
         requires owns { OwnsBy pool.old self.old.processor (row_of self.old).progress.doing }
         requires room { pool.old.entries < 2 ^ 45 }
         ensures entry { MakesOnFrames self.old self.new pool.old pool.new result }
+        ensures row { RowMakes self.old.purpose self.old.phase result.what self.new.phase }
         ensures nearer { (row_of self.new).steps < (row_of self.old).steps }
     {
         let frame = pool.drop_held(self.processor);

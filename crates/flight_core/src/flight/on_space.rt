@@ -3,10 +3,11 @@
 ghost use Rattle.std.specs.Prelude.{◌≡◌, ℕ, ◌<◌, true, None, IfSome, IfNone, length};
 ghost use Rattle.pager_model.specs.FrameStates.{FrameState};
 ghost use Rattle.pager_model.specs.SpaceStates.{SpaceState};
-ghost use Rattle.space_core.specs.Standing.{Kept};
+ghost use Rattle.space_core.specs.Beginning.{LacksItsMemory};
+ghost use Rattle.space_core.specs.Standing.{Kept, one_more_if};
 ghost use Rattle.flight_core.specs.Flights.{IsReady};
-ghost use Rattle.flight_core.specs.Rows.{is_of_call, row_of};
-ghost use Rattle.flight_core.specs.Steps.{Makes, Passes, Refuses};
+ghost use Rattle.flight_core.specs.Rows.{call_in, is_of_call, row_of};
+ghost use Rattle.flight_core.specs.Steps.{Makes, Passes, Refuses, RowMakes, RowPasses, reads_at, writes_at, FaultsTold};
 
 use super::{Flight, Phase};
 use pager_model::{Answered, Call, Entry, Reply, Victim, What};
@@ -21,6 +22,13 @@ impl Flight {
         requires ready { (st : SpaceState) × IsReady self.old space.old st }
         ensures entry { IfSome result (λ e. (st : SpaceState) (frames : FrameState) → IsReady self.old space.old st → Makes self.old self.new space.old space.new st frames frames e) }
         ensures none { IfNone result ((st : SpaceState) → IsReady self.old space.old st → Passes self.old self.new space.old space.new st) }
+        ensures row { IfSome result (λ e. RowMakes self.old.purpose self.old.phase e.what self.new.phase) }
+        ensures row_passed { IfNone result (RowPasses self.old.phase self.new.phase) }
+        ensures reads { space.new.reads ≡ one_more_if (reads_at self.old.phase) space.old.reads }
+        ensures writes { space.new.writes ≡ one_more_if (writes_at space.old (call_in self.old.purpose) self.old.phase) space.old.writes }
+        ensures faults { IfSome result (λ e. FaultsTold space.old.store.faults space.new.store.faults e.what) }
+        ensures unfailed { IfNone result (space.new.store.faults ≡ space.old.store.faults) }
+        ensures memory { self.new.phase ≡ Phase.Ended Reply.NoMemory → LacksItsMemory space.old (call_in self.old.purpose) }
         ensures nearer { (row_of self.new).steps < (row_of self.old).steps }
     {
         let call = self.call();
@@ -64,6 +72,8 @@ impl Flight {
         requires phase { self.old.phase ≡ Phase.Back victim }
         requires ready { (st : SpaceState) × IsReady self.old space.old st }
         ensures none { (result ≡ None) × ((st : SpaceState) → IsReady self.old space.old st → Passes self.old self.new space.old space.new st) }
+        ensures row { RowPasses self.old.phase self.new.phase }
+        ensures same { space.new ≡ space.old }
         ensures nearer { (row_of self.new).steps < (row_of self.old).steps }
     {
         self.phase = match space.wants(&self.call()) {
@@ -83,6 +93,12 @@ impl Flight {
         requires ready { (st : SpaceState) × IsReady self.old space.old st }
         ensures entry { IfSome result (λ e. (st : SpaceState) (frames : FrameState) → IsReady self.old space.old st → Makes self.old self.new space.old space.new st frames frames e) }
         ensures none { IfNone result ((st : SpaceState) → IsReady self.old space.old st → Passes self.old self.new space.old space.new st) }
+        ensures row { IfSome result (λ e. RowMakes self.old.purpose self.old.phase e.what self.new.phase) }
+        ensures row_passed { IfNone result (RowPasses self.old.phase self.new.phase) }
+        ensures reads { space.new.reads ≡ one_more_if (reads_at self.old.phase) space.old.reads }
+        ensures writes { space.new.writes ≡ one_more_if (writes_at space.old (call_in self.old.purpose) self.old.phase) space.old.writes }
+        ensures faults { IfSome result (λ e. FaultsTold space.old.store.faults space.new.store.faults e.what) }
+        ensures unfailed { IfNone result (space.new.store.faults ≡ space.old.store.faults) }
         ensures nearer { (row_of self.new).steps < (row_of self.old).steps }
     {
         let page = victim.page;
@@ -122,6 +138,10 @@ impl Flight {
         requires phase { (first len : ℕ) × (self.old.phase ≡ Phase.Gone first len) }
         requires ready { (st : SpaceState) × IsReady self.old space.old st }
         ensures entry { (st : SpaceState) (frames : FrameState) → IsReady self.old space.old st → Makes self.old self.new space.old space.new st frames frames result }
+        ensures row { RowMakes self.old.purpose self.old.phase result.what self.new.phase }
+        ensures reads { space.new.reads ≡ one_more_if (reads_at self.old.phase) space.old.reads }
+        ensures writes { space.new.writes ≡ one_more_if (writes_at space.old (call_in self.old.purpose) self.old.phase) space.old.writes }
+        ensures faults { FaultsTold space.old.store.faults space.new.store.faults result.what }
         ensures nearer { (row_of self.new).steps < (row_of self.old).steps }
     {
         let Call::Unmap { page, .. } = self.call() else {
@@ -142,6 +162,10 @@ impl Flight {
         requires image { self.old.processor < length space.old.images }
         requires ready { (st : SpaceState) × IsReady self.old space.old st }
         ensures entry { (st : SpaceState) (frames : FrameState) → IsReady self.old space.old st → Makes self.old self.new space.old space.new st frames frames result }
+        ensures row { RowMakes self.old.purpose self.old.phase result.what self.new.phase }
+        ensures reads { space.new.reads ≡ one_more_if (reads_at self.old.phase) space.old.reads }
+        ensures writes { space.new.writes ≡ one_more_if (writes_at space.old (call_in self.old.purpose) self.old.phase) space.old.writes }
+        ensures faults { FaultsTold space.old.store.faults space.new.store.faults result.what }
         ensures nearer { (row_of self.new).steps < (row_of self.old).steps }
     {
         let call = self.call();
@@ -172,6 +196,10 @@ impl Flight {
         requires image { self.old.processor < length space.old.images }
         requires ready { (st : SpaceState) × IsReady self.old space.old st }
         ensures entry { (st : SpaceState) (frames : FrameState) → IsReady self.old space.old st → Makes self.old self.new space.old space.new st frames frames result }
+        ensures row { RowMakes self.old.purpose self.old.phase result.what self.new.phase }
+        ensures reads { space.new.reads ≡ one_more_if (reads_at self.old.phase) space.old.reads }
+        ensures writes { space.new.writes ≡ one_more_if (writes_at space.old (call_in self.old.purpose) self.old.phase) space.old.writes }
+        ensures faults { FaultsTold space.old.store.faults space.new.store.faults result.what }
         ensures nearer { (row_of self.new).steps < (row_of self.old).steps }
     {
         let call = self.call();
@@ -186,6 +214,8 @@ impl Flight {
         requires of_call { is_of_call self.old.purpose ≡ true }
         requires phase { Refuses self.old reply }
         ensures entry { (kept : Kept) (st : SpaceState) (frames : FrameState) → IsReady self.old kept st → Makes self.old self.new kept kept st frames frames result }
+        ensures row { RowMakes self.old.purpose self.old.phase result.what self.new.phase }
+        ensures faults { (count : ℕ) → FaultsTold count count result.what }
         ensures nearer { (row_of self.new).steps < (row_of self.old).steps }
     {
         self.answer(Answered {

@@ -7,18 +7,18 @@ pub returns-in-Answered-clause-entry : goal.returns-in-Answered-clause-entry
 returns-in-Answered-clause-entry g c = λ st frames.
     rw c.answer.ensures.ended (rw c.answer.ensures.entry
     (start_answered c.args.self.now c.in-Answered.answered c.args.space.now c.begin.new.self c.requires.phase
-    (rw c.call-call.ensures at c.in-Answered.ensures) st frames))
+    (rw c.call-call.ensures at c.in-Answered.ensures.begins) st frames))
 
 pub returns-in-NeedsEvict-clause-none : goal.returns-in-NeedsEvict-clause-none
 returns-in-NeedsEvict-clause-none g c =
     begin_evicting c.args.self.now c.in-NeedsEvict.page c.args.space.now c.begin.new.self c.requires.phase
-    (rw c.call-call.ensures at c.in-NeedsEvict.ensures)
+    (rw c.call-call.ensures at c.in-NeedsEvict.ensures.begins)
 
 pub returns-in-Failed-clause-entry : goal.returns-in-Failed-clause-entry
 returns-in-Failed-clause-entry g c = λ st frames.
     rw c.entry.ensures (rw c.space-own.ensures
     (rw c.call-call.ensures (begin_failed c.args.self.now c.in-Failed.page c.in-Failed.count
-    c.args.space.now c.begin.new.self c.requires.phase (rw c.call-call.ensures at c.in-Failed.ensures) st frames)))
+    c.args.space.now c.begin.new.self c.requires.phase (rw c.call-call.ensures at c.in-Failed.ensures.begins) st frames)))
 
 pub begin-requires-clause-processor : goal.begin-requires-clause-processor
 begin-requires-clause-processor g c κs within = c.requires.image

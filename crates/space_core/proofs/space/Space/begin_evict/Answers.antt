@@ -9,16 +9,16 @@ use Rattle.space_core.proofs.SameView.{same_regions}
 use Rattle.space_core.proofs.CopyCalls.{evicts_absent, begins_unwritten, begins_evicting, evict_denied, unwired_at}
 use Rattle.space_core.proofs.space.Space.begin_evict.Goals as goal
 
-pub returns-in_default : goal.returns-in_default
-returns-in_default g c =
+pub returns-in_default-clause-begins : goal.returns-in_default-clause-begins
+returns-in_default-clause-begins g c =
     let none : region_at c.args.self.now.regions c.args.page ≡ None =
     ap (λ (k : Kept). region_at k.regions c.args.page) (sym c.self.view_is) ∙ sym c.find.ensures.value ∙ c.in_default.is in
     rw c.answered.ensures (λ processor. begins_refused c.args.self.now processor
     (Evict c.args.self.now.number c.args.page) Unmapped c.requires.can c.requires.resting refl tt
     (λ st s. ap (λ o. evict_reply o (st.flat.dirty c.args.page)) (ap (λ rs. region_at rs c.args.page) s.beside.regions ∙ none)))
 
-pub returns-then-is_wired : goal.returns-then-is_wired
-returns-then-is_wired g c =
+pub returns-then-is_wired-clause-begins : goal.returns-then-is_wired-clause-begins
+returns-then-is_wired-clause-begins g c =
     let found : region_at c.args.self.now.regions c.args.page ≡ Some c.in-Some.region =
     ap (λ (k : Kept). region_at k.regions c.args.page) (sym c.self.view_is) ∙ sym c.in-Some.ensures.value in
     let wired : is_wired c.in-Some.region ≡ true = search rules in
@@ -27,15 +27,15 @@ returns-then-is_wired g c =
     (λ st s. ap (λ rs. evict_reply (region_at rs c.args.page) (st.flat.dirty c.args.page)) s.beside.regions
     ∙ evict_denied _ c.args.page c.in-Some.region found wired (st.flat.dirty c.args.page)))
 
-pub returns-in_default-mapping : goal.returns-in_default-mapping
-returns-in_default-mapping g c =
+pub returns-in_default-mapping-clause-begins : goal.returns-in_default-mapping-clause-begins
+returns-in_default-mapping-clause-begins g c =
     let unwired : is_unwired (region_at c.args.self.now.regions c.args.page) ≡ true = rw (← c.self.view_is) (search (rules, unwired_at)) in
     let absent : frame_at c.args.self.now c.args.page ≡ None = rw (← c.self.view_is) (search rules) in
     rw c.answered-in_default-mapping.ensures
     (λ processor. evicts_absent c.args.self.now processor c.args.page c.requires.resting unwired absent)
 
-pub returns-in-Ok : goal.returns-in-Ok
-returns-in-Ok g c =
+pub returns-in-Ok-clause-begins : goal.returns-in-Ok-clause-begins
+returns-in-Ok-clause-begins g c =
     let unwired : is_unwired (region_at c.args.self.now.regions c.args.page) ≡ true = rw (← c.self.view_is) (search (rules, unwired_at)) in
     let resident : frame_at c.args.self.now c.args.page ≢ None = rw (← c.self.view_is) (search rules) in
     let in_space : c.args.page < 1048576 = search rules in
@@ -51,8 +51,8 @@ returns-in-Ok g c =
       still = record { sizes = refl; images = refl; promotions = refl; demotions = refl };
     }))
 
-pub returns-in-Err : goal.returns-in-Err
-returns-in-Err g c =
+pub returns-in-Err-clause-begins : goal.returns-in-Err-clause-begins
+returns-in-Err-clause-begins g c =
     let unwired : is_unwired (region_at c.args.self.now.regions c.args.page) ≡ true = rw (← c.self.view_is) (search (rules, unwired_at)) in
     rw c.unwritten.ensures (λ processor. begins_unwritten c.args.self.now c.save.new.self processor c.args.page c.requires.resting
     (Evict c.args.self.now.number c.args.page) c.in-Err.fault refl unwired

@@ -27,8 +27,8 @@ invariant_of-self g c =
       | in-Err w ↦ rw w.in-Err.ensures.unchanged c.self.invariant
     ]
 
-pub returns : goal.returns
-returns g c =
+pub returns-clause-begins : goal.returns-clause-begins
+returns-clause-begins g c =
     let rest = rw (← c.self.view_is) at c.requires.resting in
     elim c.match-grow.branch [
       | in-Ok w ↦

@@ -29,8 +29,8 @@ protect-moves-requires g c =
           (sym c.in-Some.ensures.value),
     )
 
-pub returns-in_default : goal.returns-in_default
-returns-in_default g c =
+pub returns-in_default-clause-begins : goal.returns-in_default-clause-begins
+returns-in_default-clause-begins g c =
     let none : region_at c.args.self.now.regions c.args.page ≡ None =
     ap (λ (k : Kept). region_at k.regions c.args.page) (sym c.self.view_is) ∙ sym c.find.ensures.value ∙ c.in_default.is in
     rw c.answered.ensures (λ processor. begins_refused c.args.self.now processor
@@ -38,8 +38,8 @@ returns-in_default g c =
     (λ st s. ap (λ o. if range_in c.args.page c.args.length o then Done else Unmapped)
     (ap (λ rs. region_at rs c.args.page) s.beside.regions ∙ none)))
 
-pub returns-then-page-length : goal.returns-then-page-length
-returns-then-page-length g c =
+pub returns-then-page-length-clause-begins : goal.returns-then-page-length-clause-begins
+returns-then-page-length-clause-begins g c =
     let found : region_at c.args.self.now.regions c.args.page ≡ Some c.in-Some.region =
     ap (λ (k : Kept). region_at k.regions c.args.page) (sym c.self.view_is) ∙ sym c.in-Some.ensures.value in
     rw c.answered-then-page-length.ensures
@@ -61,8 +61,8 @@ invariant_of-self g c =
     (protect_mapped old.regions old.table u c.args.page c.args.length c.args.rights e c.self.invariant.mapped)
     rest.none_pending rest.none_clearing
 
-pub returns : goal.returns
-returns g c =
+pub returns-clause-begins : goal.returns-clause-begins
+returns-clause-begins g c =
     let rest = rw (← c.self.view_is) at c.requires.resting in
     let e = c.protect-moves.ensures.protects in
     rw (c.answered-2.ensures, ← c.self.view_is)

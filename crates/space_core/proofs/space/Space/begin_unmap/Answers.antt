@@ -8,8 +8,8 @@ use Rattle.space_core.proofs.RegionChanges.{begins_clearing}
 use Rattle.space_core.proofs.space.Space.begin_unmap.Goals as goal
 use Rattle.space_core.proofs.space.Space.begin_unmap.Goals.{in-Some, in-None}
 
-pub returns : goal.returns
-returns g c =
+pub returns-clause-begins : goal.returns-clause-begins
+returns-clause-begins g c =
     let same : c.self.inside.regions ≡ c.args.self.now.regions = ap (λ (k : Kept). k.regions) c.self.view_is in
     let found = rw same at c.find.ensures.value in
     elim c.match-find.branch [

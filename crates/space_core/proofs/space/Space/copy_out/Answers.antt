@@ -1,4 +1,4 @@
-use Rattle.std.proofs.Common.{◌≡◌, ◌∙◌, ℕ, arith, subst, true, false, refl, sym, Bool}
+use Rattle.std.proofs.Common.{◌≡◌, ◌∙◌, ℕ, subst, true, false, refl, sym, Bool}
 use Rattle.std.proofs.lemmas.Bool.{false≢true, true≢false}
 use Rattle.space_core.specs.Saving.{Saves}
 use Rattle.space_core.specs.Standing.{Kept, dirty_at}
@@ -20,7 +20,7 @@ nothing_saved kept page clean = record {
   same = refl;
   wrote = λ is. absurd (false≢true is);
   left = λ _. refl;
-  never_falls = omega arith;
+  unfailed = refl;
 }
 
 pub returns-in_default-clause-copied : goal.returns-in_default-clause-copied

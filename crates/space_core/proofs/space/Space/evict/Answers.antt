@@ -29,7 +29,10 @@ returns g c =
       };
       same = same_regions _ _ (ap (λ (k : Kept). k.number) e.same) (ap (λ (k : Kept). k.frames) e.same) e.retouched.processors
           (ap (λ (k : Kept). k.regions) e.same) e.maps.same.own;
-      store = ap (λ (k : Kept). k.store) e.same;
-      unread = ap (λ (k : Kept). k.reads) e.same;
+      same_store = record {
+        store = ap (λ (k : Kept). k.store) e.same;
+        unread = ap (λ (k : Kept). k.reads) e.same;
+        unwritten = ap (λ (k : Kept). k.writes) e.same;
+      };
     })
     c.is_dirty.result (sym c.is_dirty.ensures.dirty) r.unwired)

@@ -45,9 +45,9 @@ returns-in-Ok-clause-read g c =
       copies = e.same;
       faults = e.never_falls;
       once = e.counted;
-      same = rw e.table.same.count refl;
+      same = rw (e.table.same.count, e.unwritten) refl;
     })
-    refl c.in-Ok.ensures.read)
+    refl c.in-Ok.ensures.unfailed c.in-Ok.ensures.read)
 
 -- what is said of each page is as before, so the page's tile is too
 pub returns-in-Ok-clause-found : goal.returns-in-Ok-clause-found
@@ -74,6 +74,6 @@ returns-in-Err-clause-failed g c =
       copies = e.same;
       faults = e.never_falls;
       once = e.counted;
-      same = rw e.table.same.count refl;
+      same = rw (e.table.same.count, e.unwritten) refl;
     })
     (c.self.invariant.pending_alone c.args.page pending) c.faults.result refl c.in-Err.ensures.rose c.faults.ensures.faults)

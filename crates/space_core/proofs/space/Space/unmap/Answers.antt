@@ -56,6 +56,7 @@ returns g c =
       cleared = cleared.2 ∙ ap (λ (r : Region). Some (range_of r.first r.length)) region;
       drops = c.drop_pages.ensures.dropped;
       unread = c.drop_pages.ensures.unread;
+      unwritten = c.drop_pages.ensures.unwritten;
       same = rw c.forget_rights.ensures.count refl;
     })
     (unmap_mapped old u c.args.page c.in-Ok.region loses c.self.invariant.mapped))

@@ -9,25 +9,25 @@ use Rattle.space_tests.proofs.tests.space.serve.Goals as goal
 pub place-requires-clause-known : goal.place-requires-clause-known
 place-requires-clause-known g c κs =
     let last = popped _ _ _ c.requires.spare.lowest c.in-Some.ensures.items in
-    omega (arith, last, c.requires.spare.few, ap (λ (k : Kept). k.frames) c.in-NeedsFrame.ensures.same)
+    omega (arith, last, c.requires.spare.few, ap (λ (k : Kept). k.frames) c.in-NeedsFrame.ensures.begins.same)
 
 pub place-requires-clause-other : goal.place-requires-clause-other
 place-requires-clause-other g c κs p has =
     let last = popped _ _ _ c.requires.spare.lowest c.in-Some.ensures.items in
-    let was = ap (λ (k : Kept). frame_at k p) (sym c.in-NeedsFrame.ensures.same) ∙ has in
+    let was = ap (λ (k : Kept). frame_at k p) (sym c.in-NeedsFrame.ensures.begins.same) ∙ has in
     omega (arith, last, c.requires.spare.apart p _ was)
 
 pub finish-requires-clause-allowed : goal.finish-requires-clause-allowed
 finish-requires-clause-allowed g c κs =
     let call = c.args.call.now in
     allowed_same c.place.new.self c.read_in.new.self call c.in-Ok.ensures.read.same.same
-    ∙ allowed_same c.begin.new.self c.place.new.self call c.place.ensures.same ∙ ap (λ (k : Kept). is_allowed k call) c.in-NeedsFrame.ensures.same
-    ∙ c.in-NeedsFrame.ensures.needs.allowed
+    ∙ allowed_same c.begin.new.self c.place.new.self call c.place.ensures.same ∙ ap (λ (k : Kept). is_allowed k call) c.in-NeedsFrame.ensures.begins.same
+    ∙ c.in-NeedsFrame.ensures.begins.needs.allowed
 
 pub returns-in-Answered-clause-spare : goal.returns-in-Answered-clause-spare
 returns-in-Answered-clause-spare g c =
     let spare = c.requires.spare in
-    let answered = c.in-Answered.ensures in
+    let answered = c.in-Answered.ensures.begins in
     let stands = answered.answers.stands spare.state spare.stands 0 in
     still_spare _ _ _ _ answered.resting stands answered.same_frames answered.same_processors
     (λ p number has. sym (spare.stands.base p) ∙ sym (base-unnamed spare.state.base c.args.call.now p) ∙ stands.base p ∙ has) spare
@@ -36,7 +36,7 @@ pub returns-in-Ok-clause-spare : goal.returns-in-Ok-clause-spare
 returns-in-Ok-clause-spare g c =
     let spare = c.requires.spare in
     let last = popped _ _ _ spare.lowest c.in-Some.ensures.items in
-    let begun = c.in-NeedsFrame.ensures.same in
+    let begun = c.in-NeedsFrame.ensures.begins.same in
     let stands : StandsFor c.begin.new.self spare.state = rw begun spare.stands in
     let placed = c.place.ensures.stands spare.state 0 c.in-NeedsFrame.want stands in
     let read = c.in-Ok.ensures.read in
@@ -79,7 +79,7 @@ pub returns-in-Err-clause-spare : goal.returns-in-Err-clause-spare
 returns-in-Err-clause-spare g c =
     let spare = c.requires.spare in
     let last = popped _ _ _ spare.lowest c.in-Some.ensures.items in
-    let begun = c.in-NeedsFrame.ensures.same in
+    let begun = c.in-NeedsFrame.ensures.begins.same in
     let stands : StandsFor c.begin.new.self spare.state = rw begun spare.stands in
     let placed = c.place.ensures.stands spare.state 0 c.in-NeedsFrame.want stands in
     let failed = c.in-Err.ensures.failed in
@@ -97,7 +97,7 @@ returns-in-Err-clause-spare g c =
 pub returns-in-NeedsEvict-clause-spare : goal.returns-in-NeedsEvict-clause-spare
 returns-in-NeedsEvict-clause-spare g c =
     let spare = c.requires.spare in
-    let begun = c.in-NeedsEvict.ensures in
+    let begun = c.in-NeedsEvict.ensures.begins in
     let evicted = c.evict-frame.ensures in
     still_spare c.args.space.now _ _ _ evicted.resting (evicted.stands _ (begun.stands spare.state spare.stands) 0 0)
     (evicted.gave.same.frames ∙ begun.same.same.frames) (evicted.gave.same.processors ∙ begun.same.same.processors)
@@ -107,6 +107,6 @@ returns-in-NeedsEvict-clause-spare g c =
 pub returns-in-Failed-clause-spare : goal.returns-in-Failed-clause-spare
 returns-in-Failed-clause-spare g c =
     let spare = c.requires.spare in
-    let fails = c.in-Failed.ensures.fails in
+    let fails = c.in-Failed.ensures.begins.fails in
     still_spare _ _ _ _ fails.resting (fails.stands spare.state spare.stands 0) fails.same.same.frames fails.same.same.processors
     (λ p number has. sym (fails.same.frame p) ∙ has) spare
