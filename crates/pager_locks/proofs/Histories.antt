@@ -1,5 +1,5 @@
 -- What meeting tells of a space, the frames and a processor whose lists are of one legal history.
-use Rattle.std.proofs.Common.{◌≡◌, cond, ◌^◌, ◌<◌, ◌≤◌, List, length, Some, ap, sym, subst, ◌∙◌, inl, inr, arith}
+use Rattle.std.proofs.Common.{◌≡◌, ℕ, cond, ◌^◌, ◌<◌, ◌≤◌, true, List, length, Some, ap, sym, subst, ◌∙◌, inl, inr, arith}
 use Rattle.std.proofs.lemmas.Bool.{cases_lt, eq-eqb}
 use Rattle.std.proofs.lemmas.Option.{none-some}
 use Rattle.std.proofs.Math.ListN.{length-map}
@@ -7,15 +7,18 @@ use Rattle.pager_model.specs.declared.entry.Victim.{Victim}
 use Rattle.pager_laws.specs.Laid.{IsSound}
 use Rattle.pager_laws.proofs.HistoryLists.{entries-few}
 use Rattle.pager_laws.proofs.LegalHistories.{IsKept-legal, OwnsBy-legal}
+use Rattle.pager_laws.proofs.OutOfFrames.{IsOutOfFrames-refused}
 use Rattle.journal_core.specs.Clauses.{IsHistory, IsOwnOf, AreOf, AreOfTwo}
 use Rattle.journal_core.specs.Journals.{JournalName, AuthorState, PassState}
 use Rattle.journal_core.specs.Parts.{part_list}
 use Rattle.journal_core.proofs.HistoryLength.{length_bound}
 use Rattle.pager_model.specs.declared.entry.Entry.{Entry}
 use Rattle.pager_model.specs.declared.entry.Numbered.{Numbered}
+use Rattle.pager_model.specs.declared.entry.What.TheVariants.{Refused}
+use Rattle.pager_model.specs.declared.reply.Reply.TheVariants.{NoFrames}
 use Rattle.pager_model.specs.Agreement.{OwnsBy}
-use Rattle.pager_model.specs.Entries.{frames_part, space_part, entries_of}
-use Rattle.pager_model.specs.FrameStates.{FrameState, frame_of}
+use Rattle.pager_model.specs.Entries.{IsOn, frames_part, space_part, entries_of}
+use Rattle.pager_model.specs.FrameStates.{FrameState, FramesAllow, HasNothing, IsRefused, frame_of}
 use Rattle.pager_model.specs.Legal.{IsLegal, space_at, frames_at, frames_state, state_of_space, progress_in, progress_at, entries_in}
 use Rattle.pager_model.specs.Settings.{Given}
 use Rattle.pager_model.specs.SpaceStates.{SpaceState}
@@ -23,12 +26,12 @@ use Rattle.space_core.specs.Standing.{Kept}
 use Rattle.flight_core.specs.declared.flight.Flight.{Flight}
 use Rattle.flight_core.specs.declared.flight.Phase.TheVariants.{Out as OutPhase}
 use Rattle.flight_core.specs.Flights.{IsReady}
-use Rattle.flight_core.specs.Rows.{row_of}
+use Rattle.flight_core.specs.Rows.{mark_in, row_of}
 use Rattle.pager_core.specs.RunParts.{most_in_history}
 use Rattle.flight_core.specs.Steps.{AreAgreed, MakesEntry}
 use Rattle.pager_laws.proofs.UnknownSpaces.{base-unknown}
 use Rattle.pager_core.proofs.LegalSteps.{victim_placed}
-use Rattle.pager_locks.specs.Locked.{Departure, StandsAt, IsPoolAt, IsFlying, later, state_by}
+use Rattle.pager_locks.specs.Locked.{Departure, SaysWhy, StandsAt, IsPoolAt, IsFlying, later, state_by}
 
 few_entries : (g : Given) (h : List Entry) → IsHistory g h → length h ≤ most_in_history
 few_entries g h met =
@@ -87,6 +90,17 @@ module _ (j : JournalName) (frames : AuthorState) (p : PassState) (h : List Entr
         | inl below ↦ below
         | inr past ↦ absurd (none-some v.frame (sym (base-unknown j.setting h legal v.space v.page past) ∙ resident))
       ]
+
+  -- a refusal's numbers tell why no frame could be had
+  pub refusal-met : (f f' : Flight) (after : FrameState) (e : Entry) → MakesEntry f f' pool after e → f.processor < length j.setting.marks
+      → (wired claimed held : ℕ) → e.what ≡ Refused wired claimed held → SaysWhy j.setting (NoFrames wired claimed held)
+  refusal-met f f' after e makes known wired claimed held what =
+      let named : e.frames ≡ true = (subst (IsOn e.space e.frames) what makes.parts).1 in
+      let allowed : HasNothing pool e.processor × IsRefused pool wired claimed held =
+      subst (FramesAllow pool (mark_in f.purpose) e.processor e.space) what (makes.frames_allow named) in
+      let none = IsOutOfFrames-refused j.setting pool e.processor wired claimed held sound
+      (subst (λ n. n < length j.setting.marks) (sym makes.processor) known) allowed.0 allowed.1 in
+      (none.all, none.above)
 
   module _ (from : Departure) (f : Flight) (flying : IsFlying j from f p) where
     progress : progress_at j.setting h f.processor ≡ Some (later from.before (row_of f).progress)

@@ -1,5 +1,5 @@
 -- A flight at its start, and the call or the turn that it made at its end.
-use Rattle.std.proofs.Common.{◌≡◌, ℕ, ◌+◌, ◌<◌, [], ◌∷◌, ◌++◌, length, count_by, option_to_list, true, Some, None, refl, ap, ap₂, sym, subst, ◌∙◌, arith}
+use Rattle.std.proofs.Common.{◌≡◌, ℕ, ◌+◌, ◌<◌, [], ◌∷◌, ◌++◌, length, count_by, option_to_list, true, Some, None, IfSome, refl, ap, ap₂, sym, subst, ◌∙◌, arith}
 use Rattle.std.specs.List.{AllByRecursion}
 use Rattle.std.specs.Option.{IsSomeAnd}
 use Rattle.std.proofs.lemmas.Bool.{false≢true}
@@ -29,7 +29,7 @@ use Rattle.pager_core.proofs.Lands.{Fits-for, Starts, Starts-for, ended_progress
 use Rattle.flight_core.proofs.NextFlights.{ended_by, of_calls, turn_goes_on}
 use Rattle.flight_core.proofs.Purposes.{of_call-is}
 use Rattle.pager_locks.specs.Calls.{MakesCall, MakesTurn, IsNextFlight}
-use Rattle.pager_locks.specs.Locked.{Departure, IsFlying, later}
+use Rattle.pager_locks.specs.Locked.{Departure, IsFlying, SaysWhy, later}
 use Rattle.pager_locks.specs.Prepared.{MayCall, MayTurn}
 use Rattle.pager_locks.proofs.CountedCalls.{counted}
 use Rattle.pager_locks.proofs.Later.{later_none}
@@ -102,6 +102,8 @@ module _ (j : JournalName) (p : PassState) (f : Flight) (may : MayCall j p) (nex
     own = tt;
     answers = refl;
     replies = refl;
+    will_say_why = tt;
+    says_why = tt;
   })
 
   -- it keeps no space yet
@@ -145,6 +147,7 @@ module _ (j : JournalName) (p : PassState) (f : Flight) (may : MayCall j p) (nex
         };
         before = before;
         replies = flying.replies ∙ ap (λ o. option_to_list (reply_in o)) answered;
+        never_short = subst (λ o. IfSome (reply_in o) (SaysWhy j.setting)) answered flying.says_why;
         whole = (f.number + 1, all);
       }
 
@@ -201,6 +204,8 @@ module _ (j : JournalName) (p : PassState) (c mark : ℕ) (may : MayTurn j p mar
     own = tt;
     answers = refl;
     replies = refl;
+    will_say_why = tt;
+    says_why = tt;
   }
 
   pub MakesTurn-ended : (g : Flight) (q : PassState) → IsFlying j from_turn g q → has_ended (row_of g).outcome ≡ true → MakesTurn p q mark

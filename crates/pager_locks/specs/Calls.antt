@@ -12,7 +12,7 @@ use Rattle.pager_model.specs.Showing.{answers_in, IsSequence, IsTurn}
 use Rattle.flight_core.specs.declared.flight.Flight.{Flight}
 use Rattle.flight_core.specs.declared.flight.Phase.TheVariants.{Start}
 use Rattle.flight_core.specs.Rows.{claimed_in, is_of_call}
-use Rattle.pager_locks.specs.Locked.{replies_in}
+use Rattle.pager_locks.specs.Locked.{replies_in, SaysWhy}
 
 -- the flight of the pass's next call, of which nothing was done
 pub record IsNextFlight (p : PassState) (f : Flight) : Type 0 where
@@ -25,7 +25,8 @@ pub record IsNextFlight (p : PassState) (f : Flight) : Type 0 where
 abbrev pub line_of : ℕ → Call → Line
 line_of c call = record { processor = c; call = call }
 
--- The pass's list has one sequence more, which is the call's: its one answer is of this call, with this reply.
+-- The pass's list has one sequence more, which is the call's: its one answer is of this call, with this reply. Where no frame could be had the
+-- reply's numbers tell why.
 pub record MakesCall (g : Given) (old new : PassState) (call : Call) (reply : Reply) : Type 0 where
   pub journal : new.journal ≡ old.journal
   pub processor : new.processor ≡ old.processor
@@ -37,6 +38,7 @@ pub record MakesCall (g : Given) (old new : PassState) (call : Call) (reply : Re
   -- and it comes where the list was
   pub before : progress_of 0 (entries_in old.entries) ≡ Some (at_rest 0 sequence.made)
   pub replies : replies_in (entries_in piece) ≡ reply ∷ []
+  pub never_short : SaysWhy g reply
   pub whole : IsWhole 0 (entries_in new.entries)
 
 -- The pass's list has one turn of a daemon of this low mark more.
