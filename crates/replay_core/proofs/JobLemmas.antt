@@ -27,7 +27,7 @@ use Rattle.pager_core.proofs.Lists.{enumerate-push}
 use Rattle.pager_core.proofs.MachineTurns.{all_calls, take_are}
 use Rattle.pager_core.proofs.WholeRuns.{IsWholeRun-legal}
 use Rattle.replay_core.specs.declared.jobs.Worker.{Worker}
-use Rattle.replay_core.specs.Jobs.{jobs_in, room_for, DoesJob, HasDone, IsReady, IsDoneFrom, HasPass, MayDo, MayDoAll, MayDoNext, HaveDone}
+use Rattle.replay_core.specs.Jobs.{jobs_in, room_for, DoesJob, HasDone, IsReady, IsDoneFrom, HasPass, KeepsToRooms, MayDo, MayDoAll, MayDoNext, HaveDone}
 
 -- One after another.
 
@@ -291,14 +291,27 @@ module _ (j : JournalName) (jobs : List (List Job)) (passes : List PassState) (h
       let has = have.done c d (let count = have.count in omega (arith, below, count)) in
       subst (λ k. IsWhole (mark_of j.setting k) (entries_in p.entries)) (sym has.processor) (length (jobs_at jobs c), has.progress)
 
+  -- each processor's entries are its pass's
+  entries_done : (h : List Numbered) → All (λ (p : PassState). IsOwnOf p (entries_in h)) passes → (c : ℕ) → c < length jobs
+      → entries_of c (entries_in h) ≡ entries_in (get_or passes c none_yet).entries
+  entries_done h own c below =
+      let count = have.count in
+      ap (λ k. entries_of k (entries_in h)) (sym (have.done c none_yet below).processor)
+      ∙ sym (own c none_yet (omega (arith, below, count))).1
+
+  -- which are no more than there was room for
+  pub rooms_kept : (h : List Numbered) → All (λ (p : PassState). IsOwnOf p (entries_in h)) passes → KeepsToRooms jobs (entries_in h)
+  rooms_kept h own = λ c below.
+      let p = get_or passes c none_yet in
+      let same : length (entries_of c (entries_in h)) ≡ length (entries_in p.entries) = ap length (entries_done h own c below) in
+      let all : length (entries_in p.entries) ≡ length p.entries = length-map p.entries (λ (n : Numbered). n.entry) in
+      let few : length p.entries ≤ room_for (jobs_at jobs c) = (have.done c none_yet below).few in
+      omega (arith, same, all, few)
+
   pub run_done : (h : List Numbered) → IsNumbered h → IsLegal j.setting (entries_in h)
       → All (λ (p : PassState). IsOwnOf p (entries_in h)) passes → length j.setting.marks ≡ length jobs → IsWholeRun j.setting jobs h
   run_done h numbered legal own many =
-      let count = have.count in
-      let entries : (c : ℕ) → c < length jobs → entries_of c (entries_in h) ≡ entries_in (get_or passes c none_yet).entries =
-      (λ c below. ap (λ k. entries_of k (entries_in h)) (sym (have.done c none_yet below).processor)
-      ∙ sym (own c none_yet (omega (arith, below, count))).1) in
       IsWholeRun-legal j.setting jobs h legal numbered
-      (λ c below. ap answers_in (entries c below) ∙ (have.done c none_yet below).answers)
-      (λ c below. ap (progress_of (mark_of j.setting c)) (entries c below) ∙ (have.done c none_yet below).progress)
+      (λ c below. ap answers_in (entries_done h own c below) ∙ (have.done c none_yet below).answers)
+      (λ c below. ap (progress_of (mark_of j.setting c)) (entries_done h own c below) ∙ (have.done c none_yet below).progress)
       many

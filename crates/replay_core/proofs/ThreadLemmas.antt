@@ -9,10 +9,12 @@ use Rattle.std.proofs.lemmas.Option.{none-some, slice_get-get_or}
 use Rattle.std.proofs.Math.ListN.{length-map}
 use Rattle.std.proofs.Math.Seq.{drop-append_seam}
 use Rattle.journal_core.specs.Journals.{new_passes}
+use Rattle.pager_model.specs.declared.entry.Entry.{Entry}
 use Rattle.pager_model.specs.declared.entry.Numbered.{Numbered}
 use Rattle.pager_model.specs.declared.summary.Summary.{Summary}
 use Rattle.pager_model.specs.declared.trace.Job.{Job}
 use Rattle.pager_model.specs.Counts.{counts}
+use Rattle.pager_model.specs.Entries.{entries_of}
 use Rattle.pager_model.specs.Legal.{entries_in}
 use Rattle.pager_model.specs.Plans.{Plan}
 use Rattle.pager_model.specs.Settings.{Given, mark_of}
@@ -27,7 +29,7 @@ use Rattle.pager_model.proofs.Actors.{actors_few, processor_known}
 use Rattle.pager_core.proofs.StartMachines.{can_do, few_entries_of, kinds_of}
 use Rattle.pager_core.proofs.Stores.{slice_get-take}
 use Rattle.pager_locks.specs.Prepared.{PreparedState}
-use Rattle.replay_core.specs.Jobs.{room_for, IsPreparedFor}
+use Rattle.replay_core.specs.Jobs.{room_for, HadRoom, IsPreparedFor, KeepsToRooms}
 use Rattle.replay_core.specs.Replays.{IsReplay, AreItsCounts}
 use Rattle.replay_core.proofs.RunLemmas.{jobs_known, length-jobs, IsReplay-of}
 
@@ -73,6 +75,14 @@ module _ (plan : Plan) (trace : HasText plan) (jobs : List (List Job)) (are : jo
         let none : jobs_at jobs c ≡ [] = get_or_past jobs c [] (let many = length-jobs plan jobs are in omega (arith, many, past)) in
         absurd (none-some job (ap (λ (l : List Job). slice_get l n) (sym none) ∙ at))
   ]
+
+  -- which is room for the entries of a trace's history
+  pub had_room : (history : List Entry) → KeepsToRooms jobs history → HadRoom plan history
+  had_room history kept = λ c known. (
+    subst (λ own. length (entries_of c history) ≤ room_for own) (jobs_known plan jobs are c known)
+        (kept c (let many = length-jobs plan jobs are in omega (arith, known, many))),
+    few_entries_of plan trace c,
+  )
 
   -- what the pager that is made for them is made of
   pub as_many : (marks rooms : List ℕ) → marks ≡ marks_of plan → rooms ≡ map room_for jobs

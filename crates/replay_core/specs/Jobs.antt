@@ -1,15 +1,18 @@
--- A processor's jobs, and its pass once it did them.
+-- A processor's jobs, its pass once it did them, and the room for its entries.
 use Rattle.std.specs.Prelude.{ℕ, ◌≡◌, ◌+◌, ◌<◌, ◌≤◌, List, [], length, map, sum, sum_by, slice_index_or, Some}
 use Rattle.std.specs.List.{All, enumerate_from}
 use Rattle.journal_core.specs.Journals.{JournalName, PassState, new_pass, new_passes}
+use Rattle.pager_model.specs.declared.entry.Entry.{Entry}
 use Rattle.pager_model.specs.declared.reply.Reply.{Reply}
 use Rattle.pager_model.specs.declared.trace.Job.{Job}
 use Rattle.pager_model.specs.declared.trace.Job.TheVariants.{Call, Turn}
+use Rattle.pager_model.specs.Entries.{entries_of}
 use Rattle.pager_model.specs.Legal.{entries_in}
 use Rattle.pager_model.specs.Order.{at_rest, progress_of, IsWhole}
 use Rattle.pager_model.specs.Settings.{Given, mark_of}
-use Rattle.pager_model.specs.Showing.{answers_in}
-use Rattle.pager_core.specs.Machines.{CanDo}
+use Rattle.pager_model.specs.Plans.{Plan}
+use Rattle.pager_model.specs.Showing.{actors, answers_in, jobs_of}
+use Rattle.pager_core.specs.Machines.{CanDo, most_entries}
 use Rattle.pager_core.specs.Running.{AreOfMark, FitsMark, calls_among, entries_of_job, jobs_at}
 use Rattle.pager_locks.specs.Calls.{MakesCall, MakesTurn}
 use Rattle.pager_locks.specs.Prepared.{PreparedState}
@@ -81,6 +84,15 @@ pub record HaveDone (j : JournalName) (jobs : List (List Job)) (passes : List Pa
   pub count : length passes ≡ length jobs
   pub done : (c : ℕ) (d : PassState) → c < length jobs → HasDone j (new_pass j c (room_for (jobs_at jobs c))) (jobs_at jobs c)
       (slice_index_or passes c d)
+
+-- each processor made at most as many entries as its pass has room for
+abbrev pub KeepsToRooms : List (List Job) → List Entry → Type 0
+KeepsToRooms jobs history = (c : ℕ) → c < length jobs → length (entries_of c history) ≤ room_for (jobs_at jobs c)
+
+-- So it is in the history of a trace. Each pass's room is what its processor's jobs take, and no more than all jobs of a trace may.
+abbrev pub HadRoom : Plan → List Entry → Type 0
+HadRoom plan history =
+    (c : ℕ) → c < actors plan → (length (entries_of c history) ≤ room_for (jobs_of c plan)) × (room_for (jobs_of c plan) ≤ most_entries)
 
 -- a pager that isn't opened yet, whose passes may do these jobs, and whose journal has room for their entries
 pub record IsPreparedFor (prepared : PreparedState) (jobs : List (List Job)) : Type 0 where

@@ -6,7 +6,7 @@ ghost use Rattle.pager_model.specs.Counts.{counts};
 ghost use Rattle.pager_model.specs.Legal.{entries_in};
 ghost use Rattle.pager_model.specs.Stores.{StoresEnd};
 ghost use Rattle.pager_core.specs.Running.{IsWholeRun};
-ghost use Rattle.replay_core.specs.Jobs.{DoesJob, HasDone, HasPass, HaveDone, IsDoneFrom, IsPreparedFor, IsReady, MayDo, MayDoAll, MayDoNext, jobs_in};
+ghost use Rattle.replay_core.specs.Jobs.{DoesJob, HasDone, HasPass, HaveDone, IsDoneFrom, IsPreparedFor, IsReady, KeepsToRooms, MayDo, MayDoAll, MayDoNext, jobs_in};
 
 use journal_core::Pass;
 use pager_core::Gathered;
@@ -33,6 +33,7 @@ pub fn run_jobs<N: Named + Send + Sync, S: Store + Send + Drop, R: Threads + Wai
     requires named { prepared.journal.name ≡ N.journal }
     requires prepared { IsPreparedFor prepared (jobs_in workers.items) }
     ensures run { IsWholeRun prepared.journal.name.setting (jobs_in workers.items) result.history.items }
+    ensures rooms { KeepsToRooms (jobs_in workers.items) (entries_in result.history.items) }
     ensures stores { StoresEnd prepared.journal.name.setting result.history.items (map S.seen result.stores.items) }
     ensures count { length result.stores.items ≡ length prepared.journal.name.setting.told }
     ensures summary { result.summary ≡ counts prepared.journal.name.setting (entries_in result.history.items) }

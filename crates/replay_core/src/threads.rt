@@ -2,11 +2,12 @@
 
 ghost use Rattle.std.specs.Prelude.{◌≡◌, ◌≤◌, ◌+◌, ◌++◌, IfOk, IfErr, None, drop, length, map, take, vec_capacity};
 ghost use Rattle.std.specs.List.{All, range_with_len};
+ghost use Rattle.pager_model.specs.Legal.{entries_in};
 ghost use Rattle.pager_model.specs.Showing.{actors, jobs_of, marks_of};
 ghost use Rattle.pager_model.specs.TraceText.{HasText};
 ghost use Rattle.pager_core.specs.Machines.{most_entries};
 ghost use Rattle.pager_core.specs.Running.{entries_of_job};
-ghost use Rattle.replay_core.specs.Jobs.{jobs_in, room_for};
+ghost use Rattle.replay_core.specs.Jobs.{HadRoom, jobs_in, room_for};
 ghost use Rattle.replay_core.specs.Replays.{IsReplay, AreItsCounts};
 
 use crate::jobs::{Worker, run_jobs};
@@ -21,7 +22,8 @@ use store_core::Store;
 
 /// Runs a trace with a thread for each processor, which makes its calls in order, and one for the daemon, which makes its turns; the order of
 /// their steps is the one in which the threads come to the locks. There are at least as many stores as spaces, and they come back for want of
-/// memory, which comes before the first entry alone. It may wait for locks, and nothing is proved of when it returns.
+/// memory, which comes before the first entry alone. Each pass has room for all entries that its processor's jobs may make. It may wait for
+/// locks, and nothing is proved of when it returns.
 pub fn replay<S: Store + Send + Drop, R: Threads + Wait + Sync>(
     rt: &R,
     alloc: Global,
@@ -30,6 +32,7 @@ pub fn replay<S: Store + Send + Drop, R: Threads + Wait + Sync>(
 ) -> Result<Gathered<S>, Vec<S>>
     requires enough { trace.now.spaces ≤ length stores.items }
     ensures run { IfOk result (λ g. IsReplay trace.now (map S.seen stores.items) g.history.items (map S.seen g.stores.items)) }
+    ensures rooms { IfOk result (λ g. HadRoom trace.now (entries_in g.history.items)) }
     ensures counts { IfOk result (λ g. AreItsCounts trace.now (map S.seen stores.items) g.history.items g.summary) }
     ensures back { IfErr result (λ back. map S.seen back.items ≡ map S.seen stores.items) }
 {

@@ -7,7 +7,7 @@ use Rattle.pager_model.specs.Stores.{StoresEnd}
 use Rattle.pager_core.specs.Running.{IsWholeRun}
 use Rattle.replay_core.specs.declared.jobs.Worker.{Worker}
 use Rattle.replay_core.specs.Jobs.{HaveDone, jobs_in}
-use Rattle.replay_core.proofs.JobLemmas.{journals_done, processors_done, rooms_done, whole_done, run_done}
+use Rattle.replay_core.proofs.JobLemmas.{journals_done, processors_done, rooms_done, rooms_kept, whole_done, run_done}
 use Rattle.replay_core.proofs.jobs.run_jobs.Goals as goal
 
 -- the slice that was lent has the workers
@@ -52,6 +52,12 @@ returns-clause-run g c =
     (of_workers g.N.Named.journal _ _ _ c.as_mut_slice.ensures.value c.do_all-passes.ensures)
     c.close.result.history.items c.close.ensures.numbered c.close.ensures.history.legal c.close.ensures.passes
     (count_of _ _ _ c.requires.named c.requires.prepared.may.count))
+
+pub returns-clause-rooms : goal.returns-clause-rooms
+returns-clause-rooms g c =
+    rooms_kept g.N.Named.journal (jobs_in c.args.workers.items) c.do_all-passes.result.items
+    (of_workers g.N.Named.journal _ _ _ c.as_mut_slice.ensures.value c.do_all-passes.ensures)
+    c.close.result.history.items c.close.ensures.passes
 
 pub returns-clause-stores : goal.returns-clause-stores
 returns-clause-stores g c =

@@ -1,8 +1,9 @@
 use Rattle.std.proofs.Common.{◌≤◌, ◌^◌, ◌∙◌, map, sym, subst}
 use Rattle.std.specs.List.{All}
 use Rattle.std.proofs.Math.ListN.{length-map}
+use Rattle.pager_model.specs.Legal.{entries_in}
 use Rattle.replay_core.specs.Jobs.{jobs_in}
-use Rattle.replay_core.proofs.ThreadLemmas.{as_many, few_rooms, is_prepared, are_parted, own_count, same_joined, replayed, counted, setting_made}
+use Rattle.replay_core.proofs.ThreadLemmas.{as_many, few_rooms, had_room, is_prepared, are_parted, own_count, same_joined, replayed, counted, setting_made}
 use Rattle.replay_core.proofs.threads.replay.Goals as goal
 
 pub create-requires-clause-processors : goal.create-requires-clause-processors
@@ -34,6 +35,11 @@ returns-in-Ok-create-clause-run g c =
     (map g.S.Store.seen c.in_ok-own.own.items) c.in-Ok-create.ensures.setting c.frames-frames.ensures.frames c.sizes-sizes.ensures.sizes c.as_slice.ensures.value c.in-Ok.ensures.marks)
     (jobs_in c.in-Ok.field-0.workers.items) ran.result.history.items ran.result.stores.items c.joined.result.items
     c.joined.ensures c.in-Ok.ensures.jobs c.in-Ok-create.ensures.capped ran.ensures.run ran.ensures.stores ran.ensures.count
+
+pub returns-in-Ok-create-clause-rooms : goal.returns-in-Ok-create-clause-rooms
+returns-in-Ok-create-clause-rooms g c =
+    had_room c.args.trace.now c.in-Ok.ensures.text (jobs_in c.in-Ok.field-0.workers.items) c.in-Ok.ensures.jobs
+    (entries_in c.run_jobs-history.result.history.items) c.run_jobs-history.ensures.rooms
 
 pub returns-in-Ok-create-clause-counts : goal.returns-in-Ok-create-clause-counts
 returns-in-Ok-create-clause-counts g c =
