@@ -1,5 +1,5 @@
 -- The jobs of a processor, done one after another, and the passes of all of them.
-use Rattle.std.proofs.Common.{◌≡◌, ℕ, zero, suc, ◌+◌, ◌*◌, ◌<◌, List, [], ◌∷◌, ◌++◌, length, map, reverse, take, get_or, slice_get, option_map, option_to_list, Option, Some, None, IsSome, refl, ap, ap₂, sym, subst, ◌∙◌, inl, inr, arith, append_assoc, length-append}
+use Rattle.std.proofs.Common.{◌≡◌, ℕ, zero, suc, ◌+◌, ◌*◌, ◌<◌, List, [], ◌∷◌, ◌++◌, length, map, reverse, take, get_or, slice_get, option_map, option_to_list, Option, Some, None, IsSome, refl, ap, ap₂, sym, subst, ◌∙◌, inl, inr, arith, append_assoc, length-append, ◌≤◌}
 use Rattle.std.specs.List.{All, enumerate_from, range_with_len}
 use Rattle.std.proofs.lemmas.List.{append-nil, length_push, take_more, map-append, reverse-append, get_or-map, ext_get_or}
 use Rattle.std.proofs.lemmas.List.Elements.{filter_map-append}
