@@ -37,11 +37,11 @@ def bar(chart: Chart, row: Row, most: int) -> str:
 def table(group: Group) -> str:
     """The section of a trace."""
     mosts = [max(sum(count_of(row.counts, name) for _, name in chart.parts) for row in group.rows) or 1 for chart in CHARTS]
-    heads = ''.join('<th>%s</th>' % chart.title for chart in CHARTS)
-    lines = ['<tr><th>%s</th>%s</tr>' % (escape(row.policy), ''.join(bar(chart, row, most) for chart, most in zip(CHARTS, mosts))) for row in group.rows]
-    title = '%s <small>%d frames, superpages made and broken: %s</small>' % (
-        escape(group.trace), group.frames, ', '.join('%d and %d' % row.counts[1:3] for row in group.rows))
-    return '<section><h2>%s</h2><table><tr><th></th>%s</tr>\n%s\n</table></section>' % (title, heads, '\n'.join(lines))
+    heads = ''.join('<th>%s</th>' % title for title in ['', *(chart.title for chart in CHARTS), 'made, broken'])
+    lines = ['<tr><th>%s</th>%s<td>%d, %d</td></tr>' % (escape(row.policy), ''.join(bar(chart, row, most) for chart, most in zip(CHARTS, mosts)),
+                                                        row.counts.made, row.counts.broken) for row in group.rows]
+    title = '%s <small>%d frames</small>' % (escape(group.trace), group.frames)
+    return '<section><h2>%s</h2><table><tr>%s</tr>\n%s\n</table></section>' % (title, heads, '\n'.join(lines))
 
 
 def page_of(groups: List[Group]) -> str:
