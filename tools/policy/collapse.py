@@ -1,7 +1,7 @@
 """Huge pages that are made in the background, as Linux's khugepaged makes them (mm/khugepaged.c)."""
 from collections import Counter
 from typing import Counter as Counts
-from typing import Optional, Tuple
+from typing import Tuple
 
 from policy.first_touch import HugePages
 from policy.frames import EXTENT, start_of
@@ -40,12 +40,13 @@ class Collapse(HugePages):
 
     def collapse_next(self) -> None:
         """Collapses the first extent behind the last one, round all spaces, that may be and for which frames are free."""
+        if not self.machine.frames.has_extent():
+            return
         behind = sorted(self.resident, key=lambda place: (place <= self.last, place))
         place = next((place for place in behind if self.may_collapse(place)), None)
-        frame: Optional[int] = None if place is None else self.machine.frames.take_extent()
-        if place is not None and frame is not None:
+        if place is not None:
             self.last = place
-            self.collapse(self.machine.spaces[place[0]], place[1], frame)
+            self.collapse(self.machine.spaces[place[0]], place[1], self.machine.frames.take_extent())
 
     def may_collapse(self, place: Place) -> bool:
         """The extent isn't huge, may be, has enough resident pages, one at least, and none that is paged out."""

@@ -16,9 +16,9 @@ class Frames:
         self.count = count
         self.extents: List[Set[int]] = [set(range(first, first + EXTENT)) for first in range(0, count, EXTENT)]
 
-    def free_count(self) -> int:
-        """How many frames are free."""
-        return sum(map(len, self.extents))
+    def has_extent(self) -> bool:
+        """Whether an extent is all free."""
+        return any(len(extent) == EXTENT for extent in self.extents)
 
     def take_one(self) -> Optional[int]:
         """A free frame: the lowest of the extent that has the fewest free ones, so that whole extents stay whole."""

@@ -41,7 +41,7 @@ class Reservations(Policy):
 
     def may_reserve(self, space: Space, first: int) -> bool:
         """The extent lies in the region, and none of its pages is resident."""
-        return space.lies_in_region(first, EXTENT) and not space.resident_in(range(first, first + EXTENT))
+        return space.lies_in_region(first, EXTENT) and not any(page in space.frames for page in range(first, first + EXTENT))
 
     def reserve(self, place: Place) -> None:
         """Keeps an extent of frames, where one is free."""

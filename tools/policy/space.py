@@ -1,6 +1,6 @@
 """A space as a policy sees it: its regions and rights, the frame of each resident page, superpages and TLBs."""
 from collections import OrderedDict, defaultdict
-from typing import DefaultDict, Dict, Iterable, Set, Tuple
+from typing import DefaultDict, Dict, Set, Tuple
 
 from judging.flat import Flat
 
@@ -73,7 +73,3 @@ class Space:
         pages, dirty = range(first, first + length), first in self.dirty
         alike = all(page in self.frames and (page in self.dirty) == dirty for page in pages)
         return alike and self.lies_in_region(first, length) and self.has_one_right(first, length)
-
-    def resident_in(self, pages: Iterable[int]) -> int:
-        """How many of these pages are resident."""
-        return sum(page in self.frames for page in pages)
