@@ -28,7 +28,7 @@ def count_of(counts: Counts, name: str) -> int:
 def bar(chart: Chart, row: Row, most: int) -> str:
     """The bar of a row, as long as its share of the most of the trace, with its numbers behind."""
     counts = [(kind, count_of(row.counts, name)) for kind, name in chart.parts]
-    parts = ''.join('<i class="%s" style="width:%.2f%%" title="%s: %d"></i>' % (kind, 72 * count / most, kind, count) for kind, count in counts if count)
+    parts = ''.join('<i class="%s" style="width:%.2f%%" title="%s: %d"></i>' % (kind, 50 * count / most, kind, count) for kind, count in counts if count)
     told = ' + '.join(str(count) for _, count in counts if count) or '0'
     more = ' <small>%s</small>' % percent(row.saved) if chart is CHARTS[0] else ''
     return '<td>%s<span>%s%s</span></td>' % (parts, told, more)
