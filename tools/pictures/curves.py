@@ -5,9 +5,8 @@ from html import escape
 from math import ceil, log2
 from typing import List, NamedTuple, Tuple
 
-from common import Stopped
+from common import Stopped, printed
 from pictures import layout
-from pictures.following import printed
 from pictures.page import part
 from pictures.still import LINE, MARGIN, rect, text
 

@@ -1,8 +1,7 @@
 """A run of the program, and what each entry of its history changes, worked out by the rules of docs/model.md and docs/steps.md."""
-import subprocess
 from typing import Callable, Dict, Iterator, List, NamedTuple, Optional, Tuple
 
-from common import SIZE_SETS, Stopped
+from common import SIZE_SETS, Stopped, printed
 from pictures import words
 from pictures.frames import CLAIMED, FREE, LARGEST, UNUSED, USED, WIRED, Astray, Broken, Frames, Reservation, Want, begin_of
 from pictures.images import Images, Left
@@ -56,15 +55,6 @@ class Change(NamedTuple):
     used: bool
     left: List[Left]
     broken: Optional[Broken]
-
-
-def printed(program: str, words: List[str], trace: bytes) -> str:
-    """What the program prints of the trace by these words."""
-    done = subprocess.run([program] + words, input=trace, stdout=subprocess.PIPE, stderr=subprocess.PIPE)
-    if done.returncode != 0:
-        said = done.stderr.decode(errors='replace').strip()
-        raise Stopped('the program ends with status %d%s' % (done.returncode, ': ' + said if said else ''))
-    return done.stdout.decode(errors='replace')
 
 
 def run(program: str, order: List[str], trace: bytes) -> Run:
