@@ -38,12 +38,12 @@ class Program(NamedTuple):
     def is_model(self) -> bool:
         return self.most is not None
 
-    def refuse_long(self, trace: bytes) -> None:
-        """Stops where the trace has more calls."""
+    def refuse_long(self, name: str, trace: bytes) -> None:
+        """Stops where the trace of this name has more calls."""
         calls = trace.count(b'\n') - 2
         if self.most is not None and calls > self.most:
-            raise Stopped('it has %d calls, and the slow reference model runs at most %d here. Build the program: %s. '
-                          '(`--program tools/judge` runs it however long it takes)' % (calls, self.most, BUILD))
+            raise Stopped('%s has %d calls, and the slow reference model runs at most %d here. Build the program: %s. '
+                          '(`--program tools/judge` runs it however long it takes)' % (name, calls, self.most, BUILD))
 
 
 def program_at(given: Optional[str] = None) -> str:
@@ -68,13 +68,21 @@ def program_or_model(given: Optional[str]) -> Program:
     return Program(program_at(MODEL), MODEL_CALLS)
 
 
-def printed(program: str, words: Sequence[str], trace: bytes) -> str:
+def output_of(program: str, words: Sequence[str], trace: bytes) -> str:
     """What a program prints of a trace by these words. `Stopped`, which says why, where it refuses the trace or ends otherwise than with status 0."""
     ran = subprocess.run([program, *words], input=trace, stdout=subprocess.PIPE, stderr=subprocess.PIPE)
     if ran.returncode == 0:
         return ran.stdout.decode(errors='backslashreplace')
     said = OWN_NAME.sub('', ran.stderr.decode(errors='backslashreplace').partition('see: ')[0].strip())
     raise Stopped('; '.join(why_no_trace(trace)) or said or 'the program ended with status %d' % ran.returncode)
+
+
+def printed(program: str, words: Sequence[str], trace: bytes, name: str) -> str:
+    """The same of the trace of this name, which is said too."""
+    try:
+        return output_of(program, words, trace)
+    except Stopped as why:
+        raise Stopped('%s: %s' % (name, why))
 
 
 def read_file(path: str, most: int = -1) -> bytes:

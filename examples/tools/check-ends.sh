@@ -35,7 +35,7 @@ compare refused-alone $? 1 'judge: line 3: range; line 3, word 4: 7 is no multip
 run "$made/long" told "$made/alone/tools/picture" -
 sed 1d "$made/message" >"$made/second"
 mv "$made/second" "$made/message"
-compare long-alone $? 0 "picture: -: it has 20001 calls, and the slow reference model runs at most 20000 here. Build the program: \
+compare long-alone $? 0 "picture: - has 20001 calls, and the slow reference model runs at most 20000 here. Build the program: \
 $build. (\`--program tools/judge\` runs it however long it takes)" ''
 
 # By a link to it a tool finds what it is made of.

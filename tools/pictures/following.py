@@ -1,7 +1,7 @@
 """A run of the program, and what each entry of its history changes, worked out by the rules of docs/model.md and docs/steps.md."""
 from typing import Callable, Dict, Iterator, List, NamedTuple, Optional, Tuple
 
-from common import SIZE_SETS, Stopped, printed
+from common import SIZE_SETS, Stopped, output_of
 from pictures import words
 from pictures.frames import CLAIMED, FREE, LARGEST, UNUSED, USED, WIRED, Astray, Broken, Frames, Reservation, Want, begin_of
 from pictures.images import Images, Left
@@ -59,7 +59,7 @@ class Change(NamedTuple):
 
 def run(program: str, order: List[str], trace: bytes) -> Run:
     """Runs the program on the trace in this order of its calls."""
-    text = printed(program, order + ['--history'], trace)
+    text = output_of(program, order + ['--history'], trace)
     try:
         return read(trace.decode(), text)
     except (ValueError, IndexError, StopIteration):

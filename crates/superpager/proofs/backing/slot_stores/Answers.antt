@@ -1,4 +1,4 @@
-use Rattle.std.proofs.Common.{min, [], ◌∷◌, Some, length, ap, ◌∙◌, arith}
+use Rattle.std.proofs.Common.{[], ◌∷◌, Some, length, ap, ◌∙◌, arith}
 use Rattle.std.proofs.lemmas.List.{length-append, length-replicate}
 use Rattle.std.proofs.lemmas.List.Elements.{All-push}
 use Rattle.pager_model.specs.Stored.{zero_words}
@@ -16,10 +16,11 @@ loop-preserved c =
     let count = ap (λ (b : BlocksState). length b.slots) blocks ∙ length-replicate c.args.slots (Some zero_words) in
     let is : IsNewSlots c.args.slots store = record {
       device = ap (λ (s : SlotState). s.device.slots) made ∙ count;
-      used = ap (λ (s : SlotState). s.slots.count) made ∙ ap (λ n. min n 262144) count;
+      used = ap (λ (s : SlotState). s.slots.count) made ∙ count;
       no_page = ap (λ (s : SlotState). s.slots.pages) made;
       no_fault = ap (λ (s : SlotState). s.device.faults) made ∙ ap (λ (b : BlocksState). b.faults) blocks;
       unread = ap (λ (s : SlotState). s.reads) made;
+      unwritten = ap (λ (s : SlotState). s.writes) made;
       unrefused = ap (λ (s : SlotState). s.refused) made;
     } in
     record {
