@@ -10,8 +10,9 @@ function textOf(at) {
 }
 // What translation served the access of an answer.
 function served(entry) {
-  const count = pagesOf(Number(entry.line.slice(-1))), found = isHit(entry) ? "hit: its TLB had the translation" : "miss: its TLB had no translation of the page";
-  return `A ${found}. Its translation is of ${count} page${count === 1 ? "" : "s"} now.`;
+  const count = pagesOf(Number(entry.line.slice(-1)));
+  const found = isHit(entry) ? "A hit: its TLB had the translation" : "A miss: its TLB had no translation of the page";
+  return `${found}. Its translation is of ${count} page${count === 1 ? "" : "s"} now.`;
 }
 function showNow() {
   const part = byId("now");
