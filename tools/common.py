@@ -8,18 +8,18 @@ import subprocess
 import sys
 from typing import Callable, List, NamedTuple, NoReturn, Optional, Sequence
 
+from refusals import SIZE_SETS, why_no_trace
+
 TOP = os.path.dirname(os.path.dirname(os.path.abspath(__file__)))
 PROGRAM = os.path.join(TOP, 'crates', 'superpager', 'out', 'superpager')
 # The reference model, which reads and prints the same, slowly.
 MODEL = os.path.join(TOP, 'tools', 'judge')
-# The most calls of a trace that the model runs in place of a program that isn't built: most take half a minute, and where each access pages out five.
+# The most calls of a trace that the model runs in place of a program that isn't built.
 MODEL_CALLS = 20000
 BUILD = '`cd crates/superpager && rt run -- order <../../examples/lesson/preempted.trace`'
-# What is said of a text that is no trace.
-REFUSAL = re.compile(r': (line [0-9]+: [a-z]+|no end|trace too long|too many calls)')
+# What the program and the model begin a message with.
+OWN_NAME = re.compile('^(superpager|judge): ')
 
-# The sets of page sizes that a trace may name, each the digits of its levels: a page of level k is 8**k base pages.
-SIZE_SETS = ('0', '01', '02', '03', '012', '013', '023', '0123')
 # The least and the most frames that a trace may have, and what their number is a multiple of.
 FRAMES = (512, 32768, 512)
 # The first words of a trace's first line, and what stands behind its numbers of frames, processors and spaces.
@@ -42,7 +42,7 @@ class Program(NamedTuple):
         """Stops where the trace of this name has more calls."""
         calls = trace.count(b'\n') - 2
         if self.most is not None and calls > self.most:
-            raise Stopped('%s has %d calls, and the reference model, which takes 1 to 20 ms for each, runs at most %d here. Build the program: %s. '
+            raise Stopped('%s has %d calls, and the slow reference model runs at most %d here. Build the program: %s. '
                           '(`--program tools/judge` runs it however long it takes)' % (name, calls, self.most, BUILD))
 
 
@@ -50,7 +50,7 @@ def program_at(given: Optional[str] = None) -> str:
     """The path of the program that is given, or else of the built one."""
     program = PROGRAM if given is None else given
     if not os.path.exists(program):
-        raise Stopped('no program at %s. Build it: %s' % (program, BUILD))
+        raise Stopped('no program at %s%s' % (shown(program), '. Build it: ' + BUILD if given is None else ''))
     if os.path.isdir(program):
         raise Stopped('%s is a folder, and no program' % program)
     if not os.access(program, os.X_OK):
@@ -60,23 +60,29 @@ def program_at(given: Optional[str] = None) -> str:
 
 def program_or_model(given: Optional[str]) -> Program:
     """The program that is given, or else the built one, or else, which is said, the reference model."""
+    if given is not None and not os.path.exists(given):
+        raise Stopped('no program at %s: leave `--program` out to use the built one, or where none is built the model' % shown(given))
     if given is not None or os.path.exists(PROGRAM):
         return Program(program_at(given))
-    say('no program is built, so tools/judge runs in its place, the reference model in Python: the same text, at 1 to 20 ms a call. Build it: %s' % BUILD)
+    say('by the slow reference model (README.md says how to build the program, which the lesson does not need)')
     return Program(program_at(MODEL), MODEL_CALLS)
 
 
-def printed(program: str, words: Sequence[str], trace: bytes, name: str) -> str:
-    """What a program prints of the trace of this name by these words; `Stopped` where it ends otherwise than with status 0."""
+def output_of(program: str, words: Sequence[str], trace: bytes) -> str:
+    """What a program prints of a trace by these words. `Stopped`, which says why, where it refuses the trace or ends otherwise than with status 0."""
     ran = subprocess.run([program, *words], input=trace, stdout=subprocess.PIPE, stderr=subprocess.PIPE)
     if ran.returncode == 0:
         return ran.stdout.decode(errors='backslashreplace')
-    raise Stopped(told_of(name, ran.stderr.decode(errors='backslashreplace').partition('see: ')[0].strip() or 'the program ended with status %d' % ran.returncode))
+    said = OWN_NAME.sub('', ran.stderr.decode(errors='backslashreplace').partition('see: ')[0].strip())
+    raise Stopped('; '.join(why_no_trace(trace)) or said or 'the program ended with status %d' % ran.returncode)
 
 
-def told_of(name: str, said: str) -> str:
-    """What was said of the trace of this name, and where a program refused it, what tells more."""
-    return '%s: %s%s' % (name, said, '; `tools/explain %s` says why' % name if REFUSAL.search(said) else '')
+def printed(program: str, words: Sequence[str], trace: bytes, name: str) -> str:
+    """The same of the trace of this name, which is said too."""
+    try:
+        return output_of(program, words, trace)
+    except Stopped as why:
+        raise Stopped('%s: %s' % (name, why))
 
 
 def read_file(path: str, most: int = -1) -> bytes:
@@ -86,6 +92,15 @@ def read_file(path: str, most: int = -1) -> bytes:
             return source.read(most)
     except OSError as fault:
         raise Stopped("%s can't be read: %s" % (shown(path), fault.strerror))
+
+
+def write_file(path: str, text: str) -> None:
+    """Writes a text to a file."""
+    try:
+        with open(path, 'w', encoding='utf-8') as out:
+            out.write(text)
+    except OSError as fault:
+        raise Stopped("%s can't be written: %s" % (shown(path), fault.strerror))
 
 
 def shown(path: str) -> str:

@@ -14,7 +14,7 @@ mkdir -p "$made/alone/examples/drawn"
 cp -R ../../tools "$made/alone"
 cp ../drawn/random_trace.py "$made/alone/examples/drawn"
 build='`cd crates/superpager && rt run -- order <../../examples/lesson/preempted.trace`'
-model="no program is built, so tools/judge runs in its place, the reference model in Python: the same text, at 1 to 20 ms a call. Build it: $build"
+model='by the slow reference model (README.md says how to build the program, which the lesson does not need)'
 run closed told "$made/alone/tools/compare" --sizes 0,01 --csv ../lesson/working-set.trace
 compare compared-alone $? 0 "compare: $model" compared-alone.table
 run closed told "$made/alone/tools/picture" ../lesson/demoted-by-store.trace
@@ -22,12 +22,20 @@ compare pictured-alone $? 0 "picture: $model" pictured.picture
 run ../lesson/preempted.trace told "$made/alone/tools/judge" order
 compare judged-alone $? 0 '' ../lesson/preempted.text
 
+# A file that isn't there is told before that.
+run closed told "$made/alone/tools/picture" none.trace
+compare none-alone $? 1 "picture: none.trace can't be read: No such file or directory" ''
+run closed told "$made/alone/tools/compare" none.trace
+compare none-compared-alone $? 1 "compare: none.trace can't be read: No such file or directory" ''
+run ../refused/refused.trace told "$made/alone/tools/judge" order
+compare refused-alone $? 1 'judge: line 3: range; line 3, word 4: 7 is no multiple of 8, an address' ''
+
 # It doesn't run a trace that takes it minutes.
 { echo 'trace 1 512 1 1'; yes '0 load 0 0' | head -n 20001; echo end; } >"$made/long"
 run "$made/long" told "$made/alone/tools/picture" -
 sed 1d "$made/message" >"$made/second"
 mv "$made/second" "$made/message"
-compare long-alone $? 0 "picture: - has 20001 calls, and the reference model, which takes 1 to 20 ms for each, runs at most 20000 here. Build the program: \
+compare long-alone $? 0 "picture: - has 20001 calls, and the slow reference model runs at most 20000 here. Build the program: \
 $build. (\`--program tools/judge\` runs it however long it takes)" ''
 
 # By a link to it a tool finds what it is made of.

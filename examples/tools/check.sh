@@ -89,5 +89,12 @@ grep -o '^\*\*[A-Z][a-z]*\.\*\*\|^\*Answer\.\*' "$made/output" >"$made/text"
 mv "$made/text" "$made/output"
 compare lesson-sheet $status_of_sheet 0 '' lesson-sheet.answers
 
+# As a page it has the same exercises, each with five lines for an answer where none are asked for.
+tool /dev/null told ../../tools/lesson-sheet --html "$made/sheet"
+status_of_sheet=$?
+grep -c '<hr>' "$made/sheet" >"$made/output"
+grep -c '^\*\*' lesson-sheet.answers | awk '{ print 5 * $1 }' >"$made/lines-of-room"
+compare lesson-page $status_of_sheet 0 '' "$made/lines-of-room"
+
 count ./check-ends.sh
 end_of_check

@@ -2,34 +2,36 @@
 let asking = false, question = null, told = null, right = 0, answers = 0;
 const asks = () => asking;
 const MOVES = ["neither", "a promotion", "a demotion"];
+const MOVED = ["It neither promotes nor demotes pages", "It promotes pages", "It demotes pages"];
 const sizesThere = () => data.sizes.map((size) => data.tiles[size][1]);
 
-// What is asked of an entry, each as what is asked, what may be answered (or null, where it is a number), and the right answer.
+// What is asked of an entry, each as what is asked, what may be answered (or null, where it is a number), the right answer, and a sentence that has it.
 function askedOfAccess(entry) {
-  const words = entry.line.split(" ");
+  const hit = isHit(entry) ? "a hit" : "a miss", size = data.tiles[Number(entry.line.slice(-1))][1];
   return [
-    ["Is it a hit or a miss?", ["a hit", "a miss"], isHit(entry) ? "a hit" : "a miss"],
-    ["What size has the page's translation after it?", sizesThere(), data.tiles[Number(words[words.length - 1])][1]],
+    ["Is it a hit or a miss?", ["a hit", "a miss"], hit, `It is ${hit}`],
+    ["What size has the page's translation after it?", sizesThere(), size, `The page's translation is of ${size} after it`],
   ];
 }
 function askedOfTaking(entry) {
   const frame = Number(entry.line.split(" ")[4]), reservation = (entry.outlines || []).filter(([, size]) => size !== undefined).slice(-1)[0];
-  const broken = entry.broken ? String(entry.broken[0]) : "none";
+  const size = data.tiles[reservation[1]][1], broken = entry.broken ? String(entry.broken[0]) : "none";
   return [
-    ["Which frame does it get?", null, String(frame)],
-    ["What size has the reservation that it lies in?", sizesThere(), data.tiles[reservation[1]][1]],
-    ["Which reservation is broken for it (its first frame, or none)?", null, broken],
+    ["Which frame does it get?", null, String(frame), `It gets frame ${frame}`],
+    ["What size has the reservation that it lies in?", sizesThere(), size, `The reservation that it lies in is of ${size}`],
+    ["Which reservation is broken for it (its first frame, or none)?", null, broken,
+      entry.broken ? `The reservation from frame ${broken} on is broken for it` : "No reservation is broken for it"],
   ];
 }
 const raised = (entry, name) => Boolean(entry.counts && entry.counts.includes(data.names.indexOf(name)));
 function askedOf(entry) {
-  const moved = raised(entry, "promotions") ? MOVES[1] : raised(entry, "demotions") ? MOVES[2] : MOVES[0];
-  const kind = kindOf(entry), moves = ["Does it promote or demote pages?", MOVES, moved];
+  const moved = raised(entry, "promotions") ? 1 : raised(entry, "demotions") ? 2 : 0, written = entry.line.includes("written") ? "written" : "clean";
+  const kind = kindOf(entry), moves = ["Does it promote or demote pages?", MOVES, MOVES[moved], MOVED[moved]], claimed = entry.line.split(" ")[5];
   if (entry.used) return [...askedOfAccess(entry), moves];
   if (kind === "take" || kind === "use") return askedOfTaking(entry);
-  if (kind === "claim") return [["Which frame is claimed?", null, entry.line.split(" ")[5]]];
+  if (kind === "claim") return [["Which frame is claimed?", null, claimed, `Frame ${claimed} is claimed`]];
   return /^(answer [0-9]+ (written|clean)|out)/.test(entry.line.split(" ").slice(2).join(" ")) ? [
-    ["Is the page written, or clean?", ["written", "clean"], entry.line.includes("written") ? "written" : "clean"], moves] : [];
+    ["Is the page written, or clean?", ["written", "clean"], written, `The page is ${written}`], moves] : [];
 }
 // What the reader is told of the entry before it is shown.
 function announced(entry) {
@@ -75,15 +77,14 @@ function form() {
 }
 function check(part) {
   const given = question.all.map((_, at) => part.elements["asked" + at].value.trim());
-  const marks = question.all.map(([text, , is], at) => [text, given[at], is, given[at].toLowerCase() === is.toLowerCase()]);
+  const marks = question.all.map(([, , is, sentence], at) => [sentence, given[at], given[at].toLowerCase() === is.toLowerCase()]);
   answers += marks.length;
-  right += marks.filter((mark) => mark[3]).length;
+  right += marks.filter((mark) => mark[2]).length;
   told = { at: question.at + 1, marks };
   visit(question.at + 1);
 }
-function outcome([text, given, is, isRight]) {
-  const answer = isRight ? is : given ? `Not ${given}, but ${is}` : is;
-  return element("div", `${isRight ? "✓" : "✗"} ${text} ${answer}`, isRight ? "is-hit" : "is-miss");
+function outcome([sentence, given, isRight]) {
+  return element("div", `${isRight ? "✓" : "✗"} ${sentence}${isRight || !given ? "" : `, not ${given}`}.`, isRight ? "is-hit" : "is-miss");
 }
 // The question, or what came of it; both go where another entry is shown.
 function showAsked() {

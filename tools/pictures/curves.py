@@ -5,9 +5,8 @@ from html import escape
 from math import ceil, log2
 from typing import List, NamedTuple, Tuple
 
-from common import Stopped
+from common import Stopped, output_of
 from pictures import layout
-from pictures.following import printed
 from pictures.page import part
 from pictures.still import LINE, MARGIN, rect, text
 
@@ -40,7 +39,7 @@ class Curves(NamedTuple):
 
 def run(program: str, trace: bytes, known: int) -> Curves:
     """The curves that the program prints of a trace, which tells of capacities from this one on."""
-    rows = [line.split(' ') for line in printed(program, ['curve'], trace).splitlines()]
+    rows = [line.split(' ') for line in output_of(program, ['curve'], trace).splitlines()]
     try:
         found = Curves([int(row[1]) for row in rows[:-1]], [int(row[2]) for row in rows[:-1]], known)
     except (ValueError, IndexError):

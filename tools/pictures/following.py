@@ -1,8 +1,7 @@
 """A run of the program, and what each entry of its history changes, worked out by the rules of docs/model.md and docs/steps.md."""
-import subprocess
 from typing import Callable, Dict, Iterator, List, NamedTuple, Optional, Tuple
 
-from common import SIZE_SETS, Stopped
+from common import SIZE_SETS, Stopped, output_of
 from pictures import words
 from pictures.frames import CLAIMED, FREE, LARGEST, UNUSED, USED, WIRED, Astray, Broken, Frames, Reservation, Want, begin_of
 from pictures.images import Images, Left
@@ -58,18 +57,9 @@ class Change(NamedTuple):
     broken: Optional[Broken]
 
 
-def printed(program: str, words: List[str], trace: bytes) -> str:
-    """What the program prints of the trace by these words."""
-    done = subprocess.run([program] + words, input=trace, stdout=subprocess.PIPE, stderr=subprocess.PIPE)
-    if done.returncode != 0:
-        said = done.stderr.decode(errors='replace').strip()
-        raise Stopped('the program ends with status %d%s' % (done.returncode, ': ' + said if said else ''))
-    return done.stdout.decode(errors='replace')
-
-
 def run(program: str, order: List[str], trace: bytes) -> Run:
     """Runs the program on the trace in this order of its calls."""
-    text = printed(program, order + ['--history'], trace)
+    text = output_of(program, order + ['--history'], trace)
     try:
         return read(trace.decode(), text)
     except (ValueError, IndexError, StopIteration):
@@ -171,16 +161,15 @@ class Follower:
     def answer(self, _: int, c: int, space: int, rest: List[str]) -> None:
         call = self.calls[c][self.answered[c]].split(' ')
         self.answered[c] += 1
-        hit = size = None
         reply = rest[1:]
         if reply[-2:-1] in (['hit'], ['miss']):
-            hit, size, reply = reply[-2] == 'hit', int(reply[-1]), reply[:-2]
-            self.access((c, space), page_of(call), hit, size)
+            self.access((c, space), page_of(call), reply[-2] == 'hit', int(reply[-1]))
+            reply = reply[:-2]
         if call[0] in ('load', 'store', 'sync', 'evict'):
             self.page = (space, page_of(call))
         if reply[0] in ('done', 'written', 'clean'):
             self.does(self.spaces[space], space, call[0], page_of(call), call[3:])
-        self.meaning += words.answered(words.Answered(c, call, reply, hit, size))
+        self.meaning.append(words.answered(words.Answered(c, call, reply)))
 
     def access(self, owner: Tuple[int, int], page: int, hit: bool, size: int) -> None:
         """An access that was done told a hit, which has to be one by the images, and a size."""
@@ -215,7 +204,7 @@ class Follower:
         frame = self.spaces[space].frames[page]
         self.spaces[space].remove(page)
         holder = self.frames.give(space, page)
-        went = 'becomes free, or an unused place of its reservation' if holder is None else 'goes to processor %d, which had claimed it' % holder
+        went = 'becomes free, or stays reserved and unpopulated' if holder is None else 'goes to processor %d, which had claimed it' % holder
         self.meaning.append('Page %d of space %d gives frame %d up, which %s.' % (page, space, frame, went))
 
     def take(self, number: int, c: int, space: int, rest: List[str]) -> None:
@@ -263,7 +252,7 @@ class Follower:
         self.counts.append(CLAIMS)
         why, what_for = 'Frames are short', ''
         if space is not None:
-            why, what_for = 'No frame is free or unused', ', for page %s of space %d' % (rest[4], space)
+            why, what_for = 'No frame is free, nor reserved and unpopulated', ', for page %s of space %d' % (rest[4], space)
         self.meaning.append('%s. Processor %d claims frame %d, of page %d of space %d, which was filled first%s.' % (
             why, c, frame, page, other, what_for))
 

@@ -74,7 +74,7 @@ class Images:
         if not there:
             return 'Processor %d had no translation of page %d before.' % (owner[0], page)
         last = max(there, key=lambda left: left.entry)
-        return 'The image had a translation of it, that of %s, up to entry %d: %s.' % (run_of('page', last.first, pages_of(last.size)), last.entry, last.why)
+        return 'The TLB had a translation of it, that of %s, up to entry %d: %s.' % (run_of('page', last.first, pages_of(last.size)), last.entry, last.why)
 
 
 def why_gone(space: Space, first: int, was: Tile) -> str:

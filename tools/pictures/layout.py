@@ -23,8 +23,10 @@ SPACES = ('#2f6db3', '#d9822b', '#2f9e68', '#8d5cc2', '#b8437a', '#1592a5', '#94
           '#5877e0', '#b5622f', '#5f9e2f', '#6a4fa3', '#d06a9b', '#2a7f7f', '#c2a21c', '#7d8a98')
 ROLES = {FREE: '#e3e7ed', CLAIMED: '#d62828', HELD: '#16181d'}
 TINTS = {UNUSED: ('#ffffff', 0.72), USED: ('#ffffff', 0.0), WIRED: ('#000000', 0.45)}
+# What a role is called: in a still picture, and where it is another on a page.
 NAMES = {FREE: 'free', UNUSED: 'unused place of a reservation', USED: 'under a page', WIRED: 'under a wired page',
          CLAIMED: 'under a page, and claimed', HELD: 'held by processor'}
+PAGE_NAMES = {**NAMES, UNUSED: 'reserved and unpopulated'}
 TILES = ('#fbe08a', '#86cf8b', '#3f9fb0', '#3f4f9a')
 TILE_NAMES = tuple('%s (%s)' % (pages(8 ** size), name) for size, name in enumerate(SIZE_NAMES))
 MAPPED = '#ffffff'
@@ -67,12 +69,12 @@ def colour_of(code: int) -> str:
     return ROLES[role] if role in ROLES else mixed(SPACES[code // 16], *TINTS[role])
 
 
-def name_of(code: int, spaces: int) -> str:
+def name_of(code: int, spaces: int, names: Dict[int, str] = NAMES) -> str:
     """The name of a frame's role, with its space where there are several."""
     role, owner = code % 16, code // 16
     if role == HELD:
-        return '%s %d' % (NAMES[role], owner)
-    return NAMES[role] + (', of space %d' % owner if spaces > 1 and role != FREE else '')
+        return '%s %d' % (names[role], owner)
+    return names[role] + (', of space %d' % owner if spaces > 1 and role != FREE else '')
 
 
 def cell_for(rows: int, columns: int) -> int:

@@ -8,6 +8,12 @@ function textOf(at) {
   if (!entry) return `${number} …`;
   return isAnswer(entry) ? `${number} ${entry.call} → ${entry.line.split(" ").slice(4).join(" ")}` : `${number}   ${entry.line}`;
 }
+// What translation served the access of an answer.
+function served(entry) {
+  const count = pagesOf(Number(entry.line.slice(-1)));
+  const found = isHit(entry) ? "A hit: its TLB had the translation" : "A miss: its TLB had no translation of the page";
+  return `${found}. Its translation is of ${count} page${count === 1 ? "" : "s"} now.`;
+}
 function showNow() {
   const part = byId("now");
   part.replaceChildren();
@@ -15,7 +21,8 @@ function showNow() {
   if (!now) { add("code", "before entry 0"); add("div", "All frames are free, and no page is mapped."); return; }
   const words = now.line.split(" ").slice(1).join(" ");
   add("code", `entry ${now.number}, processor ${now.processor}: ${words}` + (isAnswer(now) || !now.call ? "" : ` (for ${now.call})`));
-  for (const text of now.meaning.map(said)) add("div", text, /^(Promotion|Demotion)|broken/.test(text) ? "change" : "");
+  const [first, ...others] = now.meaning.map(said);
+  for (const text of [first, ...(now.used ? [served(now)] : []), ...others]) add("div", text, /^(Promotion|Demotion)|broken/.test(text) ? "change" : "");
   for (const text of (now.why || []).map(said)) add("div", text, "why");
 }
 function shares() {
@@ -45,9 +52,9 @@ function showCounts() {
   const [table, events] = [0, 1].map(() => document.createElement("table")), share = shares(), size = sizes();
   byId("counts").replaceChildren(table, events);
   row(table, "frames free", share.free, "free");
-  row(table, "unused places", share.reserved, "reserved");
+  row(table, "reserved and unpopulated", share.reserved, "reserved");
   row(table, "frames under a page", share.used, "used");
-  row(table, "frames held", share.held, "held");
+  row(table, "held by a processor", share.held, "held");
   size.forEach((count, at) => row(table, `translations of ${pagesOf(at)}`, count, "tiles" + at));
   data.names.forEach((name, at) => row(events, name, counts[at], "count" + at, at));
   byId("printed").textContent = entries === data.entries ? "The program printed these at the end." : "";

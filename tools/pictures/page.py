@@ -59,7 +59,7 @@ def page(run: Run, name: str, about: str) -> str:
         seen.add(at, change)
     packer.end()
     pages, left = layout.page_grid(seen.drawn)
-    codes = {code: [layout.colour_of(code), layout.name_of(code, run.spaces)] for code in sorted(seen.codes)}
+    codes = {code: [layout.colour_of(code), layout.name_of(code, run.spaces, layout.PAGE_NAMES)] for code in sorted(seen.codes)}
     data = {
         **fixed(), 'name': name, 'about': about, 'count': run.frames, 'spaces': run.spaces, 'sizes': run.sizes, 'entries': len(run.history),
         'frames': grid(layout.frame_grid(run)), 'pages': grid(pages), 'omitted': 'Boxes of pages that are not drawn: %d.' % left if left else '',

@@ -82,7 +82,7 @@ function listShown(size, list, next) {
   const part = element("div", "", "list"), table = document.createElement("table");
   part.append(element("div", `can give ${pagesOf(size)} page${size ? "s" : ""}: ${list.length}`, "title"));
   if (!list.length) return part;
-  table.insertRow().append(...["frames", "for pages", "used", "last at entry"].map((name) => element("th", name)));
+  table.insertRow().append(...["frames", "for pages", "populated", "last at entry"].map((name) => element("th", name)));
   list.slice(0, MOST_LISTED).forEach((r, at) => listRow(table, r, (at === 0 && next ? "next " : "") + (isPart(r) ? "part" : "")));
   part.append(table);
   if (list.length > MOST_LISTED) part.append(element("div", `and ${list.length - MOST_LISTED} younger`, "none"));

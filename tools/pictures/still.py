@@ -7,6 +7,7 @@ from pictures import layout
 from pictures.following import Change, Run, State, state_after
 from pictures.frames import pages_of
 from pictures.layout import Box, Grid
+from pictures.words import pages
 
 MARGIN = 14
 LINE = 17
@@ -158,14 +159,23 @@ def counts_text(state: State) -> str:
     return ', '.join('%s %d' % pair for pair in zip(names, state.counts + state.shares()))
 
 
+def sentences(change: Change) -> List[str]:
+    """What an entry means. What served an access stands behind its call; the page says that in words of its own."""
+    if not change.used:
+        return change.meaning
+    hit, size = change.line.split(' ')[-2:]
+    found = 'A hit: its image had the translation' if hit == 'hit' else 'A miss: its image had no translation of the page'
+    return [change.meaning[0], '%s. The page has one of %s now.' % (found, pages(pages_of(int(size)))), *change.meaning[1:]]
+
+
 def heading(name: str, changes: List[Change], entries: int) -> Tuple[List[str], int]:
     """The title, and what the last entry means; and how high they are."""
     title, said = '%s, before entry 0' % name, ['All frames are free.']
     if entries:
-        title, said = '%s, after entry %d (the last is %d)' % (name, entries - 1, len(changes) - 1), changes[entries - 1].meaning
-    sentences = [line for sentence in said for line in textwrap.wrap(sentence, LETTERS)]
-    head = [text(0, 14, title, 'h')] + [text(0, 36 + LINE * at, line) for at, line in enumerate(sentences)]
-    return head, 36 + LINE * len(sentences)
+        title, said = '%s, after entry %d (the last is %d)' % (name, entries - 1, len(changes) - 1), sentences(changes[entries - 1])
+    wrapped = [line for sentence in said for line in textwrap.wrap(sentence, LETTERS)]
+    head = [text(0, 14, title, 'h')] + [text(0, 36 + LINE * at, line) for at, line in enumerate(wrapped)]
+    return head, 36 + LINE * len(wrapped)
 
 
 def drawing(run: Run, changes: List[Change], name: str, entries: int) -> str:

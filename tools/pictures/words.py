@@ -1,5 +1,5 @@
 """What an entry of a history means, in sentences."""
-from typing import List, NamedTuple, Optional, Tuple
+from typing import List, NamedTuple, Tuple
 
 from pictures.frames import Broken, Taken, pages_of
 
@@ -35,12 +35,10 @@ REPLIES = {
 
 
 class Answered(NamedTuple):
-    """An answer: the processor, the words of its call behind the processor, the words of the reply, and where it was told a hit and a size."""
+    """An answer: the processor, the words of its call behind the processor, and those of the reply, without a hit and a size."""
     processor: int
     call: List[str]
     reply: List[str]
-    hit: Optional[bool]
-    size: Optional[int]
 
 
 def run_of(name: str, first: int, count: int) -> str:
@@ -70,18 +68,14 @@ def pages(count: int) -> str:
     return '%d page%s' % (count, '' if count == 1 else 's')
 
 
-def answered(answer: Answered) -> List[str]:
-    """The call, its answer, and what translation served it."""
+def answered(answer: Answered) -> str:
+    """The call and its answer."""
     told = answer.reply[0]
     if told == 'value':
         reply = 'it is %s' % answer.reply[1]
     else:
         reply = 'done' if told == 'done' else '%s (%s)' % (' '.join(answer.reply), REPLIES[told])
-    said = ['Processor %d %s: %s.' % (answer.processor, called(answer.call), reply)]
-    if answer.size is not None:
-        found = 'A hit: its image had the translation' if answer.hit else 'A miss: its image had no translation of the page'
-        said.append('%s. The page has one of %s now.' % (found, pages(pages_of(answer.size))))
-    return said
+    return 'Processor %d %s: %s.' % (answer.processor, called(answer.call), reply)
 
 
 def taken(space: int, page: int, frame: int, how: Taken) -> List[str]:
