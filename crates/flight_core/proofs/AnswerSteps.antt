@@ -1,5 +1,5 @@
 -- Steps that answer a flight's call.
-use Rattle.std.proofs.Common.{◌≡◌, ℕ, ◌+◌, ◌<◌, Bool, true, false, ◌&&◌, is_some, List, [], ◌∷◌, Some, refl, ap, sym, subst, ◌∙◌, inl, inr, arith}
+use Rattle.std.proofs.Common.{◌≡◌, ◌≢◌, ℕ, ◌+◌, ◌<◌, Bool, true, false, ◌&&◌, is_some, List, [], ◌∷◌, None, Some, refl, ap, sym, subst, ◌∙◌, inl, inr, arith}
 use Rattle.std.specs.List.{find}
 use Rattle.std.proofs.lemmas.Bool.{cases_Bool, cond-true, cond-false, and_from, eq-eqb, false≢true}
 use Rattle.std.proofs.lemmas.Option.{same_Some}
@@ -10,18 +10,21 @@ use Rattle.pager_model.specs.declared.entry.What.TheVariants.{Answer}
 use Rattle.pager_model.specs.declared.region.Region.{Region}
 use Rattle.pager_model.specs.declared.reply.Answered.{Answered}
 use Rattle.pager_model.specs.declared.reply.Reply.{Reply}
+use Rattle.pager_model.specs.declared.reply.Reply.TheVariants.{NoMemory}
 use Rattle.pager_model.specs.Flat.{space_of_call, page_of, can_read, can_write}
 use Rattle.pager_model.specs.FrameStates.{FrameState, FramesAllow}
 use Rattle.pager_model.specs.Order.{Progress, may_answer, is_access, is_access_at, is_answered_alone, is_done, is_plain, leads, Idle, Cleared}
 use Rattle.pager_model.specs.Regions.{in_range, has_page, region_at}
 use Rattle.pager_model.specs.SpaceStates.{SpaceState, space_after, MayGoOn, WhatAllowed, IsUnmapOf, AfterClear, access_page}
+use Rattle.space_core.specs.declared.space.Begun.TheVariants.{Answered as HasAnswered}
 use Rattle.space_core.specs.Beginning.{BeginsAnswered, ReadsIn, Finishes, SameRegions, Unmapped}
-use Rattle.space_core.specs.Standing.{Kept, StandsFor, IsResting, is_allowed, rights_at}
+use Rattle.space_core.specs.Standing.{Kept, StandsFor, IsResting, copied_page, is_allowed, rights_at}
+use Rattle.space_core.proofs.CopyCalls.{had_memory}
 use Rattle.pager_model.specs.CallEntries.{answer_entry}
 use Rattle.flight_core.specs.declared.flight.Flight.{Flight}
 use Rattle.flight_core.specs.declared.flight.Phase.{Phase}
 use Rattle.flight_core.specs.declared.flight.Phase.TheVariants.{Start, Gone, Fill, Late, Ended}
-use Rattle.flight_core.specs.Flights.{IsReady}
+use Rattle.flight_core.specs.Flights.{IsReady, PhaseFits}
 use Rattle.flight_core.specs.Rows.{call_in, claimed_in, row_of, access_of}
 use Rattle.flight_core.specs.Steps.{Makes, SameSpace, after_frames}
 use Rattle.flight_core.proofs.EntrySteps.{Leaves-on, same_space, same_space-on}
@@ -230,6 +233,19 @@ late_answered f a was now phase begins =
       },
       IsAnswered-begun f a was now st (same_Some _ _ ready.under) ready.stands begins,
     ))
+
+-- a load or a store copies no page,
+uncopied : (call : Call) → is_access call ≡ true → copied_page call ≡ None
+uncopied (Load space address) access = refl
+uncopied (Store space address word) access = refl
+uncopied call access = absurd (false≢true access)
+
+-- so it isn't for want of memory
+pub late_has_memory : (f : Flight) (a : Answered) (was now : Kept) → f.phase ≡ Late → PhaseFits f.purpose f.phase
+    → BeginsAnswered was now f.processor (call_in f.purpose) a → a.reply ≢ NoMemory
+late_has_memory f a was now phase fits begins =
+    had_memory was now f.processor (call_in f.purpose) (HasAnswered a)
+    (uncopied (call_in f.purpose) (subst (PhaseFits f.purpose) phase fits)) begins
 
 -- the page is read in, and then the access is served
 pub record Fills (was now : Kept) (f : Flight) (a : Answered) : Type 0 where

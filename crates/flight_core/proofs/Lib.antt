@@ -14,3 +14,4 @@ pub mod VictimPages
 pub mod TurnSteps
 pub mod HeldFrames
 pub mod NextFlights
+pub mod WantOfMemory

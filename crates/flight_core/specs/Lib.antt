@@ -1,3 +1,4 @@
 pub mod Rows
 pub mod Flights
 pub mod Steps
+pub mod Lacking

@@ -1,5 +1,5 @@
 -- What a step of a flight does, for every state that the space it is made under stands for.
-use Rattle.std.specs.Prelude.{ℕ, ◌≡◌, ◌<◌, ◌≤◌, Bool, true, false, if◌then◌else◌, Option, Some, None, IfSome, length}
+use Rattle.std.specs.Prelude.{ℕ, ◌≡◌, ◌≢◌, ◌<◌, ◌≤◌, Bool, true, false, if◌then◌else◌, Option, Some, None, IfSome, length}
 use Rattle.pager_model.specs.declared.call.Call.{Call}
 use Rattle.pager_model.specs.declared.entry.Entry.{Entry}
 use Rattle.pager_model.specs.declared.entry.What.{What}
@@ -140,7 +140,7 @@ RowMakes purpose (Write v) (Failed page writing count) new = (page ≡ v.page) �
 RowMakes purpose (Hand v) (Give page frame) new = (page ≡ v.page) × (new ≡ won purpose v)
 RowMakes purpose (Unclaim v fault) (Unclaimed frame) new = new ≡ given_up purpose v fault
 RowMakes purpose (Drop v) (DropHeld frame) new = new ≡ let_go purpose
-RowMakes purpose Late (Answer number call a) new = new ≡ Ended a.reply
+RowMakes purpose Late (Answer number call a) new = (a.reply ≢ NoMemory) × (new ≡ Ended a.reply)
 RowMakes purpose (Use page want v) (UseHeld p frame w) new = (p ≡ page) × (w ≡ want) × (new ≡ Fill page frame)
 RowMakes purpose (Fault space count) (Answer number call a) new = (a.reply ≡ StoreFault space count) × (new ≡ Ended a.reply)
 RowMakes purpose (Lack space) (Answer number call a) new = (a.reply ≡ NoMemory) × (new ≡ Ended a.reply)

@@ -7,6 +7,7 @@ ghost use Rattle.pager_model.specs.FrameStates.{FrameState};
 ghost use Rattle.pager_model.specs.SpaceStates.{SpaceState};
 ghost use Rattle.pager_model.specs.CallEntries.{answer_entry};
 ghost use Rattle.flight_core.specs.Flights.{Fits, IsReady};
+ghost use Rattle.flight_core.specs.Lacking.{NeverLacks};
 ghost use Rattle.flight_core.specs.Rows.{alone, both, call_in, has_ended, is_of_call, new_flight, new_turn, own_space, reply_in, row_of, space_under, won};
 ghost use Rattle.pager_model.specs.Flat.{space_of_call};
 ghost use Rattle.pager_model.specs.Locks.{own_if};
@@ -283,6 +284,7 @@ impl Flight {
         ensures faults { IfSome result (λ e. FaultsTold space.old.store.faults space.new.store.faults e.what) }
         ensures unfailed { IfNone result (space.new.store.faults ≡ space.old.store.faults) }
         ensures memory { self.old.phase ≡ Phase.Start → self.new.phase ≡ Phase.Ended Reply.NoMemory → LacksItsMemory space.old (call_in self.old.purpose) }
+        ensures lasting { S.lasts ≡ true → NeverLacks self.old.phase self.new.phase }
         ensures nearer { (row_of self.new).steps < (row_of self.old).steps }
     {
         match self.phase {
@@ -326,6 +328,7 @@ impl Flight {
         ensures row { IfSome result (λ e. RowMakes self.old.purpose self.old.phase e.what self.new.phase) }
         ensures row_passed { IfNone result (RowPasses self.old.phase self.new.phase) }
         ensures same_store { SameStore space.old space.new }
+        ensures never_lacks { NeverLacks self.old.phase self.new.phase }
         ensures nearer { (row_of self.new).steps < (row_of self.old).steps }
     {
         match self.phase {
@@ -351,6 +354,7 @@ impl Flight {
         requires room { pool.old.entries < 2 ^ 45 }
         ensures entry { MakesOnFrames self.old self.new pool.old pool.new result }
         ensures row { RowMakes self.old.purpose self.old.phase result.what self.new.phase }
+        ensures never_lacks { NeverLacks self.old.phase self.new.phase }
         ensures nearer { (row_of self.new).steps < (row_of self.old).steps }
     {
         match (self.purpose, self.phase) {

@@ -252,7 +252,7 @@ impl FollowedSpace {
         Changed::Range(blocks_round(first, length))
     }
 
-    /// A call was answered with what it asked for.
+    /// Does to the pages what a call did that was answered.
     fn serve(&mut self, call: &Call) -> Changed
         requires next { (st : SpaceState) × (e : Item) × Serves e call.now × IsNext self.old st e }
         ensures frames { frames_in self.new.pages ≡ frames_in self.old.pages }

@@ -110,6 +110,7 @@ fn place_all(history: &mut [Numbered], logs: &[Vec<Numbered>])
     }
 }
 
+/// Puts each entry of a log at its number.
 fn place(history: &mut [Numbered], log: &[Numbered])
     requires { IsPlaced (length history.old) log.now }
     ensures { history.new ≡ placed history.old log.now }

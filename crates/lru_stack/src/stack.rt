@@ -229,7 +229,7 @@ impl Stack {
         self.step(is_tile, used)
     }
 
-    /// An entry of the space after which each tile is one still: none goes, and none is looked at but the one that was used.
+    /// Follows an entry that takes no tile away, so that only the used one is looked at.
     pub fn follow_same(&mut self, used: Option<Use>)
         requires room { self.old.uses < 2 ^ 64 - 1 }
         ensures places { length self.new.places ≡ length self.old.places }

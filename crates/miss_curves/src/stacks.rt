@@ -90,7 +90,7 @@ impl Stacks {
         }
     }
 
-    /// Follows an entry after which each tile of its space, if it has one, is one still, and which page was used.
+    /// Follows an entry that takes no tile away, and which page was used.
     pub fn follow_same(&mut self, entry: &Entry, used: Option<Use>, used_page: Option<Use>)
         requires known { IfSome entry.now.space (λ s. s < length self.old.tiles) }
         requires room { self.old.entries < 2 ^ 64 - 1 }

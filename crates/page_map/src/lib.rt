@@ -118,6 +118,7 @@ impl Mixed {
         ensures pages { pages_in self.new ≡ pages_in self.old }
         ensures cost { steps.new ≤ steps.old + 10 }
     {
+        // Named so that the proof sees that the counts stay as they are.
         let _ = &self.counts;
         let Extent { size, first } = entry.extent;
         self.tree.put(size, first, entry.mapping, steps);

@@ -1,6 +1,7 @@
 //! Traces that are made from a number: written, or run.
 
-ghost use Rattle.std.specs.Prelude.{◌≡◌, ◌≢◌, ◌≤◌, ◌⊎◌, None, Some, IfOk, IfErr, length, map};
+ghost use Rattle.std.specs.Prelude.{◌≡◌, ◌≢◌, ◌≤◌, ◌⊎◌, true, None, Some, IfOk, IfErr, length, map};
+ghost use Rattle.flight_core.specs.Lacking.{NoneLacked};
 ghost use Rattle.io_core.specs.Faults.{one_more};
 ghost use Rattle.pager_model.specs.Legal.{entries_in};
 ghost use Rattle.pager_model.specs.PrintedText.{summary_text};
@@ -75,7 +76,8 @@ pub fn run_large<K: Sink, S: Store + Send + Drop>(
     sink: &mut K,
     stores: Vec<S>,
 ) -> Outcome<S>
-    ensures { RunsLarge (out_views K.taken K.faults S.seen) number seed stores.items (ending sink.old sink.new result) }
+    ensures runs { RunsLarge (out_views K.taken K.faults S.seen) number seed stores.items (ending sink.old sink.new result) }
+    ensures lasting { S.lasts ≡ true → NoneLacked (entries_in result.history.items) }
 {
     let count = stores.len() as u64;
     if count < u64::from(LARGE_SPACES) {
@@ -102,6 +104,7 @@ fn replay_large<S: Store + Send + Drop>(
     ensures trace { IfOk result (λ made. made.0 ≡ large_trace number) }
     ensures run { IfOk result (λ made.
         IsReplay made.0 (map S.seen stores.items) made.1.history.items (map S.seen made.1.stores.items)) }
+    ensures lasting { S.lasts ≡ true → IfOk result (λ made. NoneLacked (entries_in made.1.history.items)) }
     ensures seeded { IfOk result (λ made. IsSeeded made.0 seed (entries_in made.1.history.items)) }
     ensures counts { IfOk result (λ made. AreItsCounts made.0 (map S.seen stores.items) made.1.history.items made.1.summary) }
     ensures back { IfErr result (λ back. map S.seen back.items ≡ map S.seen stores.items) }

@@ -1,8 +1,9 @@
 //! A run of the program, from the bytes read to the bytes written.
 
-ghost use Rattle.std.specs.Prelude.{ℕ, ◌≡◌, ◌≢◌, ◌<◌, ◌≤◌, ◌⊎◌, List, [], Option, None, Some, IfOk, IfErr, IfSome, IsSome, IsSomeAnd, length, map};
+ghost use Rattle.std.specs.Prelude.{ℕ, ◌≡◌, ◌≢◌, ◌<◌, ◌≤◌, ◌⊎◌, List, [], Option, None, Some, true, IfOk, IfErr, IfSome, IsSome, IsSomeAnd, length, map};
 ghost use Rattle.contiguity_plan.specs.declared.plan.Plan.{Plan as Emptying};
 ghost use Rattle.contiguity_plan.specs.Emptying.{IsOver, IsPlanned};
+ghost use Rattle.flight_core.specs.Lacking.{NoneLacked};
 ghost use Rattle.io_core.specs.Faults.{one_more, Rose};
 ghost use Rattle.miss_curves.specs.Curves.{AreCurves};
 ghost use Rattle.miss_curves.specs.Histories.{IsRunOf};
@@ -103,6 +104,9 @@ pub fn run<T: Source, K: Sink, S: Store + Send + Drop, R: Threads + Wait + Sync>
     ensures ordered { (form : Asked) → AreWords words.now form
         → IfSome result.trace (λ trace. ComesBy form trace (entries_in result.history.items)) }
 
+    // Over stores that keep every page of a space for good no call was answered for want of memory.
+    ensures lasting { S.lasts ≡ true → NoneLacked (entries_in result.history.items) }
+
     // What it prints was written, or a part of it.
     ensures wrote { (form : Asked) → AreWords words.now form → result.status ≡ DONE → IfSome result.trace (λ trace.
         PrintedAll form trace (map S.seen stores.items) result.history.items (K.taken sink.old) (K.taken sink.new)) }
@@ -139,8 +143,9 @@ fn run_in_turns<T: Source, K: Sink, S: Store + Send + Drop>(
     stores: Vec<S>,
 ) -> Outcome<S>
     requires in_turns { IsInTurns form }
-    ensures { RunsBy (views T.left T.faults K.taken K.faults S.seen) form
+    ensures runs { RunsBy (views T.left T.faults K.taken K.faults S.seen) form
         (ends source.old sink.old) (ends source.new sink.new) stores.items result }
+    ensures lasting { S.lasts ≡ true → NoneLacked (entries_in result.history.items) }
 {
     let trace = match trace_to_run(alloc, &form, source, stores.len()) {
         Ok(trace) => trace,
@@ -161,8 +166,9 @@ fn run_in_threads<T: Source, K: Sink, S: Store + Send + Drop, R: Threads + Wait 
     sink: &mut K,
     stores: Vec<S>,
 ) -> Outcome<S>
-    ensures { RunsBy (views T.left T.faults K.taken K.faults S.seen) (Asked.Replay parts)
+    ensures runs { RunsBy (views T.left T.faults K.taken K.faults S.seen) (Asked.Replay parts)
         (ends source.old sink.old) (ends source.new sink.new) stores.items result }
+    ensures lasting { S.lasts ≡ true → NoneLacked (entries_in result.history.items) }
 {
     let form = Form::Replay { parts };
     let trace = match trace_to_run(alloc, &form, source, stores.len()) {
@@ -241,6 +247,7 @@ fn replay_in_turns<S: Store + Send + Drop>(
     ensures run { IfOk result (λ g. IsReplay trace.now (map S.seen stores.items) g.history.items (map S.seen g.stores.items)) }
     ensures ordered { IfOk result (λ g. ComesBy form.now trace.now (entries_in g.history.items)) }
     ensures counts { IfOk result (λ g. AreItsCounts trace.now (map S.seen stores.items) g.history.items g.summary) }
+    ensures lasting { S.lasts ≡ true → IfOk result (λ g. NoneLacked (entries_in g.history.items)) }
     ensures back { IfErr result (λ back. map S.seen back.items ≡ map S.seen stores.items) }
 {
     match *form {

@@ -8,6 +8,7 @@ pub mod SilentSteps
 pub mod Keepers
 pub mod ReadyFlights
 pub mod WholeTurns
+pub mod Memory
 pub mod Laws
 pub mod WholeRuns
 pub mod RunCounts

@@ -1,5 +1,5 @@
 -- What the fields of a machine keep true.
-use Rattle.std.specs.Prelude.{ℕ, ◌≡◌, ◌≢◌, ◌+◌, ◌*◌, ◌<◌, ◌≤◌, List, length, sum_by, slice_get, slice_index_or, Option, Some, None, IfSome}
+use Rattle.std.specs.Prelude.{ℕ, ◌≡◌, ◌≢◌, ◌+◌, ◌*◌, ◌<◌, ◌≤◌, false, List, length, sum_by, slice_get, slice_index_or, Option, Some, None, IfSome}
 use Rattle.std.specs.List.{range_with_len}
 use Rattle.pager_model.specs.Bounds.{most_spaces}
 use Rattle.pager_model.specs.declared.call.Call.{Call}
@@ -15,6 +15,7 @@ use Rattle.space_core.specs.Standing.{Kept, CanBegin}
 use Rattle.flight_core.specs.declared.flight.Flight.{Flight}
 use Rattle.flight_core.specs.Rows.{own_space, row_of, space_under, Going}
 use Rattle.flight_core.specs.Flights.{Fits, IsReady, IsAtRest}
+use Rattle.flight_core.specs.Lacking.{NoneLacked, is_lacking}
 use Rattle.pager_core.specs.Running.{Running, AreOfMark, job_in, jobs_at, flight_at, kept_by, left_at, IsLawful}
 
 -- at most so many entries have a trace's calls and its daemon's turns: eight each of 262,144 calls, and 257 each of 4,096 turns
@@ -96,3 +97,8 @@ pub record IsMachine (run : Running) (spaces : List Kept) (pool : FrameState) (c
   -- the history has room for what is left
   pub room : length run.history + all_left run ≤ capacity
   pub few : length run.history + all_left run ≤ most_entries
+
+-- No flight lacks memory, and no answer was for want of it.
+pub record HasMemory (run : Running) : Type 0 where
+  pub flights : (c : ℕ) (f : Flight) → flight_at run.flights c ≡ Some f → is_lacking f.phase ≡ false
+  pub answers : NoneLacked (entries_in run.history)

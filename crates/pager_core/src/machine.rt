@@ -11,6 +11,7 @@ ghost use Rattle.pager_model.specs.SpaceStates.{SpaceState};
 ghost use Rattle.pager_model.specs.TraceText.{HasText, IsDaemon};
 ghost use Rattle.pager_model.specs.Stores.{setting_over, StoresEnd, AreCapped};
 ghost use Rattle.flight_core.specs.Flights.{IsReady};
+ghost use Rattle.flight_core.specs.Lacking.{NeverLacks, NoneLacked};
 ghost use Rattle.pager_core.specs.Machines.{IsOther, entries_of_trace, entries_of_turns};
 ghost use Rattle.flight_core.specs.Rows.{Going, has_ended, row_of, space_under};
 ghost use Rattle.pager_core.specs.RunParts.{AreRoomsOver};
@@ -59,9 +60,9 @@ pub struct Machine<'a, S: Store + Send + Drop> {
 }
 
 impl<'a, S: Store + Send + Drop> Model for Machine<'a, S> {
-    ghost use Rattle.std.specs.Prelude.{◌+◌, ◌≤◌, length, map, reverse, vec_capacity, vec_len};
+    ghost use Rattle.std.specs.Prelude.{◌≡◌, ◌+◌, ◌≤◌, true, length, map, reverse, vec_capacity, vec_len};
     ghost use Rattle.pager_core.specs.Running.{Running};
-    ghost use Rattle.pager_core.specs.Machines.{IsMachine, AreKeepers};
+    ghost use Rattle.pager_core.specs.Machines.{IsMachine, AreKeepers, HasMemory};
 
     ghost Value = { Running };
 
@@ -79,7 +80,14 @@ impl<'a, S: Store + Send + Drop> Model for Machine<'a, S> {
       flights = m.flights.items;
       history = m.history.items;
       unused = map S.seen (reverse m.stores.items);
-    }) m.spaces.items m.pool (m.history.room) × (vec_len m.stores + length m.spaces.items ≤ vec_capacity m.stores) × AreKeepers m.flights.items (length m.spaces.items) m.keepers.items };
+    }) m.spaces.items m.pool (m.history.room) × (vec_len m.stores + length m.spaces.items ≤ vec_capacity m.stores) × AreKeepers m.flights.items (length m.spaces.items) m.keepers.items
+        × (S.lasts ≡ true → HasMemory (record {
+          given = m.setting;
+          jobs = m.jobs;
+          flights = m.flights.items;
+          history = m.history.items;
+          unused = map S.seen (reverse m.stores.items);
+        })) };
 }
 
 impl<'a, S: Store + Send + Drop> Machine<'a, S> {
@@ -135,6 +143,7 @@ impl<'a, S: Store + Send + Drop> Machine<'a, S> {
         ensures lawful { IsLawful self.new }
         ensures laws { KeepsLaws self.new.given (entries_in self.new.history) }
         ensures never_short { IsNeverShort self.new.given (entries_in self.new.history) }
+        ensures lasting { S.lasts ≡ true → NoneLacked (entries_in self.new.history) }
     {
         let Some(flight) = self.flights[actor as usize] else {
             return Turn::Ended;
@@ -159,6 +168,7 @@ impl<'a, S: Store + Send + Drop> Machine<'a, S> {
         ensures lawful { IsLawful self.new }
         ensures laws { KeepsLaws self.new.given (entries_in self.new.history) }
         ensures never_short { IsNeverShort self.new.given (entries_in self.new.history) }
+        ensures lasting { S.lasts ≡ true → NoneLacked (entries_in self.new.history) }
     {
         if is_other(self.keepers[space as usize], actor) {
             return Turn::Waits(space);
@@ -186,6 +196,7 @@ impl<'a, S: Store + Send + Drop> Machine<'a, S> {
         ensures lawful { IsLawful self.new }
         ensures laws { KeepsLaws self.new.given (entries_in self.new.history) }
         ensures never_short { IsNeverShort self.new.given (entries_in self.new.history) }
+        ensures lasting { S.lasts ≡ true → NoneLacked (entries_in self.new.history) }
     {
         let mut flight = flight;
         let entry = flight.step_frames(&mut self.pool);
@@ -232,6 +243,7 @@ impl<'a, S: Store + Send + Drop> Machine<'a, S> {
         ensures stores { StoresEnd self.entry.given self.entry.history (map S.seen result.stores.items) }
         ensures unused { drop (length self.entry.given.told) (map S.seen result.stores.items) ≡ self.entry.unused }
         ensures summary { result.summary ≡ counts self.entry.given (entries_in self.entry.history) }
+        ensures lasting { S.lasts ≡ true → NoneLacked (entries_in self.entry.history) }
     {
         Gathered::of(self.history, self.spaces, self.pool, self.stores)
     }
@@ -415,6 +427,7 @@ fn next_entry<S: Store + Send + Drop>(
     requires known { flight.old.processor < length pool.old.held }
     requires room { pool.old.entries < 2 ^ 45 }
     ensures made { (st : SpaceState) → IsReady flight.old space.old st → Makes flight.old flight.new space.old space.new st pool.old pool.new result }
+    ensures lasting { S.lasts ≡ true → NeverLacks flight.old.phase flight.new.phase }
 {
     loop {
         if let Some(entry) = step(flight, space, pool) {
@@ -439,6 +452,7 @@ fn step<S: Store + Send + Drop>(
     ensures entry { IfSome result (λ e. (st : SpaceState) → IsReady flight.old space.old st → Makes flight.old flight.new space.old space.new st pool.old pool.new e) }
     ensures none { IfNone result ((st : SpaceState) → IsReady flight.old space.old st → Passes flight.old flight.new space.old space.new st) }
     ensures same_pool { result ≡ None → pool.new ≡ pool.old }
+    ensures lasting { S.lasts ≡ true → NeverLacks flight.old.phase flight.new.phase }
     ensures nearer { (row_of flight.new).steps < (row_of flight.old).steps }
 {
     match flight.needs() {

@@ -1,7 +1,8 @@
 //! What lies behind the locks.
 
-ghost use Rattle.std.specs.Prelude.{◌≡◌, ◌<◌, Some, None};
+ghost use Rattle.std.specs.Prelude.{◌≡◌, ◌<◌, true, Some, None};
 ghost use Rattle.flight_core.specs.declared.flight.Needs.TheVariants.{Both, Frames};
+ghost use Rattle.flight_core.specs.Lacking.{NeverLacks};
 ghost use Rattle.flight_core.specs.Rows.{row_of, space_under};
 ghost use Rattle.pager_locks.specs.Locked.{Departure, IsPoolAt, IsLockedSpace, IsLockedPool, IsFlying, IsHere, Stepped};
 
@@ -65,6 +66,7 @@ impl<N: Named> LockedPool<N> {
         ensures stepped { Stepped N.journal space.new result.0 flight.new }
         ensures part { result.0.part ≡ author.part }
         ensures flying { (from : Departure) → IsFlying N.journal from flight.old pass → IsFlying N.journal from flight.new result.1 }
+        ensures lasting { S.lasts ≡ true → NeverLacks flight.old.phase flight.new.phase }
         ensures nearer { (row_of flight.new).steps < (row_of flight.old).steps }
     {
         let Some(frames) = self.author.take() else {
@@ -90,6 +92,7 @@ impl<N: Named> LockedPool<N> {
         requires needs { (row_of flight.old).needs ≡ Frames }
         ensures flying { (from : Departure) → IsFlying N.journal from flight.old pass → IsFlying N.journal from flight.new result }
         ensures left { (row_of flight.new).keeps ≡ None }
+        ensures never_lacks { NeverLacks flight.old.phase flight.new.phase }
         ensures nearer { (row_of flight.new).steps < (row_of flight.old).steps }
     {
         let Some(frames) = self.author.take() else {
@@ -164,6 +167,7 @@ impl<N: Named, P: Place, S: Store + Send + Drop> LockedSpace<N, P, S> {
         requires keeps { (row_of flight.old).keeps ≡ None }
         ensures flying { (from : Departure) → IsFlying N.journal from flight.old pass → IsFlying N.journal from flight.new result }
         ensures left { (row_of flight.new).keeps ≡ None }
+        ensures lasting { S.lasts ≡ true → NeverLacks flight.old.phase flight.new.phase }
         ensures nearer { (row_of flight.new).steps < (row_of flight.old).steps }
     {
         let Some(author) = self.author.take() else {
@@ -204,6 +208,7 @@ fn stretch<N: Named, S: Store + Send + Drop, R: Wait>(
     ensures part { result.0.part ≡ author.part }
     ensures flying { (from : Departure) → IsFlying N.journal from flight.old pass → IsFlying N.journal from flight.new result.1 }
     ensures left { (row_of flight.new).keeps ≡ None }
+    ensures lasting { S.lasts ≡ true → NeverLacks flight.old.phase flight.new.phase }
     ensures nearer { (row_of flight.new).steps < (row_of flight.old).steps }
 {
     let mut author = author;
@@ -233,6 +238,7 @@ fn step<N: Named, S: Store + Send + Drop, R: Wait>(
     ensures stepped { Stepped N.journal space.new result.0 flight.new }
     ensures part { result.0.part ≡ author.part }
     ensures flying { (from : Departure) → IsFlying N.journal from flight.old pass → IsFlying N.journal from flight.new result.1 }
+    ensures lasting { S.lasts ≡ true → NeverLacks flight.old.phase flight.new.phase }
     ensures nearer { (row_of flight.new).steps < (row_of flight.old).steps }
 {
     match flight.needs() {

@@ -2,6 +2,7 @@
 
 ghost use Rattle.std.specs.Prelude.{◌≡◌, ◌<◌, ◌≤◌, ◌+◌, ◌*◌, true, is_some, [], length, vec_capacity, Some, None};
 ghost use Rattle.pager_model.specs.Bounds.{most_spaces};
+ghost use Rattle.flight_core.specs.Lacking.{NeverLacks};
 ghost use Rattle.flight_core.specs.Rows.{row_of, space_under};
 ghost use Rattle.pager_locks.specs.Locked.{Departure, IsFlying};
 ghost use Rattle.pager_locks.specs.Locks.{AreThere, AreLeft, AreParts};
@@ -58,6 +59,7 @@ impl<N: Named, S: Store + Send + Drop> Locks<N, S> {
         requires keeps { (row_of flight.old).keeps ≡ None }
         ensures flying { (from : Departure) → IsFlying N.journal from flight.old pass → IsFlying N.journal from flight.new result }
         ensures left { (row_of flight.new).keeps ≡ None }
+        ensures lasting { S.lasts ≡ true → NeverLacks flight.old.phase flight.new.phase }
         ensures nearer { (row_of flight.new).steps < (row_of flight.old).steps }
     {
         let place = space % 4;
@@ -127,6 +129,7 @@ impl<N: Named, G: Place, S: Store + Send + Drop> LockGroup<N, G, S> {
         requires keeps { (row_of flight.old).keeps ≡ None }
         ensures flying { (from : Departure) → IsFlying N.journal from flight.old pass → IsFlying N.journal from flight.new result }
         ensures left { (row_of flight.new).keeps ≡ None }
+        ensures lasting { S.lasts ≡ true → NeverLacks flight.old.phase flight.new.phase }
         ensures nearer { (row_of flight.new).steps < (row_of flight.old).steps }
     {
         match place {
@@ -168,6 +171,7 @@ fn fly_at<N: Named, P: Place, S: Store + Send + Drop, R: Wait>(
     requires keeps { (row_of flight.old).keeps ≡ None }
     ensures flying { (from : Departure) → IsFlying N.journal from flight.old pass → IsFlying N.journal from flight.new result }
     ensures left { (row_of flight.new).keeps ≡ None }
+    ensures lasting { S.lasts ≡ true → NeverLacks flight.old.phase flight.new.phase }
     ensures nearer { (row_of flight.new).steps < (row_of flight.old).steps }
 {
     let Some(locked) = locked else { unreachable!() };

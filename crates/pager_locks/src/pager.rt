@@ -1,6 +1,6 @@
 //! A pager that many threads call.
 
-ghost use Rattle.std.specs.Prelude.{◌≡◌, ◌≤◌, ◌<◌, ◌+◌, true, false, IsSomeAnd, [], length, map, sum, vec_capacity, None};
+ghost use Rattle.std.specs.Prelude.{◌≡◌, ◌≢◌, ◌≤◌, ◌<◌, ◌+◌, true, false, IsSomeAnd, [], length, map, sum, vec_capacity, Some, None};
 ghost use Rattle.std.specs.List.{All, range_with_len};
 ghost use Rattle.journal_core.specs.Clauses.{IsHistory, IsOwnOf};
 ghost use Rattle.pager_model.specs.Agreement.{NothingHeld};
@@ -12,6 +12,7 @@ ghost use Rattle.pager_model.specs.Order.{IsWhole};
 ghost use Rattle.pager_model.specs.Settings.{mark_of};
 ghost use Rattle.pager_model.specs.Stores.{StoresEnd};
 ghost use Rattle.pager_core.specs.Machines.{CanFly};
+ghost use Rattle.flight_core.specs.Lacking.{NeverLacks};
 ghost use Rattle.flight_core.specs.Rows.{call_in, has_ended, reply_in, row_of};
 ghost use Rattle.pager_core.specs.Running.{IsNumbered};
 ghost use Rattle.pager_locks.specs.Locked.{Departure, IsFlying};
@@ -105,7 +106,8 @@ impl<N: Named, S: Store + Send + Drop> Pager<N, S> {
     pub fn call<R: Wait>(&self, rt: &R, pass: Pass, call: &Call) -> (Reply, Pass)
         requires pass { MayCall N.journal pass }
         requires can { CanFly (length N.journal.setting.told) call.now }
-        ensures { MakesCall N.journal.setting pass result.1 call.now result.0 }
+        ensures made { MakesCall N.journal.setting pass result.1 call.now result.0 }
+        ensures lasting { S.lasts ≡ true → result.0 ≢ Reply.NoMemory }
     {
         let flight = Flight::of_call(pass.processor(), pass.answers(), *call);
         let (flight, pass) = self.fly(rt, flight, pass);
@@ -121,7 +123,8 @@ impl<N: Named, S: Store + Send + Drop> Pager<N, S> {
         requires pass { MayCall N.journal pass }
         requires next { IsNextFlight pass flight }
         requires can { CanFly (length N.journal.setting.told) (call_in flight.purpose) }
-        ensures { IsSomeAnd (reply_in (row_of result.0).outcome) (λ reply. MakesCall N.journal.setting pass result.1 (call_in flight.purpose) reply) }
+        ensures made { IsSomeAnd (reply_in (row_of result.0).outcome) (λ reply. MakesCall N.journal.setting pass result.1 (call_in flight.purpose) reply) }
+        ensures lasting { S.lasts ≡ true → reply_in (row_of result.0).outcome ≢ Some Reply.NoMemory }
     {
         let processor = pass.processor();
         prove!(flight.processor == processor);
@@ -144,6 +147,7 @@ impl<N: Named, S: Store + Send + Drop> Pager<N, S> {
         requires keeps { (row_of flight).keeps ≡ None }
         ensures flying { (from : Departure) → IsFlying N.journal from flight pass → IsFlying N.journal from result.0 result.1 }
         ensures ended { has_ended (row_of result.0).outcome ≡ true }
+        ensures lasting { S.lasts ≡ true → NeverLacks flight.phase result.0.phase }
     {
         let mut flight = flight;
         let mut pass = pass;
@@ -160,6 +164,7 @@ impl<N: Named, S: Store + Send + Drop> Pager<N, S> {
         requires going { has_ended (row_of flight.old).outcome ≡ false }
         ensures flying { (from : Departure) → IsFlying N.journal from flight.old pass → IsFlying N.journal from flight.new result }
         ensures left { (row_of flight.new).keeps ≡ None }
+        ensures lasting { S.lasts ≡ true → NeverLacks flight.old.phase flight.new.phase }
         ensures nearer { (row_of flight.new).steps < (row_of flight.old).steps }
     {
         match flight.under() {

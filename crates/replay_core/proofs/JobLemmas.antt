@@ -1,33 +1,89 @@
 -- The jobs of a processor, done one after another, and the passes of all of them.
-use Rattle.std.proofs.Common.{◌≡◌, ℕ, zero, suc, ◌+◌, ◌*◌, ◌<◌, List, [], ◌∷◌, ◌++◌, length, map, reverse, take, get_or, slice_get, option_map, option_to_list, Option, Some, None, IsSome, refl, ap, ap₂, sym, subst, ◌∙◌, inl, inr, arith, append_assoc, length-append, ◌≤◌}
-use Rattle.std.specs.List.{All, enumerate_from, range_with_len}
+use Rattle.std.proofs.Common.{◌≡◌, ◌≢◌, ℕ, zero, suc, ◌+◌, ◌*◌, ◌<◌, Bool, true, List, [], ◌∷◌, ◌++◌, length, map, reverse, take, get_or, slice_get, option_map, option_to_list, Option, Some, None, IsSome, refl, ap, ap₂, sym, subst, ◌∙◌, inl, inr, arith, append_assoc, length-append, ◌≤◌}
+use Rattle.std.specs.List.{All, AllByRecursion, cons_option, enumerate_from, range_with_len}
+use Rattle.std.proofs.lemmas.Bool.{eq-eqb}
 use Rattle.std.proofs.lemmas.List.{append-nil, length_push, take_more, map-append, reverse-append, get_or-map, ext_get_or}
 use Rattle.std.proofs.lemmas.List.Elements.{filter_map-append}
 use Rattle.std.proofs.lemmas.List.FromFn.{length-range_with_len, get_or-range_with_len}
 use Rattle.std.proofs.lemmas.List.Sums.{sum_by_more_le, sum_by_push}
-use Rattle.std.proofs.lemmas.Option.{same_Some, slice_get-map, slice_get-get_or, slice_get_cases, get_or_from_slice_get}
+use Rattle.std.proofs.lemmas.Option.{none-some, same_Some, slice_get-map, slice_get-get_or, slice_get_cases, get_or_from_slice_get}
 use Rattle.std.proofs.Math.ListN.{length-map}
 use Rattle.journal_core.specs.Clauses.{IsOwnOf}
 use Rattle.journal_core.specs.Journals.{JournalName, PassState, new_pass, new_passes}
+use Rattle.journal_core.proofs.HistoryLength.{processors_of}
 use Rattle.pager_model.specs.declared.call.Call.{Call}
 use Rattle.pager_model.specs.declared.entry.Entry.{Entry}
 use Rattle.pager_model.specs.declared.entry.Numbered.{Numbered}
+use Rattle.pager_model.specs.declared.entry.What.{What}
+use Rattle.pager_model.specs.declared.entry.What.TheVariants.{Answer}
+use Rattle.pager_model.specs.declared.reply.Reply.{Reply}
+use Rattle.pager_model.specs.declared.reply.Reply.TheVariants.{NoMemory}
 use Rattle.pager_model.specs.declared.trace.Job.{Job}
 use Rattle.pager_model.specs.declared.trace.Job.TheVariants.{Call as ToCall, Turn}
-use Rattle.pager_model.specs.Entries.{entries_of}
+use Rattle.pager_model.specs.Entries.{entries_of, is_of}
 use Rattle.pager_model.specs.Legal.{IsLegal, entries_in}
 use Rattle.pager_model.specs.Order.{Progress, at_rest, progress_of, progress_from, IsWhole}
 use Rattle.pager_model.specs.Settings.{mark_of}
 use Rattle.pager_model.specs.Showing.{answers_in, answer_in}
 use Rattle.pager_model.proofs.Histories.{progress_from-append}
+use Rattle.flight_core.specs.Lacking.{NoneLacked}
+use Rattle.flight_core.specs.Steps.{reply_said}
 use Rattle.pager_core.specs.Machines.{CanDo}
 use Rattle.pager_core.specs.Running.{AreOfMark, FitsMark, call_of, calls_among, entries_of_job, jobs_at, IsNumbered, IsWholeRun}
 use Rattle.pager_laws.proofs.HistoryLists.{filter_map-push}
 use Rattle.pager_core.proofs.Lists.{enumerate-push}
 use Rattle.pager_core.proofs.MachineTurns.{all_calls, take_are}
 use Rattle.pager_core.proofs.WholeRuns.{IsWholeRun-legal}
+use Rattle.pager_locks.specs.Locked.{replies_in}
 use Rattle.replay_core.specs.declared.jobs.Worker.{Worker}
+use Rattle.replay_core.proofs.TurnLemmas.{all_join, all_tested}
 use Rattle.replay_core.specs.Jobs.{jobs_in, room_for, DoesJob, HasDone, IsReady, IsDoneFrom, HasPass, KeepsToRooms, MayDo, MayDoAll, MayDoNext, HaveDone}
+
+-- Want of memory.
+
+NoneLacked-append : (xs ys : List Entry) → NoneLacked xs → NoneLacked ys → NoneLacked (xs ++ ys)
+NoneLacked-append = all_join (λ (e : Entry). reply_said e.what ≢ Some NoMemory)
+
+-- replies that say nothing of it
+first_reply : (o : Option Reply) (rs : List Reply) → AllByRecursion (λ r. r ≢ NoMemory) (cons_option o rs)
+    → (o ≢ Some NoMemory) × AllByRecursion (λ r. r ≢ NoMemory) rs
+first_reply None rs all = (λ is. none-some NoMemory is, all)
+first_reply (Some r) rs all = (λ is. all.0 (same_Some r NoMemory is), all.1)
+
+NoneLacked-replies : (entries : List Entry) → AllByRecursion (λ r. r ≢ NoMemory) (replies_in entries) → NoneLacked entries
+NoneLacked-replies [] all = tt
+NoneLacked-replies (e ∷ es) all =
+    let parts = first_reply (reply_said e.what) (replies_in es) all in
+    (parts.0, NoneLacked-replies es parts.1)
+
+-- entries that answer nothing
+unsaid : (what : What) → answer_in what ≡ None → reply_said what ≢ Some NoMemory
+unsaid (Answer number call answered) none said = none-some (number, call) (sym none)
+unsaid what none said = none-some NoMemory said
+
+first_unanswered : (o : Option (ℕ × Call)) (rest : List (ℕ × Call)) → cons_option o rest ≡ [] → (o ≡ None) × (rest ≡ [])
+first_unanswered None rest is = (refl, is)
+first_unanswered (Some x) rest is = cc
+
+NoneLacked-unanswered : (entries : List Entry) → answers_in entries ≡ [] → NoneLacked entries
+NoneLacked-unanswered [] none = tt
+NoneLacked-unanswered (e ∷ es) none =
+    let parts = first_unanswered (answer_in e.what) (answers_in es) none in
+    (unsaid e.what parts.0, NoneLacked-unanswered es parts.1)
+
+-- each processor's entries
+NoneLacked-each : (n : ℕ) (entries : List Entry) → AllByRecursion (λ (e : Entry). e.processor < n) entries
+    → ((c : ℕ) → c < n → AllByRecursion (λ (e : Entry). is_of c e ≡ true → reply_said e.what ≢ Some NoMemory) entries)
+    → NoneLacked entries
+NoneLacked-each n [] known each = tt
+NoneLacked-each n (e ∷ es) known each =
+    ((each e.processor known.0).0 (eq-eqb e.processor e.processor refl), NoneLacked-each n es known.1 (λ c below. (each c below).1))
+
+NoneLacked-parts : (n : ℕ) (entries : List Entry) → AllByRecursion (λ (e : Entry). e.processor < n) entries
+    → ((c : ℕ) → c < n → NoneLacked (entries_of c entries)) → NoneLacked entries
+NoneLacked-parts n entries known parts =
+    NoneLacked-each n entries known
+    (λ c below. all_tested (λ (e : Entry). reply_said e.what ≢ Some NoMemory) (is_of c) entries (parts c below))
 
 -- One after another.
 
@@ -39,10 +95,10 @@ calls_push : (jobs : List Job) (job : Job) → calls_among (jobs ++ job ∷ []) 
 calls_push jobs job = filter_map-push call_of jobs job
 
 -- and after one more
-HasDone-more : (j : JournalName) (old p q : PassState) (jobs more : List Job) (job : Job) → HasDone j old jobs p
-    → AreOfMark (mark_of j.setting old.processor) jobs → FitsMark (mark_of j.setting old.processor) job → DoesJob j.setting p q job
-    → more ≡ jobs ++ job ∷ [] → HasDone j old more q
-HasDone-more j old p q jobs more (ToCall call) has are fits (reply, makes) is =
+HasDone-more : (lasts : Bool) (j : JournalName) (old p q : PassState) (jobs more : List Job) (job : Job) → HasDone lasts j old jobs p
+    → AreOfMark (mark_of j.setting old.processor) jobs → FitsMark (mark_of j.setting old.processor) job → DoesJob lasts j.setting p q job
+    → more ≡ jobs ++ job ∷ [] → HasDone lasts j old more q
+HasDone-more lasts j old p q jobs more (ToCall call) has are fits (reply, makes, had) is =
     let mark = mark_of j.setting old.processor in
     let was : progress_of 0 (entries_in p.entries) ≡ Some (at_rest 0 (length jobs)) =
     subst (λ m. progress_of m (entries_in p.entries) ≡ Some (at_rest m (length jobs))) fits has.progress in
@@ -78,8 +134,11 @@ HasDone-more j old p q jobs more (ToCall call) has are fits (reply, makes) is =
           let few = has.few in
           let one = makes.few in
           omega (arith, all, both, few, one));
+      lasting = λ l. subst NoneLacked (sym split) (NoneLacked-append (entries_in p.entries) (entries_in makes.piece) (has.lasting l)
+          (NoneLacked-replies (entries_in makes.piece)
+          (subst (AllByRecursion (λ r. r ≢ NoMemory)) (sym makes.replies) (had l, tt))));
     }
-HasDone-more j old p q jobs more (Turn low) has are fits makes is =
+HasDone-more lasts j old p q jobs more (Turn low) has are fits makes is =
     let was : progress_of low (entries_in p.entries) ≡ Some (at_rest low (length jobs)) =
     subst (λ m. progress_of m (entries_in p.entries) ≡ Some (at_rest m (length jobs))) fits.0 has.progress in
     let number : makes.turn.made ≡ length jobs = ap (λ (x : Progress). x.made)
@@ -108,15 +167,17 @@ HasDone-more j old p q jobs more (Turn low) has are fits makes is =
           let few = has.few in
           let one = makes.few in
           omega (arith, all, both, few, one));
+      lasting = λ l. subst NoneLacked (sym split) (NoneLacked-append (entries_in p.entries) (entries_in makes.piece) (has.lasting l)
+          (NoneLacked-unanswered (entries_in makes.piece) makes.no_answers));
     }
 
 -- In the middle of a processor's jobs: so many are done, and one more is left.
-pub record Midway (j : JournalName) (old p : PassState) (jobs : List Job) (n : ℕ) : Type 0 where
+pub record Midway (lasts : Bool) (j : JournalName) (old p : PassState) (jobs : List Job) (n : ℕ) : Type 0 where
   pub may : MayDo j old jobs
-  pub has : HasDone j old (take n jobs) p
+  pub has : HasDone lasts j old (take n jobs) p
   pub below : n < length jobs
 
-module _ (j : JournalName) (old p : PassState) (jobs : List Job) (n : ℕ) (d : Job) (mid : Midway j old p jobs n) where
+module _ (lasts : Bool) (j : JournalName) (old p : PassState) (jobs : List Job) (n : ℕ) (d : Job) (mid : Midway lasts j old p jobs n) where
   own_mark : mark_of j.setting p.processor ≡ mark_of j.setting old.processor
   own_mark = ap (mark_of j.setting) mid.has.processor
 
@@ -139,20 +200,21 @@ module _ (j : JournalName) (old p : PassState) (jobs : List Job) (n : ℕ) (d : 
   }
 
   -- and once it is, one more is done
-  pub HasDone-after : (q : PassState) → DoesJob j.setting p q (get_or jobs n d) → HasDone j old (take (n + 1) jobs) q
+  pub HasDone-after : (q : PassState) → DoesJob lasts j.setting p q (get_or jobs n d) → HasDone lasts j old (take (n + 1) jobs) q
   HasDone-after q does =
-      HasDone-more j old p q (take n jobs) (take (n + 1) jobs) (get_or jobs n d) mid.has
+      HasDone-more lasts j old p q (take n jobs) (take (n + 1) jobs) (get_or jobs n d) mid.has
       (take_are (mark_of j.setting old.processor) jobs n mid.may.kinds) fits_next does (take_more jobs n d mid.below)
 
 -- nothing is done yet
-pub HasDone-none : (j : JournalName) (p : PassState) (jobs : List Job) → MayDo j p jobs → HasDone j p [] p
-HasDone-none j p jobs may = record {
+pub HasDone-none : (lasts : Bool) (j : JournalName) (p : PassState) (jobs : List Job) → MayDo j p jobs → HasDone lasts j p [] p
+HasDone-none lasts j p jobs may = record {
   journal = may.journal;
   processor = refl;
   room = refl;
   progress = ap (λ (l : List Numbered). progress_of (mark_of j.setting p.processor) (entries_in l)) may.new;
   answers = ap (λ (l : List Numbered). answers_in (entries_in l)) may.new;
   few = (let none = ap length may.new in omega (arith, none));
+  lasting = λ _. subst (λ l. NoneLacked (entries_in l)) (sym may.new) tt;
 }
 
 -- Into the workers and out of them.
@@ -222,12 +284,13 @@ module _ (j : JournalName) (passes : List PassState) (workers : List Worker) (ma
       }
 
   -- after the jobs
-  module _ (after : List Worker) (done : (c : ℕ) (d : Worker) → c < length workers → IsDoneFrom j (get_or workers c d) (get_or after c d))
+  module _ (lasts : Bool) (after : List Worker)
+      (done : (c : ℕ) (d : Worker) → c < length workers → IsDoneFrom lasts j (get_or workers c d) (get_or after c d))
       (same : length after ≡ length workers) where
     pub have_passes : All HasPass after
     have_passes = λ c d below. (let one = done c d (omega (arith, below, same)) in (one.pass, one.there))
 
-    pub have_done : (back : List PassState) → map Some back ≡ map pass_of after → HaveDone j (jobs_in workers) back
+    pub have_done : (back : List PassState) → map Some back ≡ map pass_of after → HaveDone lasts j (jobs_in workers) back
     have_done back are =
         let many = length-map workers (λ (x : Worker). x.jobs.items) in
         let count : length back ≡ length after = sym (length-map back Some) ∙ ap length are ∙ length-map after pass_of in
@@ -237,7 +300,7 @@ module _ (j : JournalName) (passes : List PassState) (workers : List Worker) (ma
               elim (slice_get_cases workers c).1 [
                 | inl there ↦
                     let w = there.0 in
-                    let one = subst (λ (x : Worker). IsDoneFrom j x (get_or after c w)) there.3 (done c w there.1) in
+                    let one = subst (λ (x : Worker). IsDoneFrom lasts j x (get_or after c w)) there.3 (done c w there.1) in
                     let was : one.before ≡ new_pass j c (room_for w.jobs.items) = same_Some _ _ (sym one.was ∙ worker_pass c w there.2) in
                     let here = there.1 in
                     let pass : get_or back c d ≡ one.pass =
@@ -245,17 +308,17 @@ module _ (j : JournalName) (passes : List PassState) (workers : List Worker) (ma
                     (sym (ap (option_map Some) (slice_get-get_or back c d (omega (arith, count, same, here))))
                     ∙ sym (slice_get-map Some back c) ∙ ap (λ l. slice_get l c) are ∙ slice_get-map pass_of after c
                     ∙ ap (option_map pass_of) (slice_get-get_or after c w (omega (arith, same, here))) ∙ ap Some one.there)) in
-                    subst (λ (p : PassState). HasDone j (new_pass j c (room_for (jobs_at (jobs_in workers) c)))
+                    subst (λ (p : PassState). HasDone lasts j (new_pass j c (room_for (jobs_at (jobs_in workers) c)))
                     (jobs_at (jobs_in workers) c) p) (sym pass)
-                    (subst (λ own. HasDone j (new_pass j c (room_for own)) own one.pass) (sym (own_jobs c w there.2))
-                    (subst (λ (p : PassState). HasDone j p w.jobs.items one.pass) was one.done))
+                    (subst (λ own. HasDone lasts j (new_pass j c (room_for own)) own one.pass) (sym (own_jobs c w there.2))
+                    (subst (λ (p : PassState). HasDone lasts j p w.jobs.items one.pass) was one.done))
                 | inr past ↦ absurd (let out = past.0 in omega (arith, below, many, out))
               ];
         }
 
 -- What is left of them.
 
-module _ (j : JournalName) (jobs : List (List Job)) (passes : List PassState) (have : HaveDone j jobs passes) where
+module _ (lasts : Bool) (j : JournalName) (jobs : List (List Job)) (passes : List PassState) (have : HaveDone lasts j jobs passes) where
   none_yet : PassState
   none_yet = new_pass j 0 0
 
@@ -307,6 +370,14 @@ module _ (j : JournalName) (jobs : List (List Job)) (passes : List PassState) (h
       let all : length (entries_in p.entries) ≡ length p.entries = length-map p.entries (λ (n : Numbered). n.entry) in
       let few : length p.entries ≤ room_for (jobs_at jobs c) = (have.done c none_yet below).few in
       omega (arith, same, all, few)
+
+  -- and over stores that keep every page for good none is an answer for want of memory
+  pub none_lacked : (h : List Numbered) → IsLegal j.setting (entries_in h) → All (λ (p : PassState). IsOwnOf p (entries_in h)) passes
+      → length j.setting.marks ≡ length jobs → lasts ≡ true → NoneLacked (entries_in h)
+  none_lacked h legal own many l =
+      NoneLacked-parts (length j.setting.marks) (entries_in h) (processors_of j.setting (entries_in h) legal)
+      (λ c known. (let below : c < length jobs = omega (arith, known, many) in
+      subst NoneLacked (sym (entries_done h own c below)) ((have.done c none_yet below).lasting l)))
 
   pub run_done : (h : List Numbered) → IsNumbered h → IsLegal j.setting (entries_in h)
       → All (λ (p : PassState). IsOwnOf p (entries_in h)) passes → length j.setting.marks ≡ length jobs → IsWholeRun j.setting jobs h

@@ -29,7 +29,7 @@ all_parts : {X : Type 0} (P : X → Type 0) (xs ys : List X) → AllByRecursion 
 all_parts P [] ys all = (tt, all)
 all_parts P (x ∷ xs) ys all = (let rest = all_parts P xs ys all.1 in ((all.0, rest.0), rest.1))
 
-all_join : {X : Type 0} (P : X → Type 0) (xs ys : List X) → AllByRecursion P xs → AllByRecursion P ys → AllByRecursion P (xs ++ ys)
+pub all_join : {X : Type 0} (P : X → Type 0) (xs ys : List X) → AllByRecursion P xs → AllByRecursion P ys → AllByRecursion P (xs ++ ys)
 all_join P [] ys front back = back
 all_join P (x ∷ xs) ys front back = (front.0, all_join P xs ys front.1 back)
 
@@ -93,7 +93,7 @@ rest_if : {X : Type 0} (P : X → Type 0) (x : X) (xs : List X) (b : Bool) → A
 rest_if P x xs true all = all.1
 rest_if P x xs false all = all
 
-all_tested : {X : Type 0} (P : X → Type 0) (q : X → Bool) (xs : List X) → AllByRecursion P (filter q xs)
+pub all_tested : {X : Type 0} (P : X → Type 0) (q : X → Bool) (xs : List X) → AllByRecursion P (filter q xs)
     → AllByRecursion (λ x. q x ≡ true → P x) xs
 all_tested P q [] all = tt
 all_tested P q (x ∷ xs) all = (first_if P x (filter q xs) (q x) all, all_tested P q xs (rest_if P x (filter q xs) (q x) all))

@@ -1,9 +1,10 @@
 -- A processor's jobs, its pass once it did them, and the room for its entries.
-use Rattle.std.specs.Prelude.{ℕ, ◌≡◌, ◌+◌, ◌<◌, ◌≤◌, List, [], length, map, sum, sum_by, slice_index_or, Some}
+use Rattle.std.specs.Prelude.{ℕ, ◌≡◌, ◌≢◌, ◌+◌, ◌<◌, ◌≤◌, Bool, true, List, [], length, map, sum, sum_by, slice_index_or, Some}
 use Rattle.std.specs.List.{All, enumerate_from}
 use Rattle.journal_core.specs.Journals.{JournalName, PassState, new_pass, new_passes}
 use Rattle.pager_model.specs.declared.entry.Entry.{Entry}
 use Rattle.pager_model.specs.declared.reply.Reply.{Reply}
+use Rattle.pager_model.specs.declared.reply.Reply.TheVariants.{NoMemory}
 use Rattle.pager_model.specs.declared.trace.Job.{Job}
 use Rattle.pager_model.specs.declared.trace.Job.TheVariants.{Call, Turn}
 use Rattle.pager_model.specs.Entries.{entries_of}
@@ -12,6 +13,7 @@ use Rattle.pager_model.specs.Order.{at_rest, progress_of, IsWhole}
 use Rattle.pager_model.specs.Settings.{Given, mark_of}
 use Rattle.pager_model.specs.Plans.{Plan}
 use Rattle.pager_model.specs.Showing.{actors, answers_in, jobs_of}
+use Rattle.flight_core.specs.Lacking.{NoneLacked}
 use Rattle.pager_core.specs.Machines.{CanDo, most_entries}
 use Rattle.pager_core.specs.Running.{AreOfMark, FitsMark, calls_among, entries_of_job, jobs_at}
 use Rattle.pager_locks.specs.Calls.{MakesCall, MakesTurn}
@@ -34,10 +36,10 @@ pub record MayDoNext (j : JournalName) (p : PassState) (job : Job) : Type 0 wher
   pub room : length p.entries + entries_of_job job ≤ p.room
   pub can : CanDo (length j.setting.told) job
 
--- the pass has done the job
-abbrev pub DoesJob : Given → PassState → PassState → Job → Type 0
-DoesJob g old new (Call call) = (reply : Reply) × MakesCall g old new call reply
-DoesJob g old new (Turn mark) = MakesTurn old new mark
+-- The pass has done the job, over stores that keep every page for good, or not. Over those no call is answered for want of memory.
+abbrev pub DoesJob : Bool → Given → PassState → PassState → Job → Type 0
+DoesJob lasts g old new (Call call) = (reply : Reply) × MakesCall g old new call reply × (lasts ≡ true → reply ≢ NoMemory)
+DoesJob lasts g old new (Turn mark) = MakesTurn old new mark
 
 -- a new pass of a processor that does such jobs, with room for all of these
 pub record MayDo (j : JournalName) (p : PassState) (jobs : List Job) : Type 0 where
@@ -47,8 +49,9 @@ pub record MayDo (j : JournalName) (p : PassState) (jobs : List Job) : Type 0 wh
   pub room : room_for jobs ≤ p.room
   pub can : All (CanDo (length j.setting.told)) jobs
 
--- The pass has done these jobs: its answers are the calls among them, in order and numbered from 0, and each job is done.
-pub record HasDone (j : JournalName) (old : PassState) (jobs : List Job) (p : PassState) : Type 0 where
+-- The pass has done these jobs: its answers are the calls among them, in order and numbered from 0, and each job is done. Over stores that
+-- keep every page for good none is answered for want of memory.
+pub record HasDone (lasts : Bool) (j : JournalName) (old : PassState) (jobs : List Job) (p : PassState) : Type 0 where
   pub journal : p.journal ≡ j
   pub processor : p.processor ≡ old.processor
   pub room : p.room ≡ old.room
@@ -56,18 +59,19 @@ pub record HasDone (j : JournalName) (old : PassState) (jobs : List Job) (p : Pa
       (at_rest (mark_of j.setting old.processor) (length jobs))
   pub answers : answers_in (entries_in p.entries) ≡ enumerate_from 0 (calls_among jobs)
   pub few : length p.entries ≤ room_for jobs
+  pub lasting : lasts ≡ true → NoneLacked (entries_in p.entries)
 
 pub record IsReady (j : JournalName) (w : Worker) : Type 0 where
   pub pass : PassState
   pub there : w.pass ≡ Some pass
   pub may : MayDo j pass w.jobs.items
 
-pub record IsDoneFrom (j : JournalName) (old new : Worker) : Type 0 where
+pub record IsDoneFrom (lasts : Bool) (j : JournalName) (old new : Worker) : Type 0 where
   pub before : PassState
   pub was : old.pass ≡ Some before
   pub pass : PassState
   pub there : new.pass ≡ Some pass
-  pub done : HasDone j before old.jobs.items pass
+  pub done : HasDone lasts j before old.jobs.items pass
 
 abbrev pub HasPass : Worker → Type 0
 HasPass w = (p : PassState) × (w.pass ≡ Some p)
@@ -80,9 +84,9 @@ pub record MayDoAll (j : JournalName) (own : List PassState) (jobs : List (List 
   pub can : (c : ℕ) → All (CanDo (length j.setting.told)) (jobs_at jobs c)
 
 -- they have done them
-pub record HaveDone (j : JournalName) (jobs : List (List Job)) (passes : List PassState) : Type 0 where
+pub record HaveDone (lasts : Bool) (j : JournalName) (jobs : List (List Job)) (passes : List PassState) : Type 0 where
   pub count : length passes ≡ length jobs
-  pub done : (c : ℕ) (d : PassState) → c < length jobs → HasDone j (new_pass j c (room_for (jobs_at jobs c))) (jobs_at jobs c)
+  pub done : (c : ℕ) (d : PassState) → c < length jobs → HasDone lasts j (new_pass j c (room_for (jobs_at jobs c))) (jobs_at jobs c)
       (slice_index_or passes c d)
 
 -- each processor made at most as many entries as its pass has room for

@@ -1,8 +1,9 @@
 //! The order of the lines.
 
-ghost use Rattle.std.specs.Prelude.{◌≡◌, ◌≢◌, ◌<◌, ◌≤◌, IfOk, IfErr, None, length, map};
+ghost use Rattle.std.specs.Prelude.{◌≡◌, ◌≢◌, ◌<◌, ◌≤◌, IfOk, IfErr, None, length, map, true};
 ghost use Rattle.pager_model.specs.Legal.{entries_in};
 ghost use Rattle.pager_model.specs.Showing.{IsFiled};
+ghost use Rattle.flight_core.specs.Lacking.{NoneLacked};
 ghost use Rattle.pager_core.specs.Running.{flight_at, progress_of_actor, IsLawful};
 ghost use Rattle.replay_core.specs.Replays.{IsReplay, AreItsCounts, NoneKeeps, IsBetween, DidJob, DidNext, DidRest};
 
@@ -23,6 +24,7 @@ pub fn replay_file_order<S: Store + Send + Drop>(
     ensures run { IfOk result (λ g. IsReplay trace.now (map S.seen stores.items) g.history.items (map S.seen g.stores.items)) }
     ensures filed { IfOk result (λ g. IsFiled trace.now (entries_in g.history.items)) }
     ensures counts { IfOk result (λ g. AreItsCounts trace.now (map S.seen stores.items) g.history.items g.summary) }
+    ensures lasting { S.lasts ≡ true → IfOk result (λ g. NoneLacked (entries_in g.history.items)) }
     ensures back { IfErr result (λ back. map S.seen back.items ≡ map S.seen stores.items) }
 {
     let mut machine = Machine::create(alloc, trace, stores)?;

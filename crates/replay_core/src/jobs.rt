@@ -1,10 +1,11 @@
 //! The jobs of many processors, each processor's in a thread of its own.
 
-ghost use Rattle.std.specs.Prelude.{◌≡◌, ◌<◌, ◌≤◌, ℕ, [], Some, length, map, slice_index_or, vec_capacity};
+ghost use Rattle.std.specs.Prelude.{◌≡◌, ◌<◌, ◌≤◌, ℕ, true, [], Some, length, map, slice_index_or, vec_capacity};
 ghost use Rattle.std.specs.List.{All};
 ghost use Rattle.pager_model.specs.Counts.{counts};
 ghost use Rattle.pager_model.specs.Legal.{entries_in};
 ghost use Rattle.pager_model.specs.Stores.{StoresEnd};
+ghost use Rattle.flight_core.specs.Lacking.{NoneLacked};
 ghost use Rattle.pager_core.specs.Running.{IsWholeRun};
 ghost use Rattle.replay_core.specs.Jobs.{DoesJob, HasDone, HasPass, HaveDone, IsDoneFrom, IsPreparedFor, IsReady, KeepsToRooms, MayDo, MayDoAll, MayDoNext, jobs_in};
 
@@ -34,6 +35,7 @@ pub fn run_jobs<N: Named + Send + Sync, S: Store + Send + Drop, R: Threads + Wai
     requires prepared { IsPreparedFor prepared (jobs_in workers.items) }
     ensures run { IsWholeRun prepared.journal.name.setting (jobs_in workers.items) result.history.items }
     ensures rooms { KeepsToRooms (jobs_in workers.items) (entries_in result.history.items) }
+    ensures lasting { S.lasts ≡ true → NoneLacked (entries_in result.history.items) }
     ensures stores { StoresEnd prepared.journal.name.setting result.history.items (map S.seen result.stores.items) }
     ensures count { length result.stores.items ≡ length prepared.journal.name.setting.told }
     ensures summary { result.summary ≡ counts prepared.journal.name.setting (entries_in result.history.items) }
@@ -52,7 +54,7 @@ fn do_all<N: Named + Send + Sync, S: Store + Send + Drop, R: Threads + Wait + Sy
     passes: Vec<Pass>,
 ) -> Vec<Pass>
     requires { MayDoAll N.journal passes.items (jobs_in workers.old) }
-    ensures { HaveDone N.journal (jobs_in workers.old) result.items }
+    ensures { HaveDone S.lasts N.journal (jobs_in workers.old) result.items }
 {
     let mut passes = passes;
     hand_out(workers, &mut passes);
@@ -81,11 +83,11 @@ fn do_each<N: Named + Send + Sync, S: Store + Send + Drop, R: Threads + Wait + S
     workers: &mut [Worker],
 )
     requires { All (IsReady N.journal) workers.old }
-    ensures { (c : ℕ) (d : Worker) → c < length workers.old → IsDoneFrom N.journal (slice_index_or workers.old c d) (slice_index_or workers.new c d) }
+    ensures { (c : ℕ) (d : Worker) → c < length workers.old → IsDoneFrom S.lasts N.journal (slice_index_or workers.old c d) (slice_index_or workers.new c d) }
 {
     let each = move |_: usize, worker: &mut Worker|
         requires { IsReady N.journal worker.now }
-        ensures { IsDoneFrom N.journal worker.entry.now worker.exit.now }
+        ensures { IsDoneFrom S.lasts N.journal worker.entry.now worker.exit.now }
     { do_own(rt, pager, worker) };
     thread::for_each_mut(rt, workers, MOST_ACTORS, &each);
 }
@@ -97,7 +99,7 @@ fn do_own<N: Named, S: Store + Send + Drop, R: Wait>(
     worker: &mut Worker,
 )
     requires { IsReady N.journal worker.old }
-    ensures { IsDoneFrom N.journal worker.old worker.new }
+    ensures { IsDoneFrom S.lasts N.journal worker.old worker.new }
 {
     let Some(pass) = worker.pass.take() else {
         unreachable!()
@@ -113,7 +115,7 @@ fn do_jobs<N: Named, S: Store + Send + Drop, R: Wait>(
     jobs: &[Job],
 ) -> Pass
     requires { MayDo N.journal pass jobs.now }
-    ensures { HasDone N.journal pass jobs.now result }
+    ensures { HasDone S.lasts N.journal pass jobs.now result }
 {
     let mut pass = pass;
     for job in jobs {
@@ -130,7 +132,7 @@ fn do_one<N: Named, S: Store + Send + Drop, R: Wait>(
     job: &Job,
 ) -> Pass
     requires { MayDoNext N.journal pass job.now }
-    ensures { DoesJob N.journal.setting pass result job.now }
+    ensures { DoesJob S.lasts N.journal.setting pass result job.now }
 {
     match job {
         Job::Call(call) => pager.call(rt, pass, call).1,

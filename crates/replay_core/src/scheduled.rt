@@ -1,11 +1,12 @@
 //! Turns that are listed.
 
-ghost use Rattle.std.specs.Prelude.{◌≡◌, ◌<◌, ◌≤◌, IfOk, IfErr, length, map};
+ghost use Rattle.std.specs.Prelude.{◌≡◌, ◌<◌, ◌≤◌, IfOk, IfErr, length, map, true};
 ghost use Rattle.std.specs.List.{All, range_with_len};
 ghost use Rattle.pager_model.specs.Bounds.{most_actors};
 ghost use Rattle.pager_model.specs.Legal.{entries_in};
 ghost use Rattle.pager_model.specs.Showing.{actors};
 ghost use Rattle.pager_model.specs.TurnOrders.{IsScheduled};
+ghost use Rattle.flight_core.specs.Lacking.{NoneLacked};
 ghost use Rattle.replay_core.specs.Replays.{IsReplay, AreItsCounts};
 
 use crate::stepping::step_first;
@@ -29,6 +30,7 @@ pub fn replay_schedule<S: Store + Send + Drop>(
     ensures run { IfOk result (λ g. IsReplay trace.now (map S.seen stores.items) g.history.items (map S.seen g.stores.items)) }
     ensures scheduled { IfOk result (λ g. IsScheduled trace.now schedule.now (entries_in g.history.items)) }
     ensures counts { IfOk result (λ g. AreItsCounts trace.now (map S.seen stores.items) g.history.items g.summary) }
+    ensures lasting { S.lasts ≡ true → IfOk result (λ g. NoneLacked (entries_in g.history.items)) }
     ensures back { IfErr result (λ back. map S.seen back.items ≡ map S.seen stores.items) }
 {
     let mut machine = Machine::create(alloc, trace, stores)?;

@@ -1,10 +1,11 @@
 //! A thread for each processor, and for the daemon.
 
-ghost use Rattle.std.specs.Prelude.{◌≡◌, ◌≤◌, ◌+◌, ◌++◌, IfOk, IfErr, None, drop, length, map, take, vec_capacity};
+ghost use Rattle.std.specs.Prelude.{◌≡◌, ◌≤◌, ◌+◌, ◌++◌, IfOk, IfErr, None, drop, length, map, take, vec_capacity, true};
 ghost use Rattle.std.specs.List.{All, range_with_len};
 ghost use Rattle.pager_model.specs.Legal.{entries_in};
 ghost use Rattle.pager_model.specs.Showing.{actors, jobs_of, marks_of};
 ghost use Rattle.pager_model.specs.TraceText.{HasText};
+ghost use Rattle.flight_core.specs.Lacking.{NoneLacked};
 ghost use Rattle.pager_core.specs.Machines.{most_entries};
 ghost use Rattle.pager_core.specs.Running.{entries_of_job};
 ghost use Rattle.replay_core.specs.Jobs.{HadRoom, jobs_in, room_for};
@@ -34,6 +35,7 @@ pub fn replay<S: Store + Send + Drop, R: Threads + Wait + Sync>(
     ensures run { IfOk result (λ g. IsReplay trace.now (map S.seen stores.items) g.history.items (map S.seen g.stores.items)) }
     ensures rooms { IfOk result (λ g. HadRoom trace.now (entries_in g.history.items)) }
     ensures counts { IfOk result (λ g. AreItsCounts trace.now (map S.seen stores.items) g.history.items g.summary) }
+    ensures lasting { S.lasts ≡ true → IfOk result (λ g. NoneLacked (entries_in g.history.items)) }
     ensures back { IfErr result (λ back. map S.seen back.items ≡ map S.seen stores.items) }
 {
     let Ok(
@@ -147,7 +149,7 @@ fn entries_of_job(job: &Job) -> usize
     }
 }
 
-/// The first so many of these, and the others, in room for all. For want of memory all come back.
+/// Parts the stores of a run's spaces from those that no space uses; the others keep room for all. For want of memory all come back.
 fn parted<T: Drop>(all: Vec<T>, count: usize) -> Result<(Vec<T>, Vec<T>), Vec<T>>
     requires { count ≤ length all.items }
     ensures parts { IfOk result (λ parts. (parts.0.items ≡ take count all.items) × (parts.1.items ≡ drop count all.items)) }

@@ -1,8 +1,9 @@
 //! Turns that are drawn from a seed.
 
-ghost use Rattle.std.specs.Prelude.{◌≡◌, ◌≤◌, IfOk, IfErr, length, map};
+ghost use Rattle.std.specs.Prelude.{◌≡◌, ◌≤◌, IfOk, IfErr, length, map, true};
 ghost use Rattle.pager_model.specs.Bounds.{most_actors};
 ghost use Rattle.pager_model.specs.Legal.{entries_in};
+ghost use Rattle.flight_core.specs.Lacking.{NoneLacked};
 ghost use Rattle.pager_core.specs.Running.{HasEnded, IsLawful};
 ghost use Rattle.pager_model.specs.TurnOrders.{IsSeeded, next_state};
 ghost use Rattle.replay_core.specs.Replays.{IsReplay, AreItsCounts};
@@ -28,6 +29,7 @@ pub fn replay_turns<S: Store + Send + Drop>(
     ensures run { IfOk result (λ g. IsReplay trace.now (map S.seen stores.items) g.history.items (map S.seen g.stores.items)) }
     ensures seeded { IfOk result (λ g. IsSeeded trace.now seed (entries_in g.history.items)) }
     ensures counts { IfOk result (λ g. AreItsCounts trace.now (map S.seen stores.items) g.history.items g.summary) }
+    ensures lasting { S.lasts ≡ true → IfOk result (λ g. NoneLacked (entries_in g.history.items)) }
     ensures back { IfErr result (λ back. map S.seen back.items ≡ map S.seen stores.items) }
 {
     let mut machine = Machine::create(alloc, trace, stores)?;

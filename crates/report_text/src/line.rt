@@ -103,7 +103,7 @@ impl Line {
         self.bytes.push(b'0' + digit);
     }
 
-    /// Adds counts, or other numbers of 32 bits.
+    /// Adds numbers of 32 bits, as counts, frames and pages are.
     pub fn add_counts(&mut self, counts: &[u32])
         requires { HasRoom (21 * length counts.now) self.old }
         ensures text { Adds (map decimal counts.now) self.old self.new }

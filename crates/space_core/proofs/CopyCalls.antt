@@ -1,7 +1,7 @@
 -- What a sync and an evict are answered, and what they do, where a region has their page.
 use Rattle.std.proofs.Common.{◌≡◌, ◌≢◌, ℕ, Bool, true, false, ◌&&◌, ◌==◌, if◌then◌else◌, not, List, Option, Some, None, is_some, option_map, ◌<◌, refl, sym, ap, ◌∙◌, subst}
 use Rattle.std.proofs.lemmas.Bool.{cond-true, not-true, false≢true}
-use Rattle.std.proofs.lemmas.Option.{same_Some}
+use Rattle.std.proofs.lemmas.Option.{none-some, same_Some}
 use Rattle.pager_model.specs.declared.call.Call.{Call}
 use Rattle.pager_model.specs.declared.call.Call.TheVariants.{Sync, Evict}
 use Rattle.pager_model.specs.declared.entry.What.TheVariants.{Answer}
@@ -15,10 +15,12 @@ use Rattle.pager_model.specs.Regions.{region_at, is_wired}
 use Rattle.pager_model.specs.SpaceStates.{SpaceState, MayFail, ReplyAllowed, HasItsPages, answered_flat, space_after, frees_its_page, pages_of, pages_after, tile_at}
 use Rattle.pager_model.specs.SpaceStates.Next.{Anyone}
 use Rattle.pager_model.proofs.SpaceEntries.{served-unlawful}
+use Rattle.space_core.specs.declared.space.Begun.{Begun}
+use Rattle.space_core.specs.declared.space.Begun.TheVariants.{Answered as HasAnswered}
 use Rattle.space_core.specs.declared.space.OutFault.{OutFault}
 use Rattle.space_core.specs.declared.space.OutFault.TheVariants.{Failed as OutFailed, NoMemory as OutNoMemory}
 use Rattle.space_core.specs.Beginning.{Begins, BeginsAnswered, BeginsEvicting, SameRegions, copied_reply}
-use Rattle.space_core.specs.Saving.{Saves, FailsToSave, LacksRoom, unwritten_by}
+use Rattle.space_core.specs.Saving.{Saves, FailsToSave, LacksRoom, HadMemory, unwritten_by}
 use Rattle.space_core.specs.Standing.{Kept, StandsFor, IsResting, frame_at, dirty_at, copied_page, may_copy, is_unwired}
 use Rattle.pager_model.specs.CallEntries.{answer_entry}
 use Rattle.pager_model.specs.Stored.{Stored}
@@ -42,7 +44,7 @@ pub copied_lawful : (written : Bool) → is_lawful (copied_reply written) ≡ tr
 copied_lawful true = refl
 copied_lawful false = refl
 
-no_memory : (written : Bool) → copied_reply written ≢ NoMemory
+pub no_memory : (written : Bool) → copied_reply written ≢ NoMemory
 no_memory true h = cc
 no_memory false h = cc
 
@@ -316,3 +318,15 @@ begins_evicting old mid new page written resting in_space unwired resident saves
             demotions = outs.still.demotions ∙ still.demotions;
           }) outs.paged;
     }
+
+-- a call that copies no page has memory
+pub had_memory : (old new : Kept) (c : ℕ) (call : Call) (begun : Begun) → copied_page call ≡ None → Begins old new c call begun → HadMemory begun
+had_memory old new c call (HasAnswered a) none begins = λ lacking.
+    let lacks = begins.memory lacking in
+    none-some lacks.0 (sym none ∙ lacks.1)
+had_memory old new c call begun none begins = tt
+
+-- and one that does, where its page's copy was not written, but for want of it
+pub had_memory-unwritten : (page : ℕ) (fault : OutFault) → (fault ≡ OutNoMemory → ⊥) → HadMemory (unwritten_by page fault)
+had_memory-unwritten page (OutFailed count) has = tt
+had_memory-unwritten page OutNoMemory has = absurd (has refl)

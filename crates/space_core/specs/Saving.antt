@@ -1,5 +1,5 @@
 -- What becomes of a space's store where the copy of a page is written, while the page stays as it is.
-use Rattle.std.specs.Prelude.{ℕ, ◌≡◌, ◌≤◌, Bool, true, false, List, None, Some}
+use Rattle.std.specs.Prelude.{ℕ, ◌≡◌, ◌≢◌, ◌≤◌, Bool, true, false, List, None, Some}
 use Rattle.pager_model.specs.declared.reply.Reply.TheVariants.{NoMemory}
 use Rattle.pager_model.specs.SpaceStates.{Rises}
 use Rattle.pager_model.specs.Stored.{keeps_at, SameCopies, SetsCopy}
@@ -48,3 +48,8 @@ pub record LacksRoom (old new : Kept) (page : ℕ) : Type 0 where
 abbrev pub unwritten_by : ℕ → OutFault → Begun
 unwritten_by page (OutFailed count) = HasFailed page count
 unwritten_by page OutNoMemory = HasAnswered (record { reply = NoMemory; hit = false; size = None })
+
+-- a call was not answered at once for want of memory
+abbrev pub HadMemory : Begun → Type 0
+HadMemory (HasAnswered a) = a.reply ≢ NoMemory
+HadMemory begun = Unit {0}

@@ -10,7 +10,7 @@ ghost use Rattle.pager_model.specs.Stored.{TellsZero};
 ghost use Rattle.space_core.specs.Beginning.{Begins, Finds, IsMappedBy, NeedsItsFrame, NeedsNoFrame, Places, ReadsIn, FailsToRead, Finishes, WritesOut, FailsToWrite, LeavesUnwritten, Removes, IsEvicting, Evicts, copied_reply};
 ghost use Rattle.space_core.specs.Beginning.{NoneResident, ClearsOne, ClearsNone, Unmapped};
 ghost use Rattle.space_core.specs.Pages.{Maps};
-ghost use Rattle.space_core.specs.Saving.{Saves, FailsToSave, LacksRoom, unwritten_by};
+ghost use Rattle.space_core.specs.Saving.{Saves, FailsToSave, LacksRoom, HadMemory, unwritten_by};
 ghost use Rattle.space_core.specs.Standing.{Kept, StandsFor, IsResting, range_of, frame_at, dirty_at, image_at, is_allowed, must_write, one_more_if, CanBegin};
 ghost use Rattle.space_core.specs.Tables.{mapping_in, own_in};
 ghost use Rattle.space_core.specs.Translating.{counted_up, untouched_tiles, Retouches, ChangesPages, CleansPage, Touches, BeginsClear};
@@ -157,6 +157,7 @@ impl<S: Store + Send + Drop> Space<S> {
         requires resting { IsResting self.old }
         requires can { CanBegin call.now }
         ensures begins { Begins self.old self.new processor call.now result }
+        ensures lasting { S.lasts ≡ true → HadMemory result }
         ensures writes { self.new.writes ≡ one_more_if (must_write self.old call.now) self.old.writes }
     {
         match *call {
@@ -264,6 +265,7 @@ impl<S: Store + Send + Drop> Space<S> {
         ensures written { IfOk result (λ written. WritesOut self.old self.new page written) }
         ensures failed { (count : ℕ) → result ≡ Err (OutFault.Failed count) → FailsToWrite self.old self.new page count }
         ensures no_memory { result ≡ Err OutFault.NoMemory → LeavesUnwritten self.old self.new page }
+        ensures lasting { result ≡ Err OutFault.NoMemory → S.lasts ≡ false }
         ensures writes { self.new.writes ≡ one_more_if (dirty_at self.old page) self.old.writes }
     {
         self.copy_out(page)
@@ -471,6 +473,7 @@ impl<S: Store + Send + Drop> Space<S> {
         requires resting { IsResting self.old }
         requires can { CanBegin (Call.Sync self.old.number page) }
         ensures begins { (c : ℕ) → Begins self.old self.new c (Call.Sync self.old.number page) result }
+        ensures lasting { S.lasts ≡ true → HadMemory result }
         ensures writes { self.new.writes ≡ one_more_if (must_write self.old (Call.Sync self.old.number page)) self.old.writes }
     {
         if self.regions.find(page).is_none() {
@@ -487,6 +490,7 @@ impl<S: Store + Send + Drop> Space<S> {
         requires resting { IsResting self.old }
         requires can { CanBegin (Call.Evict self.old.number page) }
         ensures begins { (c : ℕ) → Begins self.old self.new c (Call.Evict self.old.number page) result }
+        ensures lasting { S.lasts ≡ true → HadMemory result }
         ensures writes { self.new.writes ≡ one_more_if (must_write self.old (Call.Evict self.old.number page)) self.old.writes }
     {
         let Some(region) = self.regions.find(page) else {
@@ -512,6 +516,7 @@ impl<S: Store + Send + Drop> Space<S> {
         ensures copied { IfOk result (λ written. (saved : Kept) × Saves self.old saved page written × CleansPage saved self.new page) }
         ensures failed { (count : ℕ) → result ≡ Err (OutFault.Failed count) → FailsToSave self.old self.new page count }
         ensures no_memory { result ≡ Err OutFault.NoMemory → LacksRoom self.old self.new page }
+        ensures lasting { result ≡ Err OutFault.NoMemory → S.lasts ≡ false }
         ensures writes { self.new.writes ≡ one_more_if (dirty_at self.old page) self.old.writes }
     {
         let Some(mapping) = self.table.mapping(page) else {
@@ -527,11 +532,13 @@ impl<S: Store + Send + Drop> Space<S> {
 
     /// Writes the copy of a page that is mapped so, where it is dirty, tells whether it was, and leaves it so.
     fn save(&mut self, page: u32, mapping: Mapping) -> Result<bool, OutFault>
+        requires in_space { page < space_pages }
         requires frame { frame_at self.old page ≡ Some mapping.frame }
         requires dirty { dirty_at self.old page ≡ mapping.dirty }
         ensures saved { IfOk result (λ written. Saves self.old self.new page written) }
         ensures failed { (count : ℕ) → result ≡ Err (OutFault.Failed count) → FailsToSave self.old self.new page count }
         ensures no_memory { result ≡ Err OutFault.NoMemory → LacksRoom self.old self.new page }
+        ensures lasting { result ≡ Err OutFault.NoMemory → S.lasts ≡ false }
         ensures writes { self.new.writes ≡ one_more_if (dirty_at self.old page) self.old.writes }
     {
         if !mapping.dirty {

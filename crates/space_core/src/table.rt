@@ -236,6 +236,7 @@ impl PageTable {
         ensures no_memory { result ≡ Err WriteRefused.NoMemory
             → (keeps_at (S.seen store.old) page ≡ false) × SameCopies (S.seen store.old) (S.seen store.new)
             × ((S.seen store.new).faults ≡ (S.seen store.old).faults) }
+        ensures lasting { result ≡ Err WriteRefused.NoMemory → page < space_pages → S.lasts ≡ false }
         ensures counted { S.writes store.new ≡ one_more (S.writes store.old) }
         ensures unread { S.reads store.new ≡ S.reads store.old }
         ensures unfailed { IfOk result (λ _. (S.seen store.new).faults ≡ (S.seen store.old).faults) }

@@ -1,6 +1,7 @@
 //! What a backing store does.
 
-ghost use Rattle.std.specs.Prelude.{◌≡◌, ℕ, ◌-◌, ◌^◌, ◌≤◌, true, false, length, Some, None, IfOk, IfSome, OnErr};
+ghost use Rattle.std.specs.Prelude.{◌≡◌, ℕ, ◌-◌, ◌^◌, ◌<◌, ◌≤◌, Bool, true, false, length, Some, None, IfOk, IfSome, OnErr};
+ghost use Rattle.pager_model.specs.Bounds.{space_pages};
 ghost use Rattle.pager_model.specs.SpaceStates.{Rises};
 ghost use Rattle.pager_model.specs.Stored.{Stored, copy_at, keeps_at, SameCopies, SetsCopy, DropsCopies, TellsZero};
 ghost use Rattle.store_core.specs.CopiedWords.{copied_words};
@@ -55,6 +56,9 @@ pub trait Store {
     // How many writes there were of it, those that were refused among them.
     ghost writes: { Self → ℕ };
 
+    // Whether it keeps every page of a space for good, so that no write of one takes memory. One that doesn't say so may lack memory.
+    ghost lasts: { Bool } = { false };
+
     /// Reads the copy of a page into `words`, or tells that it is zero. Where it fails, or the copy is unknown, `words` may be anything.
     fn read(&mut self, page: u32, words: &mut [u64]) -> Result<Copied, StoreFailed>
         requires count { length words.old ≡ 1024 }
@@ -81,6 +85,7 @@ pub trait Store {
         ensures no_memory { result ≡ Err WriteRefused.NoMemory
             → (keeps_at (seen self.old) page ≡ false) × SameCopies (seen self.old) (seen self.new)
             × ((seen self.new).faults ≡ (seen self.old).faults) }
+        ensures lasting { result ≡ Err WriteRefused.NoMemory → page < space_pages → lasts ≡ false }
         ensures counted { writes self.new ≡ one_more (writes self.old) }
         ensures unread { reads self.new ≡ reads self.old }
         ensures unfailed { IfOk result (λ _. (seen self.new).faults ≡ (seen self.old).faults) }

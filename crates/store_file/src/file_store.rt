@@ -119,6 +119,8 @@ impl<F: FileExt + Drop> Store for FileStore<F> {
 
     ghost writes = { λ s. s.writes };
 
+    ghost lasts = { true };
+
     fn read(&mut self, page: u32, words: &mut [u64]) -> Result<Copied, StoreFailed>
         requires count { length words.old ≡ 1024 }
 

@@ -144,6 +144,8 @@ impl<B: Blocks> Store for SlotStore<B> {
 
     ghost writes = { λ s. s.writes };
 
+    ghost lasts = { true };
+
     fn read(&mut self, page: u32, words: &mut [u64]) -> Result<Copied, StoreFailed>
         requires count { length words.old ≡ 1024 }
 

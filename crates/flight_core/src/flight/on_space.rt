@@ -6,6 +6,7 @@ ghost use Rattle.pager_model.specs.SpaceStates.{SpaceState};
 ghost use Rattle.space_core.specs.Beginning.{LacksItsMemory};
 ghost use Rattle.space_core.specs.Standing.{Kept, one_more_if};
 ghost use Rattle.flight_core.specs.Flights.{IsReady};
+ghost use Rattle.flight_core.specs.Lacking.{NeverLacks};
 ghost use Rattle.flight_core.specs.Rows.{call_in, is_of_call, row_of};
 ghost use Rattle.flight_core.specs.Steps.{Makes, Passes, Refuses, RowMakes, RowPasses, reads_at, writes_at, FaultsTold};
 
@@ -29,6 +30,7 @@ impl Flight {
         ensures faults { IfSome result (λ e. FaultsTold space.old.store.faults space.new.store.faults e.what) }
         ensures unfailed { IfNone result (space.new.store.faults ≡ space.old.store.faults) }
         ensures memory { self.new.phase ≡ Phase.Ended Reply.NoMemory → LacksItsMemory space.old (call_in self.old.purpose) }
+        ensures lasting { S.lasts ≡ true → NeverLacks self.old.phase self.new.phase }
         ensures nearer { (row_of self.new).steps < (row_of self.old).steps }
     {
         let call = self.call();
@@ -99,6 +101,7 @@ impl Flight {
         ensures writes { space.new.writes ≡ one_more_if (writes_at space.old (call_in self.old.purpose) self.old.phase) space.old.writes }
         ensures faults { IfSome result (λ e. FaultsTold space.old.store.faults space.new.store.faults e.what) }
         ensures unfailed { IfNone result (space.new.store.faults ≡ space.old.store.faults) }
+        ensures lasting { S.lasts ≡ true → NeverLacks self.old.phase self.new.phase }
         ensures nearer { (row_of self.new).steps < (row_of self.old).steps }
     {
         let page = victim.page;

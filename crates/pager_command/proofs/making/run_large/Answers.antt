@@ -1,11 +1,14 @@
-use Rattle.std.proofs.Common.{Some, map, ap, subst, ◌∙◌, arith}
+use Rattle.std.proofs.Common.{Some, map, ap, sym, subst, ◌∙◌, arith}
+use Rattle.flight_core.specs.Lacking.{NoneLacked}
+use Rattle.pager_model.specs.Legal.{entries_in}
+use Rattle.run_history.specs.Kept.{Kept}
 use Rattle.report_text.specs.Written.{WroteAll, WrotePart}
 use Rattle.pager_command.specs.Views.{ending, out_views, replayed}
 use Rattle.pager_command.proofs.LargeRuns.{RunsLarge-written, counted_text}
 use Rattle.pager_command.proofs.making.run_large.Goals as goal
 
-pub returns-in-Ok : goal.returns-in-Ok
-returns-in-Ok g c =
+pub returns-in-Ok-clause-runs : goal.returns-in-Ok-clause-runs
+returns-in-Ok-clause-runs g c =
     let wrote = c.write_counts.ensures in
     let ran = c.in-Ok.ensures in
     let taken = g.K.Sink.taken in
@@ -20,3 +23,10 @@ returns-in-Ok g c =
     (λ done. subst (λ t. WroteAll t (taken c.args.sink.now) (taken sink)) text (wrote.wrote done))
     (λ failed. subst (λ t. WrotePart t (taken c.args.sink.now) (taken sink)) text (wrote.part failed))
     wrote.write_fault wrote.no_write_fault
+
+pub returns-in-Ok-clause-lasting : goal.returns-in-Ok-clause-lasting
+returns-in-Ok-clause-lasting g c = λ lasts.
+    subst (λ (h : Kept). NoneLacked (entries_in h.items)) (sym c.write_counts.ensures.history) (c.in-Ok.ensures.lasting lasts)
+
+pub returns-in-Err-clause-lasting : goal.returns-in-Err-clause-lasting
+returns-in-Err-clause-lasting g c = λ _. subst (λ h. NoneLacked (entries_in h)) (sym c.stopped-in-Err.ensures.history) tt

@@ -1,4 +1,6 @@
-use Rattle.std.proofs.Common.{◌≡◌, refl, rules, subst}
+use Rattle.std.proofs.Common.{◌≡◌, refl, rules, subst, sym}
+use Rattle.flight_core.specs.Lacking.{NoneLacked}
+use Rattle.pager_model.specs.Legal.{entries_in}
 use Rattle.pager_command.specs.declared.form.Form.{Form}
 use Rattle.pager_command.specs.declared.form.Form.TheVariants.{Replay}
 use Rattle.pager_command.specs.declared.form.Command.TheVariants.{Run, Make, Large}
@@ -48,7 +50,7 @@ returns-in_default-clause-trace g c = λ form. absurd (c.in_default.ensures.none
 
 pub returns-in-Run : goal.returns-in-Run
 returns-in-Run g c =
-    let ran = c.run_in_turns.ensures in
+    let ran = c.run_in_turns.ensures.runs in
     let words = c.args.words.now in
     let form = c.in-Run.form in
     let are : AreWords words form = subst (AreOfCommand words) c.in-Run.is c.in-Some.ensures.some in
@@ -78,6 +80,7 @@ returns-in-Run g c =
       trace = λ _. ran.trace;
       admitted = λ other is. rw (← same other is) ran.admitted;
       ordered = λ other is. rw (← same other is) ran.ordered;
+      lasting = c.run_in_turns.ensures.lasting;
       wrote = λ other is. rw (← same other is) ran.wrote;
       part = λ other is. rw (← same other is) ran.part;
       makes = λ m is. absurd (making_is_no_form words m is (form, are));
@@ -86,7 +89,7 @@ returns-in-Run g c =
 
 pub returns-in-Run-Replay : goal.returns-in-Run-Replay
 returns-in-Run-Replay g c =
-    let ran = c.run_in_threads.ensures in
+    let ran = c.run_in_threads.ensures.runs in
     let words = c.args.words.now in
     let form = Replay c.in-Run-Replay.parts in
     let is_replay : c.in-Run-Replay.field-0 ≡ form = search rules in
@@ -117,6 +120,7 @@ returns-in-Run-Replay g c =
       trace = λ _. ran.trace;
       admitted = λ other is. rw (← same other is) ran.admitted;
       ordered = λ other is. rw (← same other is) ran.ordered;
+      lasting = c.run_in_threads.ensures.lasting;
       wrote = λ other is. rw (← same other is) ran.wrote;
       part = λ other is. rw (← same other is) ran.part;
       makes = λ m is. absurd (making_is_no_form words m is (form, are));
@@ -185,7 +189,7 @@ returns-in-Large-clause-large g c = λ number seed is.
     let are : AreLargeWords words c.in-Large.number c.in-Large.seed =
     subst (AreOfCommand words) c.in-Large.is c.in-Some.ensures.some in
     let same = one_large words c.in-Large.number c.in-Large.seed number seed are is in
-    (refl, rw (← same.0, ← same.1) c.run_large.ensures)
+    (refl, rw (← same.0, ← same.1) c.run_large.ensures.runs)
 
 pub returns-in-Large-clause-refused : goal.returns-in-Large-clause-refused
 returns-in-Large-clause-refused g c = λ form is.
@@ -237,3 +241,9 @@ returns-in-Large-clause-makes g c = λ m is.
     let are : AreLargeWords words c.in-Large.number c.in-Large.seed =
     subst (AreOfCommand words) c.in-Large.is c.in-Some.ensures.some in
     absurd (making_is_not_large words m c.in-Large.number c.in-Large.seed is are)
+
+pub returns-in_default-clause-lasting : goal.returns-in_default-clause-lasting
+returns-in_default-clause-lasting g c = λ _. subst (λ h. NoneLacked (entries_in h)) (sym c.stopped.ensures.history) tt
+
+pub returns-in-Make-clause-lasting : goal.returns-in-Make-clause-lasting
+returns-in-Make-clause-lasting g c = λ _. subst (λ h. NoneLacked (entries_in h)) (sym c.write_made.ensures.no_history) tt

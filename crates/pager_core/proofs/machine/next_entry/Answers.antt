@@ -6,7 +6,11 @@ use Rattle.pager_core.proofs.SilentSteps.{HasPassed-none, HasPassed-more, Makes-
 use Rattle.pager_core.proofs.machine.next_entry.Goals as goal
 
 pub loop-entry-init : goal.loop-entry-init
-loop-entry-init g c = record { passed = HasPassed-none c.args.flight.now c.args.space.now c.requires.going; same_pool = refl }
+loop-entry-init g c = record {
+  passed = HasPassed-none c.args.flight.now c.args.space.now c.requires.going;
+  same_pool = refl;
+  lasting = λ lasts has. has;
+}
 
 pub step-requires-clause-ready : goal.step-requires-clause-ready
 step-requires-clause-ready g c κs within = (c.requires.ready.0, c.loop-entry.invariant.passed.ready c.requires.ready.0 c.requires.ready.1)
@@ -18,6 +22,7 @@ returns-in-Some g c = record {
       Makes-passed c.args.flight.now c.loop-entry.flight c.step.new.flight c.args.space.now c.loop-entry.space c.step.new.space passed st c.args.pool.now c.step.new.pool c.in-Some.entry
       (subst (λ p. Makes c.loop-entry.flight c.step.new.flight c.loop-entry.space c.step.new.space st p c.step.new.pool c.in-Some.entry)
       c.loop-entry.invariant.same_pool (c.in-Some.ensures.entry st (passed.ready st is)));
+  lasting = λ lasts has. c.step.ensures.lasting lasts (c.loop-entry.invariant.lasting lasts has);
 }
 
 pub loop-entry-preserved : goal.loop-entry-preserved
@@ -26,6 +31,7 @@ loop-entry-preserved g c =
       passed = HasPassed-more c.args.flight.now c.loop-entry.flight c.step.new.flight c.args.space.now c.loop-entry.space c.step.new.space
           c.loop-entry.invariant.passed c.requires.ready.0 c.requires.ready.1 c.in_default.ensures.none;
       same_pool = c.step.ensures.same_pool c.in_default.is ∙ c.loop-entry.invariant.same_pool;
+      lasting = λ lasts has. c.step.ensures.lasting lasts (c.loop-entry.invariant.lasting lasts has);
     }
 
 pub step-requires-clause-agree : goal.step-requires-clause-agree

@@ -14,3 +14,6 @@ step_both-requires-clause-needs g c κs within = needs_both (row_of c.args.fligh
 
 pub returns-in-Space-clause-entry : goal.returns-in-Space-clause-entry
 returns-in-Space-clause-entry g c = IfSome_then c.step_space.result c.step_space.ensures.entry (λ e made st is. made st c.args.pool.now is)
+
+pub returns-in-Both-clause-lasting : goal.returns-in-Both-clause-lasting
+returns-in-Both-clause-lasting g c = λ _. c.step_both.ensures.never_lacks

@@ -6,6 +6,7 @@ use Rattle.pager_model.specs.declared.region.Kind.TheVariants.{Fixed}
 use Rattle.pager_model.specs.declared.region.Rights.TheVariants.{NoAccess}
 use Rattle.pager_model.specs.Legal.{entries_in}
 use Rattle.pager_model.specs.Showing.{IsFiled}
+use Rattle.flight_core.specs.Lacking.{NoneLacked}
 use Rattle.replay_core.specs.Replays.{IsReplay, IsBetween, DidNext, DidRest}
 use Rattle.pager_model.specs.Plans.{Plan}
 use Rattle.pager_model.specs.Stored.{Stored}
@@ -183,3 +184,6 @@ returns-clause-counts g c =
     AreItsCounts-whole c.args.trace.now
     (map g.S.Store.seen c.args.stores.items) c.do_rest.new.machine c.finish.result.history.items c.finish.result.summary end.0.1.of
     c.finish.ensures.history c.finish.ensures.summary
+
+pub returns-clause-lasting : goal.returns-clause-lasting
+returns-clause-lasting g c = λ lasts. subst (λ h. NoneLacked (entries_in h)) (sym c.finish.ensures.history) (c.finish.ensures.lasting lasts)

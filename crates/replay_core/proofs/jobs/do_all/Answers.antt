@@ -29,12 +29,12 @@ pub take_back-requires-clause-there : goal.take_back-requires-clause-there
 take_back-requires-clause-there g c =
     have_passes g.N.Named.journal c.args.passes.items c.hand_out.new.workers
     (may_still _ _ c.args.workers.now _ c.requires c.hand_out.ensures.same_jobs) c.hand_out.ensures.passes
-    c.do_each.new.workers c.do_each.ensures c.do_each.auto.workers
+    g.S.Store.lasts c.do_each.new.workers c.do_each.ensures c.do_each.auto.workers
 
 pub returns : goal.returns
 returns g c =
-    subst (λ jobs. HaveDone g.N.Named.journal jobs c.take_back.result.items) c.hand_out.ensures.same_jobs
+    subst (λ jobs. HaveDone g.S.Store.lasts g.N.Named.journal jobs c.take_back.result.items) c.hand_out.ensures.same_jobs
     (have_done g.N.Named.journal c.args.passes.items c.hand_out.new.workers
     (may_still _ _ c.args.workers.now _ c.requires c.hand_out.ensures.same_jobs) c.hand_out.ensures.passes
-    c.do_each.new.workers c.do_each.ensures c.do_each.auto.workers
+    g.S.Store.lasts c.do_each.new.workers c.do_each.ensures c.do_each.auto.workers
     c.take_back.result.items c.take_back.ensures)

@@ -6,6 +6,7 @@ use Rattle.pager_model.specs.Legal.{entries_in}
 use Rattle.pager_model.specs.Showing.{actors}
 use Rattle.pager_model.specs.TurnOrders.{IsScheduled}
 use Rattle.pager_model.proofs.Actors.{actors_few}
+use Rattle.flight_core.specs.Lacking.{NoneLacked}
 use Rattle.replay_core.specs.Replays.{IsReplay}
 use Rattle.replay_core.specs.Turns.{IsStuck, FirstStepped}
 use Rattle.replay_core.proofs.RunLemmas.{length-jobs, IsReplay-whole, AreItsCounts-whole}
@@ -108,3 +109,6 @@ returns-clause-counts g c =
     AreItsCounts-whole c.args.trace.now
     (map g.S.Store.seen c.args.stores.items) c.loop-actors.machine c.finish.result.history.items c.finish.result.summary
     c.loop-actors.invariant.of c.finish.ensures.history c.finish.ensures.summary
+
+pub returns-clause-lasting : goal.returns-clause-lasting
+returns-clause-lasting g c = λ lasts. subst (λ h. NoneLacked (entries_in h)) (sym c.finish.ensures.history) (c.finish.ensures.lasting lasts)

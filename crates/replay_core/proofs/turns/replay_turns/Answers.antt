@@ -4,6 +4,7 @@ use Rattle.std.proofs.lemmas.Bool.{true≢false}
 use Rattle.pager_model.specs.Legal.{entries_in}
 use Rattle.pager_model.specs.TurnOrders.{IsSeeded}
 use Rattle.pager_model.proofs.Actors.{actors_few}
+use Rattle.flight_core.specs.Lacking.{NoneLacked}
 use Rattle.replay_core.specs.Replays.{IsReplay}
 use Rattle.replay_core.proofs.RunLemmas.{length-jobs, IsReplay-whole, AreItsCounts-whole}
 use Rattle.replay_core.proofs.OrderLemmas.{Drawing, Drawing-start, Drawing-step, fewer_drawn}
@@ -61,3 +62,6 @@ returns-clause-counts g c =
     AreItsCounts-whole c.args.trace.now
     (map g.S.Store.seen c.args.stores.items) c.loop-generator.machine c.finish.result.history.items c.finish.result.summary
     c.loop-generator.invariant.of c.finish.ensures.history c.finish.ensures.summary
+
+pub returns-clause-lasting : goal.returns-clause-lasting
+returns-clause-lasting g c = λ lasts. subst (λ h. NoneLacked (entries_in h)) (sym c.finish.ensures.history) (c.finish.ensures.lasting lasts)

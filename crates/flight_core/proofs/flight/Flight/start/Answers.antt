@@ -1,6 +1,7 @@
 use Rattle.flight_core.proofs.AnswerSteps.{start_answered}
 use Rattle.flight_core.proofs.EvictSteps.{begin_evicting}
 use Rattle.flight_core.proofs.FaultSteps.{begin_failed}
+use Rattle.flight_core.proofs.WantOfMemory.{other_reply}
 use Rattle.flight_core.proofs.flight.Flight.start.Goals as goal
 
 pub returns-in-Answered-clause-entry : goal.returns-in-Answered-clause-entry
@@ -22,3 +23,7 @@ returns-in-Failed-clause-entry g c = λ st frames.
 
 pub begin-requires-clause-processor : goal.begin-requires-clause-processor
 begin-requires-clause-processor g c κs within = c.requires.image
+
+pub returns-in-Answered-clause-lasting : goal.returns-in-Answered-clause-lasting
+returns-in-Answered-clause-lasting g c = λ lasts _.
+    rw c.answer.ensures.ended (other_reply c.in-Answered.answered.reply (c.in-Answered.ensures.lasting lasts))

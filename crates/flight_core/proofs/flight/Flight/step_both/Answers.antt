@@ -1,10 +1,12 @@
-use Rattle.std.proofs.Common.{◌≡◌, ℕ, Option, Some, None, true, refl, subst}
+use Rattle.std.proofs.Common.{◌≡◌, ℕ, Option, Some, None, true, refl, ap, subst}
 use Rattle.std.specs.Option.{IfNone}
 use Rattle.std.proofs.lemmas.Option.{IfSome_then}
 use Rattle.flight_core.specs.declared.flight.Needs.TheVariants.{Both}
 use Rattle.flight_core.specs.declared.flight.Purpose.{Purpose}
 use Rattle.flight_core.specs.declared.flight.Purpose.TheVariants.{Call as OfCall, Turn as OfTurn}
+use Rattle.flight_core.specs.Lacking.{may_write}
 use Rattle.flight_core.specs.Rows.{both, is_of_call, own_space, row_in}
+use Rattle.flight_core.proofs.WantOfMemory.{NeverLacks-made, NeverLacks-stepped}
 use Rattle.flight_core.proofs.flight.Flight.step_both.Goals as goal
 
 -- what follows from what a clause says where there is no value
@@ -37,3 +39,31 @@ drop_held-requires-clause-of_call g c =
     let space = c.args.space.now.number in
     of_call-both f.purpose space
     (subst (λ p. (row_in f.processor f.number (own_space f.purpose) f.purpose p).needs ≡ Both space) c.in-Drop.is c.requires.needs)
+
+pub returns-in-Evict-clause-never_lacks : goal.returns-in-Evict-clause-never_lacks
+returns-in-Evict-clause-never_lacks g c = NeverLacks-made c.args.self.now.purpose c.args.self.now.phase c.evict.result.what c.evict.new.self.phase (ap may_write c.in-Evict.is) c.evict.ensures.row
+
+pub returns-in-Clear-clause-never_lacks : goal.returns-in-Clear-clause-never_lacks
+returns-in-Clear-clause-never_lacks g c = NeverLacks-made c.args.self.now.purpose c.args.self.now.phase c.clear.result.what c.clear.new.self.phase (ap may_write c.in-Clear.is) c.clear.ensures.row
+
+pub returns-in-Frame-clause-never_lacks : goal.returns-in-Frame-clause-never_lacks
+returns-in-Frame-clause-never_lacks g c = NeverLacks-made c.args.self.now.purpose c.args.self.now.phase c.take.result.what c.take.new.self.phase (ap may_write c.in-Frame.is) c.take.ensures.row
+
+pub returns-in-Unfill-clause-never_lacks : goal.returns-in-Unfill-clause-never_lacks
+returns-in-Unfill-clause-never_lacks g c = NeverLacks-made c.args.self.now.purpose c.args.self.now.phase c.unfill.result.what c.unfill.new.self.phase (ap may_write c.in-Unfill.is) c.unfill.ensures.row
+
+pub returns-in-Hand-clause-never_lacks : goal.returns-in-Hand-clause-never_lacks
+returns-in-Hand-clause-never_lacks g c = NeverLacks-made c.args.self.now.purpose c.args.self.now.phase c.hand.result.what c.hand.new.self.phase (ap may_write c.in-Hand.is) c.hand.ensures.row
+
+pub returns-in-Unclaim-clause-never_lacks : goal.returns-in-Unclaim-clause-never_lacks
+returns-in-Unclaim-clause-never_lacks g c = NeverLacks-made c.args.self.now.purpose c.args.self.now.phase c.unclaim.result.what c.unclaim.new.self.phase (ap may_write c.in-Unclaim.is) c.unclaim.ensures.row
+
+pub returns-in-Drop-clause-never_lacks : goal.returns-in-Drop-clause-never_lacks
+returns-in-Drop-clause-never_lacks g c = NeverLacks-made c.args.self.now.purpose c.args.self.now.phase c.drop_held.result.what c.drop_held.new.self.phase (ap may_write c.in-Drop.is) c.drop_held.ensures.row
+
+pub returns-in-Use-clause-never_lacks : goal.returns-in-Use-clause-never_lacks
+returns-in-Use-clause-never_lacks g c = NeverLacks-made c.args.self.now.purpose c.args.self.now.phase c.use_held.result.what c.use_held.new.self.phase (ap may_write c.in-Use.is) c.use_held.ensures.row
+
+pub returns-in-Out-clause-never_lacks : goal.returns-in-Out-clause-never_lacks
+returns-in-Out-clause-never_lacks g c =
+    NeverLacks-stepped c.args.self.now.purpose c.args.self.now.phase c.collect.new.self.phase c.collect.result (ap may_write c.in-Out.is) c.collect.ensures.row c.collect.ensures.row_passed

@@ -1,4 +1,5 @@
-use Rattle.std.proofs.Common.{Err, ap}
+use Rattle.std.proofs.Common.{◌∙◌, Err, ap, sym}
+use Rattle.std.proofs.lemmas.Bool.{true≢false}
 use Rattle.flight_core.proofs.VictimPages.{page_written, write_failed, write_lacks_memory}
 use Rattle.flight_core.proofs.flight.Flight.write.Goals as goal
 
@@ -16,3 +17,7 @@ pub returns-in-Err-NoMemory-clause-none : goal.returns-in-Err-NoMemory-clause-no
 returns-in-Err-NoMemory-clause-none g c =
     write_lacks_memory c.args.self.now c.args.victim c.args.space.now c.write_out.new.self c.requires.phase
     (c.in-Err-NoMemory.ensures.no_memory (ap Err c.in-Err-NoMemory.field-0-is))
+
+pub returns-in-Err-NoMemory-clause-lasting : goal.returns-in-Err-NoMemory-clause-lasting
+returns-in-Err-NoMemory-clause-lasting g c = λ lasts _.
+    absurd (true≢false (sym lasts ∙ c.in-Err-NoMemory.ensures.lasting (ap Err c.in-Err-NoMemory.field-0-is)))

@@ -9,6 +9,7 @@ use Rattle.space_core.specs.Rooms.{Capacity}
 use Rattle.pager_core.specs.Machines.{IsMachine}
 use Rattle.pager_core.specs.RunParts.{AreRoomsOver, AreNewSpaces}
 use Rattle.pager_core.proofs.Keepers.{AreKeepers-start}
+use Rattle.pager_core.proofs.Memory.{HasMemory-start}
 use Rattle.pager_core.proofs.StartMachines.{IsMachine-started, length-told}
 use Rattle.pager_core.proofs.Stores.{length-rooms, as_long}
 use Rattle.pager_core.proofs.machine.Machine.create.Given.{Over}
@@ -94,6 +95,7 @@ invariant_of-result g c =
           (length c.over-spaces.result.0.items) c.in-Ok.parts.keepers.items c.in-Ok.ensures.flights
           (c.in-Ok.ensures.keepers ∙ ap (λ n. replicate n None) (let e : c.args.trace.now.spaces
           ≡ length c.over-spaces.result.0.items = omega (arith, count, told) in e)),
+      λ _. HasMemory-start _ c.in-Ok.ensures.flights c.in-Ok.ensures.history.0,
     )
 
 pub returns-clause-made : goal.returns-clause-made

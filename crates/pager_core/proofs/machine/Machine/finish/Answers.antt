@@ -2,6 +2,7 @@ use Rattle.std.proofs.Common.{◌≡◌, drop, length, map, subst, sym, ap, ◌�
 use Rattle.pager_model.specs.Counts.{counts}
 use Rattle.pager_model.specs.Legal.{entries_in}
 use Rattle.pager_model.specs.Stores.{StoresEnd}
+use Rattle.flight_core.specs.Lacking.{NoneLacked}
 use Rattle.pager_core.specs.Running.{Running, HasEnded, IsWholeRun}
 use Rattle.pager_core.proofs.WholeRuns.{IsWholeRun-ended, AreAtRest-ended, few_entries}
 use Rattle.pager_core.proofs.machine.Machine.finish.Goals as goal
@@ -43,3 +44,7 @@ returns-clause-summary g c =
     subst (λ (m : Running). c.of.result.summary ≡ counts m.given (entries_in m.history)) c.self.view_is
     (c.of.ensures.summary i.setting (AreAtRest-ended _ i.spaces.items i.pool _ c.self.invariant.0
     (subst HasEnded (sym c.self.view_is) c.requires)))
+
+pub returns-clause-lasting : goal.returns-clause-lasting
+returns-clause-lasting g c = λ lasts.
+    subst (λ (m : Running). NoneLacked (entries_in m.history)) c.self.view_is (c.self.invariant.3 lasts).answers

@@ -1,12 +1,15 @@
-use Rattle.std.proofs.Common.{◌≡◌, map, reverse, refl, ap, subst, arith}
+use Rattle.std.proofs.Common.{◌≡◌, true, map, reverse, refl, ap, sym, subst, arith}
 use Rattle.std.proofs.Math.ListN.{set, length-set}
 use Rattle.pager_model.specs.Legal.{space_at, entries_in}
+use Rattle.flight_core.specs.Lacking.{NoneLacked}
+use Rattle.pager_core.specs.Machines.{HasMemory}
 use Rattle.pager_core.specs.Running.{Running, MustWait}
 use Rattle.run_history.specs.Kept.{Kept}
 use Rattle.pager_laws.proofs.KeptLaws.{KeepsLaws-legal}
 use Rattle.pager_laws.proofs.OrderedRefusals.{IsNeverShort-legal}
 use Rattle.pager_core.proofs.Laws.{IsNeverShort-machine, KeepsLaws-machine}
 use Rattle.pager_core.proofs.MachineTurns.{Goes, MachineParts, Step, run_after}
+use Rattle.pager_core.proofs.Memory.{HasMemory-turned}
 use Rattle.pager_core.proofs.ReadyFlights.{number-few, OwnsBy-machine, entries-below, known-machine, space_within}
 use Rattle.pager_core.proofs.SpaceTurns.{Turns}
 use Rattle.pager_core.proofs.WholeTurns.{AreKeepers-of, MustWait-kept, none_waits, flies_in, Finds, finds, Goes-of, IsMachine-turned, IsLawful-turned, OneMore-turned}
@@ -249,6 +252,14 @@ returns-clause-not_waiting g c = λ space waits.
     absurd (none_waits (parts g c) c.args.self.now c.args.actor c.args.space c.args.flight c.index_mut.result.now
     (found g c) c.self.view_is space waits)
 
+-- and it has memory still
+has_memory : (g : Over) (c : goal.After-self-3-1 g) → g.S.Store.lasts ≡ true → HasMemory (after g c)
+has_memory g c lasts =
+    subst HasMemory (sym (after_is g c))
+    (HasMemory-turned (parts g c) (step g c) c.going_on.result (c.self.invariant.3 lasts) (found g c).flies
+    (c.next_entry-entry.ensures.lasting lasts) (turns g c).makes.entry.reply
+    (record { going = c.going_on.ensures.going; next = c.going_on.ensures.next }))
+
 pub invariant_of-self : goal.invariant_of-self
 invariant_of-self g c =
     let i = c.self.inside in
@@ -261,6 +272,7 @@ invariant_of-self g c =
       AreKeepers-of (parts g c) (step g c) c.going_on.result c.args.space c.index_mut.result.now c.next_entry-entry.new.space (turns g c)
           (goes g c) i.keepers.items c.self.invariant.2
           c.keeper.result c.keeper.ensures,
+      λ lasts. has_memory g c lasts,
     )
 
 pub returns-clause-stepped : goal.returns-clause-stepped
@@ -287,3 +299,10 @@ returns-clause-laws g c = KeepsLaws-legal _ _ (returns-clause-lawful g c).legal
 
 pub returns-clause-never_short : goal.returns-clause-never_short
 returns-clause-never_short g c = IsNeverShort-legal _ _ (returns-clause-lawful g c).legal
+
+pub returns-clause-lasting : goal.returns-clause-lasting
+returns-clause-lasting g c = λ lasts. (has_memory g c lasts).answers
+
+pub returns-then-is_other-clause-lasting : goal.returns-then-is_other-clause-lasting
+returns-then-is_other-clause-lasting g c = λ lasts.
+    subst (λ (m : Running). NoneLacked (entries_in m.history)) c.self.view_is (c.self.invariant.3 lasts).answers

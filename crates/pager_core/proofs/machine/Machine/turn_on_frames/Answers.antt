@@ -1,10 +1,12 @@
-use Rattle.std.proofs.Common.{◌≡◌, map, reverse, refl, ap, arith}
+use Rattle.std.proofs.Common.{◌≡◌, true, map, reverse, refl, ap, sym, subst, arith}
 use Rattle.std.proofs.Math.ListN.{set}
+use Rattle.pager_core.specs.Machines.{HasMemory}
 use Rattle.pager_core.specs.Running.{Running}
 use Rattle.run_history.specs.Kept.{Kept}
 use Rattle.pager_laws.proofs.KeptLaws.{KeepsLaws-legal}
 use Rattle.pager_laws.proofs.OrderedRefusals.{IsNeverShort-legal}
 use Rattle.pager_core.proofs.MachineTurns.{Goes, MachineParts, Step, run_after}
+use Rattle.pager_core.proofs.Memory.{HasMemory-turned}
 use Rattle.pager_core.proofs.ReadyFlights.{number-few, needs-frames, OwnsBy-machine, entries-below, known-machine, room_on_frames}
 use Rattle.pager_core.proofs.FrameTurns.{TurnsOnFrames}
 use Rattle.pager_core.proofs.WholeTurns.{AreKeepers-of_frames, flies_in, Goes-of_frames, IsMachine-turned, IsLawful-turned, OneMore-turned}
@@ -112,6 +114,14 @@ goes g c =
       next = c.going_on.ensures.next;
     })
 
+-- and it has memory still
+has_memory : (g : Over) (c : goal.After-self-1 g) → g.S.Store.lasts ≡ true → HasMemory (after g c)
+has_memory g c lasts =
+    subst HasMemory (sym (after_is g c))
+    (HasMemory-turned (parts g c) (step g c) c.going_on.result (c.self.invariant.3 lasts) (turns g c).flies
+    c.step_frames-entry.ensures.never_lacks c.step_frames-entry.ensures.entry.entry.reply
+    (record { going = c.going_on.ensures.going; next = c.going_on.ensures.next }))
+
 pub invariant_of-self : goal.invariant_of-self
 invariant_of-self g c =
     let i = c.self.inside in
@@ -120,6 +130,7 @@ invariant_of-self g c =
           (ap (λ (k : Kept). k.room) c.push.ensures),
       room,
       AreKeepers-of_frames (parts g c) (step g c) c.going_on.result (turns g c) (goes g c) i.keepers.items c.self.invariant.2,
+      λ lasts. has_memory g c lasts,
     )
 
 pub returns-clause-stepped : goal.returns-clause-stepped
@@ -139,3 +150,6 @@ returns-clause-laws g c = KeepsLaws-legal _ _ (returns-clause-lawful g c).legal
 
 pub returns-clause-never_short : goal.returns-clause-never_short
 returns-clause-never_short g c = IsNeverShort-legal _ _ (returns-clause-lawful g c).legal
+
+pub returns-clause-lasting : goal.returns-clause-lasting
+returns-clause-lasting g c = λ lasts. (has_memory g c lasts).answers

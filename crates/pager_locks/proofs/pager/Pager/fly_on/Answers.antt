@@ -7,4 +7,5 @@ loop-flight-preserved g c =
       some = (i.some.0, c.go_on-pass.ensures.flying i.some.0 i.some.1);
       flying = λ from was. c.go_on-pass.ensures.flying from (i.flying from was);
       keeps = c.go_on-pass.ensures.left;
+      lasting = λ lasts has. c.go_on-pass.ensures.lasting lasts (i.lasting lasts has);
     }

@@ -1,5 +1,6 @@
-use Rattle.std.proofs.Common.{◌≡◌, ◌∙◌, ap, sym}
+use Rattle.std.proofs.Common.{◌≡◌, ◌∙◌, ap, refl, sym}
 use Rattle.pager_model.specs.Flat.{space_of_call}
+use Rattle.space_core.proofs.CopyCalls.{had_memory}
 use Rattle.space_core.proofs.space.Space.begin.Goals as goal
 
 pub begin_map-requires-clause-can : goal.begin_map-requires-clause-can
@@ -61,3 +62,15 @@ pub returns-in-Evict-clause-begins : goal.returns-in-Evict-clause-begins
 returns-in-Evict-clause-begins g c =
     let own : c.in-Evict.space ≡ c.args.self.now.number = ap space_of_call (sym c.in-Evict.is) ∙ c.requires.space in
     rw (c.in-Evict.is, own) (c.begin_evict.ensures.begins c.args.processor)
+
+pub returns-in-Map-clause-lasting : goal.returns-in-Map-clause-lasting
+returns-in-Map-clause-lasting g c = λ _. had_memory _ _ 0 _ c.begin_map.result refl (c.begin_map.ensures.begins 0)
+
+pub returns-in-Grow-clause-lasting : goal.returns-in-Grow-clause-lasting
+returns-in-Grow-clause-lasting g c = λ _. had_memory _ _ 0 _ c.begin_grow.result refl (c.begin_grow.ensures.begins 0)
+
+pub returns-in-Unmap-clause-lasting : goal.returns-in-Unmap-clause-lasting
+returns-in-Unmap-clause-lasting g c = λ _. had_memory _ _ 0 _ c.begin_unmap.result refl (c.begin_unmap.ensures.begins 0)
+
+pub returns-in-Protect-clause-lasting : goal.returns-in-Protect-clause-lasting
+returns-in-Protect-clause-lasting g c = λ _. had_memory _ _ 0 _ c.begin_protect.result refl (c.begin_protect.ensures.begins 0)

@@ -1,4 +1,5 @@
 use Rattle.std.proofs.Common.{◌≡◌, ◌≢◌, ◌<◌, ◌∙◌, ap, sym, refl, true, None, Some, Err, rules}
+use Rattle.std.proofs.lemmas.Bool.{true≢false}
 use Rattle.pager_model.specs.declared.call.Call.TheVariants.{Evict}
 use Rattle.pager_model.specs.declared.reply.Reply.TheVariants.{Denied, Unmapped}
 use Rattle.pager_model.specs.Flat.{evict_reply}
@@ -6,7 +7,7 @@ use Rattle.pager_model.specs.Regions.{is_wired, region_at}
 use Rattle.space_core.specs.Standing.{Kept, is_unwired, frame_at}
 use Rattle.space_core.proofs.Refusals.{begins_refused}
 use Rattle.space_core.proofs.SameView.{same_regions}
-use Rattle.space_core.proofs.CopyCalls.{evicts_absent, begins_unwritten, begins_evicting, evict_denied, unwired_at}
+use Rattle.space_core.proofs.CopyCalls.{evicts_absent, begins_unwritten, had_memory-unwritten, begins_evicting, evict_denied, unwired_at}
 use Rattle.space_core.proofs.space.Space.begin_evict.Goals as goal
 
 pub returns-in_default-clause-begins : goal.returns-in_default-clause-begins
@@ -57,3 +58,7 @@ returns-in-Err-clause-begins g c =
     rw c.unwritten.ensures (λ processor. begins_unwritten c.args.self.now c.save.new.self processor c.args.page c.requires.resting
     (Evict c.args.self.now.number c.args.page) c.in-Err.fault refl unwired
     (λ count h. c.in-Err.ensures.failed count (ap Err h)) (λ h. c.in-Err.ensures.no_memory (ap Err h)))
+
+pub returns-in-Err-clause-lasting : goal.returns-in-Err-clause-lasting
+returns-in-Err-clause-lasting g c = λ lasts. rw c.unwritten.ensures (had_memory-unwritten c.args.page c.in-Err.fault
+    (λ is. true≢false (sym lasts ∙ c.in-Err.ensures.lasting (ap Err is))))
