@@ -1,8 +1,8 @@
--- The text of a trace that a form is for, and for whose spaces there are stores enough, is run: it isn't refused.
+-- The text of a trace that a report is for, and for whose spaces there are stores enough, is run: it isn't refused.
 use Rattle.std.proofs.Common.{◌≡◌, ℕ, ◌<◌, ◌≤◌, ◌⊎◌, inl, inr, List, Option, Some, None, IfSome, IsSomeAnd, refl, sym, ap, subst, ◌∙◌, arith}
 use Rattle.std.proofs.lemmas.Option.{none-some, same_Some}
 use Rattle.pager_model.specs.Plans.{Plan}
-use Rattle.pager_command.specs.declared.form.Form.{Form}
+use Rattle.pager_command.specs.declared.form.Report.{Report}
 use Rattle.pager_command.specs.declared.status.TheConstants.{REFUSED, READ_FAULT, MEMORY}
 use Rattle.pager_command.specs.Forms.{IsForOneProcessor, Admits}
 use Rattle.pager_command.specs.Runs.{CountsProcessors, CountsStores, IsRefused, IsRunnable, WasRead, WasRunnable, status_of}
@@ -13,37 +13,37 @@ use Rattle.trace_reader.proofs.CutTexts.{not_refused}
 use Rattle.trace_reader.proofs.UniqueTexts.{one_plan}
 
 -- a trace that was read and has more spaces than there are stores is refused so
-pub refused_stores : (form : Form) (left after : Option (List ℕ)) (trace : Plan) (stores : ℕ) (refusal : Option TraceFault)
-    → WasRead trace left after → Admits form trace
+pub refused_stores : (report : Report) (left after : Option (List ℕ)) (trace : Plan) (stores : ℕ) (refusal : Option TraceFault)
+    → WasRead trace left after → Admits report trace
     → (stores < trace.spaces) × (refusal ≡ Some (TooFewStores stores trace.spaces))
-    → IfSome left (λ bytes. IsSomeAnd refusal (IsRefused form stores bytes))
-refused_stores form None after trace stores refusal read takes few = tt
-refused_stores form (Some bytes) after trace stores refusal read takes few =
-    subst (λ refusal. IsSomeAnd refusal (IsRefused form stores bytes)) (sym few.1) (inr (inr (trace, read.0, takes, few.0, refl)))
+    → IfSome left (λ bytes. IsSomeAnd refusal (IsRefused report stores bytes))
+refused_stores report None after trace stores refusal read takes few = tt
+refused_stores report (Some bytes) after trace stores refusal read takes few =
+    subst (λ refusal. IsSomeAnd refusal (IsRefused report stores bytes)) (sym few.1) (inr (inr (trace, read.0, takes, few.0, refl)))
 
--- and one that has more processors than one, by a form that is for one alone
-pub refused_processors : (form : Form) (left after : Option (List ℕ)) (trace : Plan) (stores : ℕ) (refusal : Option TraceFault)
-    → WasRead trace left after → IsForOneProcessor form
+-- and one that has more processors than one, with a report that is for one alone
+pub refused_processors : (report : Report) (left after : Option (List ℕ)) (trace : Plan) (stores : ℕ) (refusal : Option TraceFault)
+    → WasRead trace left after → IsForOneProcessor report
     → (1 < trace.processors) × (refusal ≡ Some (OneProcessor trace.processors))
-    → IfSome left (λ bytes. IsSomeAnd refusal (IsRefused form stores bytes))
-refused_processors form None after trace stores refusal read one more = tt
-refused_processors form (Some bytes) after trace stores refusal read one more =
-    subst (λ refusal. IsSomeAnd refusal (IsRefused form stores bytes)) (sym more.1) (inr (inl (trace, read.0, one, more.0, refl)))
+    → IfSome left (λ bytes. IsSomeAnd refusal (IsRefused report stores bytes))
+refused_processors report None after trace stores refusal read one more = tt
+refused_processors report (Some bytes) after trace stores refusal read one more =
+    subst (λ refusal. IsSomeAnd refusal (IsRefused report stores bytes)) (sym more.1) (inr (inl (trace, read.0, one, more.0, refl)))
 
--- a trace whose text runs has stores enough, and the form is for it
-pub runs_read : (form : Form) (left after : Option (List ℕ)) (trace : Plan) (stores : ℕ) → IsSomeAnd left (IsRunnable form stores)
-    → WasRead trace left after → Admits form trace × (trace.spaces ≤ stores)
-runs_read form None after trace stores runs read = absurd runs
-runs_read form (Some bytes) after trace stores runs read =
+-- a trace whose text runs has stores enough, and the report is for it
+pub runs_read : (report : Report) (left after : Option (List ℕ)) (trace : Plan) (stores : ℕ) → IsSomeAnd left (IsRunnable report stores)
+    → WasRead trace left after → Admits report trace × (trace.spaces ≤ stores)
+runs_read report None after trace stores runs read = absurd runs
+runs_read report (Some bytes) after trace stores runs read =
     let same : runs.0 ≡ trace = one_plan runs.0 trace runs.1.0 read.0.0 (sym runs.1.1 ∙ read.0.1) in
-    subst (λ plan. Admits form plan × (plan.spaces ≤ stores)) same (runs.2, runs.3)
+    subst (λ plan. Admits report plan × (plan.spaces ≤ stores)) same (runs.2, runs.3)
 
 -- a trace's text is refused for a failed read or for want of memory alone
-pub not_refused_text : (form : Form) (left : Option (List ℕ)) (fault : TraceFault) (stores status : ℕ)
-    → IsSomeAnd left (IsRunnable form stores) → IfSome left (λ bytes. IsCause (refusal_of bytes) fault) → status ≡ status_of fault
+pub not_refused_text : (report : Report) (left : Option (List ℕ)) (fault : TraceFault) (stores status : ℕ)
+    → IsSomeAnd left (IsRunnable report stores) → IfSome left (λ bytes. IsCause (refusal_of bytes) fault) → status ≡ status_of fault
     → (fault ≡ ReadFault → ⊥) → status ≡ MEMORY
-not_refused_text form None fault stores status runs cause is read = absurd runs
-not_refused_text form (Some bytes) fault stores status runs cause is read =
+not_refused_text report None fault stores status runs cause is read = absurd runs
+not_refused_text report (Some bytes) fault stores status runs cause is read =
     let none : refusal_of bytes ≡ None = ap refusal_of runs.1.1 ∙ not_refused runs.0 runs.1.0 in
     by_fault fault none cause is read
   where
@@ -59,12 +59,12 @@ not_refused_text form (Some bytes) fault stores status runs cause is read =
     by_fault (OneProcessor processors) none cause is read = absurd cause
 
 -- and what is refused of a text is what the text is refused for
-pub refused_text : (form : Form) (left : Option (List ℕ)) (fault : TraceFault) (stores status : ℕ) (refusal : Option TraceFault)
+pub refused_text : (report : Report) (left : Option (List ℕ)) (fault : TraceFault) (stores status : ℕ) (refusal : Option TraceFault)
     → IfSome left (λ bytes. IsCause (refusal_of bytes) fault) → status ≡ status_of fault → refusal ≡ Some fault → status ≡ REFUSED
-    → IfSome left (λ bytes. IsSomeAnd refusal (IsRefused form stores bytes))
-refused_text form None fault stores status refusal cause is told refused = tt
-refused_text form (Some bytes) fault stores status refusal cause is told refused =
-    subst (λ refusal. IsSomeAnd refusal (IsRefused form stores bytes)) (sym told) (inl (by_fault fault cause (sym is ∙ refused)))
+    → IfSome left (λ bytes. IsSomeAnd refusal (IsRefused report stores bytes))
+refused_text report None fault stores status refusal cause is told refused = tt
+refused_text report (Some bytes) fault stores status refusal cause is told refused =
+    subst (λ refusal. IsSomeAnd refusal (IsRefused report stores bytes)) (sym told) (inl (by_fault fault cause (sym is ∙ refused)))
   where
     by_fault : (fault : TraceFault) → IsCause (refusal_of bytes) fault → status_of fault ≡ REFUSED → refusal_of bytes ≡ Some fault
     by_fault ReadFault cause refused = absurd (omega (arith, refused))
@@ -88,10 +88,10 @@ status_told (TooFewStores stores spaces) = inl refl
 status_told (OneProcessor processors) = inl refl
 
 -- a text that was read is one that can be run, where its trace is
-pub was_runnable : (form : Form) (stores : ℕ) (left after : Option (List ℕ)) (plan : Plan) → WasRead plan left after → Admits form plan
-    → plan.spaces ≤ stores → WasRunnable form stores left after
-was_runnable form stores None after plan read admitted enough = tt
-was_runnable form stores (Some bytes) after plan read admitted enough = ((plan, read.0, admitted, enough), read.1)
+pub was_runnable : (report : Report) (stores : ℕ) (left after : Option (List ℕ)) (plan : Plan) → WasRead plan left after → Admits report plan
+    → plan.spaces ≤ stores → WasRunnable report stores left after
+was_runnable report stores None after plan read admitted enough = tt
+was_runnable report stores (Some bytes) after plan read admitted enough = ((plan, read.0, admitted, enough), read.1)
 
 -- a refusal for want of stores, which are fewer than the spaces
 pub counts_stores : (refusal : Option TraceFault) (stores spaces : ℕ) → refusal ≡ Some (TooFewStores stores spaces) → stores < spaces
@@ -107,19 +107,19 @@ pub counts_none : (refusal : Option TraceFault) (stores : ℕ) → refusal ≡ N
 counts_none refusal stores none = λ told wanted is. absurd (none-some _ (sym none ∙ is))
 
 -- a refusal for more processors than one
-pub counts_processors : (form : Form) (refusal : Option TraceFault) (processors : ℕ) → refusal ≡ Some (OneProcessor processors)
-    → IsForOneProcessor form → 1 < processors → CountsProcessors form refusal
-counts_processors form refusal processors is one more = λ told also.
+pub counts_processors : (report : Report) (refusal : Option TraceFault) (processors : ℕ) → refusal ≡ Some (OneProcessor processors)
+    → IsForOneProcessor report → 1 < processors → CountsProcessors report refusal
+counts_processors report refusal processors is one more = λ told also.
     let same : Some (OneProcessor processors) ≡ Some (OneProcessor told) = sym is ∙ also in
     let count : told ≡ processors = cc in
     (one, omega (arith, more, count))
 
 -- another refusal is none for processors
-pub another_fault : (form : Form) (refusal : Option TraceFault) (fault : TraceFault) → refusal ≡ Some fault
-    → ((processors : ℕ) → fault ≡ OneProcessor processors → ⊥) → CountsProcessors form refusal
-another_fault form refusal fault is other = λ processors also. absurd
+pub another_fault : (report : Report) (refusal : Option TraceFault) (fault : TraceFault) → refusal ≡ Some fault
+    → ((processors : ℕ) → fault ≡ OneProcessor processors → ⊥) → CountsProcessors report refusal
+another_fault report refusal fault is other = λ processors also. absurd
     (other processors (same_Some fault (OneProcessor processors) (sym is ∙ also)))
 
 -- and without one none was wanted
-pub counts_none_for_processors : (form : Form) (refusal : Option TraceFault) → refusal ≡ None → CountsProcessors form refusal
-counts_none_for_processors form refusal none = λ processors is. absurd (none-some _ (sym none ∙ is))
+pub counts_none_for_processors : (report : Report) (refusal : Option TraceFault) → refusal ≡ None → CountsProcessors report refusal
+counts_none_for_processors report refusal none = λ processors is. absurd (none-some _ (sym none ∙ is))

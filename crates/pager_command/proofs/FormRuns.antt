@@ -1,71 +1,92 @@
--- A run by a form, where it was made, and where none was.
-use Rattle.std.proofs.Common.{◌≡◌, ◌≢◌, ℕ, ◌≤◌, ◌⊎◌, inl, inr, List, [], length, map, Option, Some, None, IsSome, refl, ap, sym, ◌∙◌, arith}
-use Rattle.std.proofs.lemmas.Bool.{false≢true}
+-- A run of what is read: where it was made, where none was, and what follows of each.
+use Rattle.std.proofs.Common.{◌≡◌, ◌≢◌, ℕ, ◌≤◌, ◌⊎◌, inl, inr, List, [], length, map, Option, Some, None, MatchOption, IsSomeAnd, refl, sym, subst, arith}
 use Rattle.std.proofs.lemmas.List.{length-map}
-use Rattle.std.proofs.lemmas.Option.{none-some}
+use Rattle.io_core.specs.Faults.{Rose}
 use Rattle.io_core.proofs.FaultCounts.{rose_by_one}
 use Rattle.pager_core.specs.declared.run_parts.Gathered.{Gathered}
 use Rattle.pager_model.specs.Legal.{entries_in}
 use Rattle.pager_model.specs.Plans.{Plan}
 use Rattle.pager_model.specs.Stored.{Stored}
 use Rattle.replay_core.specs.Replays.{IsReplay, AreItsCounts}
-use Rattle.pager_command.specs.declared.form.Form.{Form}
+use Rattle.pager_command.specs.declared.form.Order.{Order}
+use Rattle.pager_command.specs.declared.form.Report.{Report}
 use Rattle.pager_command.specs.declared.outcome.Outcome.{Outcome}
-use Rattle.pager_command.specs.declared.status.TheConstants.{DONE, MEMORY, WRITE_FAULT}
-use Rattle.pager_command.specs.Forms.{ComesBy, Admits}
-use Rattle.pager_command.specs.Runs.{EndsRun, IsEndOf, IsStopped, RunsBy, WasRead, WasRun}
-use Rattle.pager_command.specs.Views.{Ends, Views, ending, replayed}
+use Rattle.pager_command.specs.declared.status.TheConstants.{DONE, USAGE, REFUSED, READ_FAULT, MEMORY, WRITE_FAULT}
+use Rattle.pager_command.specs.Forms.{Admits, ComesBy}
+use Rattle.pager_command.specs.Runs.{EndsRun, IsEndOf, IsRunnable, IsStatus, IsStopped, IsTold, MadeRun, ReadAndMade, RunsBy, WasRead, WasRun, WasStopped}
+use Rattle.pager_command.specs.Views.{Ending, Ends, OutViews, Views, ending, replayed}
 use Rattle.pager_command.proofs.Completeness.{counts_none_for_processors, counts_none, was_runnable}
 use Rattle.trace_reader.specs.declared.fault.TraceFault.{TraceFault}
 
 -- the statuses of a run that was made
-made_statuses : (form : Form) (status : ℕ) → IsEndOf form status → (status ≡ DONE) ⊎ ((status ≡ WRITE_FAULT) ⊎ (status ≡ MEMORY))
-made_statuses form status ended =
+pub made_statuses : (report : Report) (status : ℕ) → IsEndOf report status → (status ≡ DONE) ⊎ ((status ≡ WRITE_FAULT) ⊎ (status ≡ MEMORY))
+made_statuses report status ended =
     elim ended [ inl done ↦ inl done | inr other ↦ elim other [ inl failed ↦ inr (inl failed) | inr more ↦ inr (inr more.0) ] ]
 
--- with any other status there is no trace
-pub unmade : (trace : Option Plan) (form : Form) (status : ℕ) → (IsSome trace → IsEndOf form status)
-    → status ≢ DONE → status ≢ WRITE_FAULT → status ≢ MEMORY → trace ≡ None
-unmade None form status ended not_done not_failed not_memory = refl
-unmade (Some plan) form status ended not_done not_failed not_memory =
-    elim (made_statuses form status (ended refl)) [
-      | inl done ↦ absurd (not_done done)
-      | inr other ↦ elim other [ inl failed ↦ absurd (not_failed failed) | inr memory ↦ absurd (not_memory memory) ]
+-- these are statuses of the program
+pub made_status : (status : ℕ) → (status ≡ DONE) ⊎ ((status ≡ WRITE_FAULT) ⊎ (status ≡ MEMORY)) → IsStatus status
+made_status status which =
+    elim which [
+      | inl done ↦ inl done
+      | inr other ↦ elim other [ inl failed ↦ inr (inr (inr (inr (inr failed)))) | inr memory ↦ inr (inr (inr (inr (inl memory)))) ]
     ]
 
--- a replay over a store for each space at least is a run
-pub WasRun-over : {P : Type 0} (seen : P → Stored) (plan : Plan) (stores : List P) (gathered : Gathered P) → plan.spaces ≤ length stores
-    → IsReplay plan (map seen stores) gathered.history.items (map seen gathered.stores.items)
-    → AreItsCounts plan (map seen stores) gathered.history.items gathered.summary
-    → WasRun seen (replayed plan (map seen stores) gathered)
-WasRun-over seen plan stores gathered enough run counts =
-    record { enough = omega (arith, enough, length-map stores seen); run = run; counts = counts }
+-- where nothing was refused, nothing has to be told
+pub told_none : (status : ℕ) (refusal : Option TraceFault) → refusal ≡ None → status ≢ REFUSED → status ≢ READ_FAULT → IsTold status refusal
+told_none status refusal none not_refused no_fault =
+    record {
+      own_status = rw none tt;
+      refused = λ is. absurd (not_refused is);
+      read_fault = λ is. absurd (no_fault is);
+    }
 
--- and so one of some stores
-pub is_some_run : {P : Type 0} (seen : P → Stored) (plan : Plan) (stores : List P) (gathered : Gathered P) → plan.spaces ≤ length stores
+-- what was gathered of a replay over a store for each space at least can be told
+pub WasRun-gathered : {P : Type 0} (seen : P → Stored) (plan : Plan) (stores : List P) (gathered : Gathered P) → plan.spaces ≤ length stores
     → IsReplay plan (map seen stores) gathered.history.items (map seen gathered.stores.items)
     → AreItsCounts plan (map seen stores) gathered.history.items gathered.summary
-    → (before : List Stored) × WasRun seen (replayed plan before gathered)
-is_some_run seen plan stores gathered enough run counts = (map seen stores, WasRun-over seen plan stores gathered enough run counts)
+    → WasRun (replayed plan (map seen stores) gathered.history.items) gathered.summary
+WasRun-gathered seen plan stores gathered enough run counts =
+    record {
+      enough = omega (arith, enough, length-map stores seen);
+      legal = run.legal;
+      shows = run.shows;
+      counts = counts;
+    }
+
+-- and so a run was made, however it was told
+pub MadeRun-gathered : {K P : Type 0} (out : OutViews K P) (order : Order) (report : Report) (stores : List P) (end : Ending K P)
+    (plan : Plan) (gathered : Gathered P)
+    → plan.spaces ≤ length stores
+    → IsReplay plan (map out.seen stores) gathered.history.items (map out.seen gathered.stores.items)
+    → AreItsCounts plan (map out.seen stores) gathered.history.items gathered.summary
+    → ComesBy order plan (entries_in gathered.history.items)
+    → end.outcome.refusal ≡ None → end.outcome.history ≡ gathered.history → end.outcome.stores ≡ gathered.stores
+    → ((before : List Stored) → WasRun (replayed plan before gathered.history.items) gathered.summary
+    → EndsRun out.taken out.write_faults end.before end.after report (replayed plan before gathered.history.items) end.outcome.status)
+    → MadeRun out order report stores end plan
+MadeRun-gathered out order report stores end plan gathered enough run counts ordered refusal history kept ends =
+    record {
+      refusal = refusal;
+      enough = enough;
+      run = rw (history, kept) run;
+      ordered = rw history ordered;
+      ends = rw history (ends (map out.seen stores) (WasRun-gathered out.seen plan stores gathered enough run counts));
+    }
 
 -- there was no memory for a run of a text that was read
-stopped_for_memory : (form : Form) (left left' : Option (List ℕ)) (faults faults' stores : ℕ) (plan : Plan)
-    → WasRead plan left left' → faults' ≡ faults → Admits form plan → plan.spaces ≤ stores
-    → IsStopped form left left' faults faults' stores MEMORY None
-stopped_for_memory form left left' faults faults' stores plan read same admitted enough =
+stopped_for_memory : (report : Report) (left left' : Option (List ℕ)) (faults faults' stores : ℕ) (plan : Plan)
+    → WasRead plan left left' → faults' ≡ faults → Admits report plan → plan.spaces ≤ stores
+    → IsStopped report left left' faults faults' stores MEMORY None
+stopped_for_memory report left left' faults faults' stores plan read same admitted enough =
     record {
       statuses = inr (inr refl);
-      told = record {
-        own_status = tt;
-        refused = λ is. absurd (omega (arith, is));
-        read_fault = λ is. absurd (omega (arith, is));
-      };
+      told = told_none MEMORY None refl (λ is. omega (arith, is)) (λ is. omega (arith, is));
       few_stores = counts_none None stores refl;
-      one_processor = counts_none_for_processors form None refl;
+      one_processor = counts_none_for_processors report None refl;
       refused = λ is. absurd (omega (arith, is));
       read_fault = λ is. absurd (omega (arith, is));
       no_fault = λ _. same;
-      memory = λ _ _. was_runnable form stores left left' plan read admitted enough;
+      memory = λ _ _. was_runnable report stores left left' plan read admitted enough;
       complete = λ _ _. refl;
     }
 
@@ -76,109 +97,91 @@ pub record Ran (T K P : Type 0) : Type 0 where
   pub stores : List P
   pub outcome : Outcome P
 
-module _ {T K P : Type 0} (views : Views T K P) (form : Form) (ran : Ran T K P) where
+abbrev pub run_of : {T K P : Type 0} (before after : Ends T K) (stores : List P) (outcome : Outcome P) → Ran T K P
+run_of before after stores outcome = record { before = before; after = after; stores = stores; outcome = outcome }
+
+module _ {T K P : Type 0} (views : Views T K P) (order : Order) (report : Report) (ran : Ran T K P) where
   abbrev Promised : Type 0
-  Promised = RunsBy views form ran.before ran.after ran.stores ran.outcome
+  Promised = RunsBy views order report ran.before ran.after ran.stores ran.outcome
 
-  -- it was made, and ended as a run by the form does
-  pub RunsBy-ended : (plan : Plan) (gathered : Gathered P)
+  abbrev Stopped : (n status : ℕ) → Option TraceFault → Type 0
+  Stopped n status refusal = IsStopped report (views.left ran.before.source) (views.left ran.after.source)
+      (views.read_faults ran.before.source) (views.read_faults ran.after.source) n status refusal
+
+  abbrev Unrun : Type 0
+  Unrun = WasStopped views report ran.before ran.after ran.stores ran.outcome
+
+  abbrev Made : Plan → Type 0
+  Made plan = ReadAndMade views order report ran.before ran.after ran.stores ran.outcome plan
+
+  -- one was made
+  pub RunsBy-made : (plan : Plan) → ran.outcome.trace ≡ Some plan
       → WasRead plan (views.left ran.before.source) (views.left ran.after.source)
-      → views.read_faults ran.after.source ≡ views.read_faults ran.before.source
-      → plan.spaces ≤ length ran.stores → Admits form plan → ComesBy form plan (entries_in gathered.history.items)
-      → WasRun views.out.seen (replayed plan (map views.out.seen ran.stores) gathered)
-      → EndsRun views.out form (replayed plan (map views.out.seen ran.stores) gathered)
-      (ending ran.before.sink ran.after.sink ran.outcome)
-      → Promised
-  RunsBy-ended plan gathered read no_fault enough admitted ordered was ends =
-      let which = made_statuses form ran.outcome.status ends.ended in
-      record {
-        statuses = elim which [
-          | inl done ↦ inl done
-          | inr other ↦ elim other [ inl failed ↦ inr (inr (inr (inr (inr failed)))) | inr memory ↦ inr (inr (inr (inr (inl memory)))) ]
-        ];
-        no_usage = λ usage. omega (arith, which, usage);
-        told = record {
-          own_status = rw ends.refusal tt;
-          refused = λ is. absurd (omega (arith, is, which));
-          read_fault = λ is. absurd (omega (arith, is, which));
-        };
-        few_stores = counts_none ran.outcome.refusal (length ran.stores) ends.refusal;
-        one_processor = counts_none_for_processors form ran.outcome.refusal ends.refusal;
-        refused = λ is. absurd (omega (arith, is, which));
-        read_fault = λ is. absurd (omega (arith, is, which));
-        no_read_fault = λ _. no_fault;
-        write_fault = ends.write_fault;
-        no_write_fault = ends.no_write_fault;
-        memory = λ _ _. was_runnable form (length ran.stores) (views.left ran.before.source) (views.left ran.after.source) plan
-            read admitted enough;
-        complete = λ _ _ no_write. elim which [
-          | inl done ↦ inl done
-          | inr other ↦ elim other [ inl failed ↦ absurd (no_write (rw (ends.write_fault failed) (rose_by_one (views.out.write_faults ran.before.sink)))) | inr memory ↦ inr memory ]
-        ];
-        unwritten = λ not_done not_failed. elim which [
-          | inl done ↦ absurd (not_done done)
-          | inr other ↦ elim other [ inl failed ↦ absurd (not_failed failed) | inr memory ↦ ends.unwritten memory ]
-        ];
-        no_trace = λ none. absurd (none-some _ (sym none ∙ ends.trace));
-        same_stores = λ none. absurd (none-some _ (sym none ∙ ends.trace));
-        made = λ _. rw ends.trace refl;
-        ended = λ _. ends.ended;
-        unrefused = λ _. ends.refusal;
-        trace = rw ends.trace (read, enough, rw (ends.history, ends.kept) was.run);
-        admitted = rw ends.trace admitted;
-        ordered = rw ends.trace (rw ends.history ordered);
-        wrote = λ done. rw ends.trace (rw ends.history (ends.wrote done));
-        part = λ failed. rw ends.trace (rw ends.history (ends.part failed));
-      }
+      → views.read_faults ran.after.source ≡ views.read_faults ran.before.source → Admits report plan
+      → MadeRun views.out order report ran.stores (ending ran.before.sink ran.after.sink ran.outcome) plan → Promised
+  RunsBy-made plan trace read no_fault admitted made =
+      let all : Made plan = record { read = read; no_read_fault = no_fault; admitted = admitted; made = made } in
+      subst (λ t. MatchOption t Unrun Made) (sym trace) all
 
-  stopped : IsStopped form (views.left ran.before.source) (views.left ran.after.source)
-      (views.read_faults ran.before.source) (views.read_faults ran.after.source) (length ran.stores) ran.outcome.status ran.outcome.refusal
-      → ran.outcome.trace ≡ None → ran.outcome.history.items ≡ []
-      → map views.out.seen ran.outcome.stores.items ≡ map views.out.seen ran.stores → ran.after.sink ≡ ran.before.sink → Promised
-  stopped stop none no_history same unwritten =
-      let which = stop.statuses in
-      record {
-        statuses = elim which [
-          | inl refused ↦ inr (inr (inl refused))
-          | inr other ↦ elim other [ inl fault ↦ inr (inr (inr (inl fault))) | inr memory ↦ inr (inr (inr (inr (inl memory)))) ]
-        ];
-        no_usage = λ usage. omega (arith, which, usage);
-        told = stop.told;
-        few_stores = stop.few_stores;
-        one_processor = stop.one_processor;
-        refused = stop.refused;
-        read_fault = stop.read_fault;
-        no_read_fault = stop.no_fault;
-        write_fault = λ is. absurd (omega (arith, is, which));
-        no_write_fault = λ _. ap views.out.write_faults unwritten;
-        memory = stop.memory;
-        complete = λ text no_read _. inr (stop.complete text no_read);
-        unwritten = λ _ _. unwritten;
-        no_trace = λ _. no_history;
-        same_stores = λ _. same;
-        made = λ made. absurd (omega (arith, made, which));
-        ended = λ some. absurd (false≢true (rw none at some));
-        unrefused = λ some. absurd (false≢true (rw none at some));
-        trace = rw none tt;
-        admitted = rw none tt;
-        ordered = rw none tt;
-        wrote = λ is. absurd (omega (arith, is, which));
-        part = λ is. absurd (omega (arith, is, which));
-      }
-
-  -- none was made of a text that was read, for want of memory
-  pub RunsBy-unmade : (plan : Plan) → WasRead plan (views.left ran.before.source) (views.left ran.after.source)
-      → views.read_faults ran.after.source ≡ views.read_faults ran.before.source → plan.spaces ≤ length ran.stores → Admits form plan
-      → ran.outcome.status ≡ MEMORY → ran.outcome.refusal ≡ None → ran.outcome.trace ≡ None → ran.outcome.history.items ≡ []
-      → map views.out.seen ran.outcome.stores.items ≡ map views.out.seen ran.stores → ran.after.sink ≡ ran.before.sink → Promised
-  RunsBy-unmade plan read no_fault enough admitted status_is refusal_is =
-      stopped (rw (status_is, refusal_is) (stopped_for_memory form _ _ _ _ _ plan read no_fault admitted enough))
+  unrun : Stopped (length ran.stores) ran.outcome.status ran.outcome.refusal → ran.outcome.history.items ≡ []
+      → map views.out.seen ran.outcome.stores.items ≡ map views.out.seen ran.stores → ran.after.sink ≡ ran.before.sink → Unrun
+  unrun why no_history same unwritten =
+      record { why = why; none = record { unwritten = unwritten; no_history = no_history; same_stores = same } }
 
   -- none was made, and the outcome says why
-  pub RunsBy-stopped : (n status : ℕ) (refusal : Option TraceFault)
-      → IsStopped form (views.left ran.before.source) (views.left ran.after.source)
-      (views.read_faults ran.before.source) (views.read_faults ran.after.source) n status refusal
+  pub RunsBy-stopped : (n status : ℕ) (refusal : Option TraceFault) → Stopped n status refusal
       → n ≡ length ran.stores → ran.outcome.status ≡ status → ran.outcome.refusal ≡ refusal
       → ran.outcome.trace ≡ None → ran.outcome.history.items ≡ []
       → map views.out.seen ran.outcome.stores.items ≡ map views.out.seen ran.stores → ran.after.sink ≡ ran.before.sink → Promised
-  RunsBy-stopped n status refusal stop count status_is refusal_is = stopped (rw (status_is, refusal_is, ← count) stop)
+  RunsBy-stopped n status refusal stop count status_is refusal_is trace no_history same unwritten =
+      let why : Stopped (length ran.stores) ran.outcome.status ran.outcome.refusal = rw (status_is, refusal_is, ← count) stop in
+      subst (λ t. MatchOption t Unrun Made) (sym trace) (unrun why no_history same unwritten)
+
+  -- none was made of a text that was read, for want of memory
+  pub RunsBy-unmade : (plan : Plan) → WasRead plan (views.left ran.before.source) (views.left ran.after.source)
+      → views.read_faults ran.after.source ≡ views.read_faults ran.before.source → plan.spaces ≤ length ran.stores → Admits report plan
+      → ran.outcome.status ≡ MEMORY → ran.outcome.refusal ≡ None → ran.outcome.trace ≡ None → ran.outcome.history.items ≡ []
+      → map views.out.seen ran.outcome.stores.items ≡ map views.out.seen ran.stores → ran.after.sink ≡ ran.before.sink → Promised
+  RunsBy-unmade plan read no_fault enough admitted status_is refusal_is trace no_history same unwritten =
+      let why : Stopped (length ran.stores) ran.outcome.status ran.outcome.refusal =
+      rw (status_is, refusal_is) (stopped_for_memory report _ _ _ _ _ plan read no_fault admitted enough) in
+      subst (λ t. MatchOption t Unrun Made) (sym trace) (unrun why no_history same unwritten)
+
+  -- what follows where none was made, and where one was, follows
+  either : (Q : Type 0) → Promised → (Stopped (length ran.stores) ran.outcome.status ran.outcome.refusal → Q)
+      → ((plan : Plan) → Made plan → Q) → Q
+  either Q runs stopped made = by_trace ran.outcome.trace runs
+    where
+      by_trace : (trace : Option Plan) → MatchOption trace Unrun Made → Q
+      by_trace None holds = stopped holds.why
+      by_trace (Some plan) holds = made plan holds
+
+  pub RunsBy-status : Promised → IsStatus ran.outcome.status
+  RunsBy-status runs = either (IsStatus ran.outcome.status) runs
+      (λ stop. elim stop.statuses [
+        | inl refused ↦ inr (inr (inl refused))
+        | inr other ↦ elim other [ inl fault ↦ inr (inr (inr (inl fault))) | inr memory ↦ inr (inr (inr (inr (inl memory)))) ]
+      ])
+      (λ plan all. made_status ran.outcome.status (made_statuses report ran.outcome.status all.made.ends.ended))
+
+  pub RunsBy-command : Promised → ran.outcome.status ≢ USAGE
+  RunsBy-command runs = either (ran.outcome.status ≢ USAGE) runs
+      (λ stop is. (let which = stop.statuses in omega (arith, which, is)))
+      (λ plan all is. (let which = made_statuses report ran.outcome.status all.made.ends.ended in omega (arith, which, is)))
+
+  pub RunsBy-told : Promised → IsTold ran.outcome.status ran.outcome.refusal
+  RunsBy-told runs = either (IsTold ran.outcome.status ran.outcome.refusal) runs (λ stop. stop.told)
+      (λ plan all. (let which = made_statuses report ran.outcome.status all.made.ends.ended in
+      told_none ran.outcome.status ran.outcome.refusal all.made.refusal (λ is. omega (arith, which, is)) (λ is. omega (arith, which, is))))
+
+  pub RunsBy-complete : Promised → IsSomeAnd (views.left ran.before.source) (IsRunnable report (length ran.stores))
+      → (Rose (views.read_faults ran.before.source) (views.read_faults ran.after.source) → ⊥)
+      → (Rose (views.out.write_faults ran.before.sink) (views.out.write_faults ran.after.sink) → ⊥)
+      → (ran.outcome.status ≡ DONE) ⊎ (ran.outcome.status ≡ MEMORY)
+  RunsBy-complete runs text no_read no_write = either ((ran.outcome.status ≡ DONE) ⊎ (ran.outcome.status ≡ MEMORY)) runs
+      (λ stop. inr (stop.complete text no_read))
+      (λ plan all. (let ends = all.made.ends in
+      elim (made_statuses report ran.outcome.status ends.ended) [
+        | inl done ↦ inl done
+        | inr other ↦ elim other [ inl failed ↦ absurd (no_write (rw (ends.write_fault failed) (rose_by_one (views.out.write_faults ran.before.sink)))) | inr memory ↦ inr memory ]
+      ]))

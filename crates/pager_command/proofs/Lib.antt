@@ -1,6 +1,6 @@
 pub mod Words
 pub mod Completeness
-mod OneForm
+mod OneCommand
 mod PrintedRuns
 mod PlannedRuns
 mod CurveRuns

@@ -1,65 +1,43 @@
--- How a run ends that was made, by what was gathered of it and written.
-use Rattle.std.proofs.Common.{◌≡◌, ◌≢◌, ℕ, ◌⊎◌, inl, inr, List, Some, None, ap, sym, subst, arith}
+-- How a run ends by what was written of it, where the whole text is known.
+use Rattle.std.proofs.Common.{◌≡◌, ◌≢◌, ℕ, ◌⊎◌, inl, inr, List, Option, ap, ◌∙◌, arith}
 use Rattle.io_core.specs.Faults.{one_more}
 use Rattle.pager_model.specs.declared.summary.Summary.{Summary}
-use Rattle.pager_model.specs.PrintedText.{out_text}
+use Rattle.pager_model.specs.PrintedText.{out_text, summary_text}
 use Rattle.report_text.specs.declared.report.Parts.{Parts}
 use Rattle.report_text.specs.Parts.{has_history}
 use Rattle.report_text.specs.Written.{WroteAll, WrotePart}
-use Rattle.pager_command.specs.declared.form.Form.{Form}
-use Rattle.pager_command.specs.declared.form.Form.TheVariants.{Order, Turns, Replay}
+use Rattle.pager_command.specs.declared.form.Report.{Report}
+use Rattle.pager_command.specs.declared.form.Report.TheVariants.{Answers, Counts}
 use Rattle.pager_command.specs.declared.status.TheConstants.{DONE, WRITE_FAULT}
-use Rattle.pager_command.specs.Runs.{EndsRun, Prints, WasRun, report_of}
-use Rattle.pager_command.specs.Views.{Ending, OutViews, Replayed}
+use Rattle.pager_command.specs.Runs.{EndsRun, Prints, WasRun}
+use Rattle.pager_command.specs.Views.{Replayed}
 
--- by the form these parts of a report are printed
-abbrev pub IsReportedBy : Parts → Form → Type 0
-IsReportedBy parts (Order asked) = asked ≡ parts
-IsReportedBy parts (Turns seed asked) = asked ≡ parts
-IsReportedBy parts (Replay asked) = asked ≡ parts
-IsReportedBy parts form = ⊥
+-- the text of the answers, of the history where the parts have it, and of the counts is what a report of these parts prints
+pub prints_answers : (parts : Parts) (run : Replayed) (summary : Summary) (processors : ℕ) → WasRun run summary → processors ≡ run.plan.processors
+    → Prints (Answers parts) run (out_text (has_history parts) processors run.history summary)
+prints_answers parts run summary processors ran same =
+    ap (λ n. out_text (has_history parts) n run.history summary) same
+    ∙ ap (λ (s : Summary). out_text (has_history parts) run.plan.processors run.history s) ran.counts
 
-prints_report : {P : Type 0} (form : Form) (parts : Parts) (run : Replayed P) → IsReportedBy parts form
-    → Prints form run.plan run.stores run.gathered.history.items (report_of parts run.plan run.stores run.gathered.history.items)
-prints_report (Order asked) parts run is =
-    ap (λ p. report_of p run.plan run.stores run.gathered.history.items) (sym is)
-prints_report (Turns seed asked) parts run is =
-    ap (λ p. report_of p run.plan run.stores run.gathered.history.items) (sym is)
-prints_report (Replay asked) parts run is =
-    ap (λ p. report_of p run.plan run.stores run.gathered.history.items) (sym is)
-prints_report form parts run is = absurd is
+pub prints_counts : (run : Replayed) (summary : Summary) → WasRun run summary → Prints Counts run (summary_text summary)
+prints_counts run summary ran = ap summary_text ran.counts
 
--- the report of a run was written, or a part of it
-pub EndsRun-reported : {K P : Type 0} (out : OutViews K P) (form : Form) (parts : Parts) (run : Replayed P) (end : Ending K P)
-    → IsReportedBy parts form
-    → WasRun out.seen run
-    → (end.outcome.status ≡ DONE) ⊎ (end.outcome.status ≡ WRITE_FAULT)
-    → end.outcome.refusal ≡ None → end.outcome.trace ≡ Some run.plan
-    → end.outcome.history ≡ run.gathered.history → end.outcome.stores ≡ run.gathered.stores
-    → (end.outcome.status ≡ DONE → WroteAll
-    (out_text (has_history parts) run.plan.processors run.gathered.history.items run.gathered.summary)
-    (out.taken end.before) (out.taken end.after))
-    → (end.outcome.status ≡ WRITE_FAULT → WrotePart
-    (out_text (has_history parts) run.plan.processors run.gathered.history.items run.gathered.summary)
-    (out.taken end.before) (out.taken end.after))
-    → (end.outcome.status ≡ WRITE_FAULT → out.write_faults end.after ≡ one_more (out.write_faults end.before))
-    → (end.outcome.status ≢ WRITE_FAULT → out.write_faults end.after ≡ out.write_faults end.before)
-    → EndsRun out form run end
-EndsRun-reported out form parts run end reports ran made refusal trace history kept wrote part fault no_fault =
-    let text : List ℕ = out_text (has_history parts) run.plan.processors run.gathered.history.items run.gathered.summary in
-    let is : text ≡ report_of parts run.plan run.stores run.gathered.history.items =
-    ap (λ (s : Summary). out_text (has_history parts) run.plan.processors run.gathered.history.items s) ran.counts in
-    let prints : Prints form run.plan run.stores run.gathered.history.items text =
-    subst (Prints form run.plan run.stores run.gathered.history.items) (sym is) (prints_report form parts run reports) in
+-- the text of a report was written, or a part of it
+pub EndsRun-written : {K : Type 0} (taken : K → Option (List ℕ)) (faults : K → ℕ) (before after : K) (report : Report) (run : Replayed)
+    (status : ℕ) (text : List ℕ)
+    → Prints report run text
+    → (status ≡ DONE) ⊎ (status ≡ WRITE_FAULT)
+    → (status ≡ DONE → WroteAll text (taken before) (taken after))
+    → (status ≡ WRITE_FAULT → WrotePart text (taken before) (taken after))
+    → (status ≡ WRITE_FAULT → faults after ≡ one_more (faults before))
+    → (status ≢ WRITE_FAULT → faults after ≡ faults before)
+    → EndsRun taken faults before after report run status
+EndsRun-written taken faults before after report run status text prints which wrote part fault no_fault =
     record {
-      ended = elim made [ inl done ↦ inl done | inr failed ↦ inr (inl failed) ];
-      refusal = refusal;
-      trace = trace;
-      history = history;
-      kept = kept;
-      unwritten = λ memory. absurd (omega (arith, memory, made));
+      ended = elim which [ inl done ↦ inl done | inr failed ↦ inr (inl failed) ];
       wrote = λ done. (text, prints, wrote done);
       part = λ failed. (text, prints, part failed);
+      unwritten = λ memory. absurd (omega (arith, memory, which));
       write_fault = fault;
       no_write_fault = no_fault;
     }

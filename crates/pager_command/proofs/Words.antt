@@ -1,14 +1,19 @@
 -- Words one by one.
-use Rattle.std.proofs.Common.{◌≡◌, ◌≢◌, ℕ, ◌-◌, ◌^◌, ◌<◌, ◌≤◌, Bool, IsTrue, List, [], ◌∷◌, codes, decimal, length, take, drop, get_or, Option, Some, None, IfSome, IfNone, refl, ap, sym, ◌∙◌, arith}
+use Rattle.std.proofs.Common.{◌≡◌, ◌≢◌, ℕ, ◌-◌, ◌^◌, ◌<◌, ◌≤◌, Bool, IsTrue, List, [], ◌∷◌, codes, decimal, length, take, drop, get_or, Option, Some, None, IfSome, IfNone, refl, ap, sym, subst, ◌∙◌, arith}
 use Rattle.std.proofs.lemmas.Fmt.{decimal_injective}
 use Rattle.std.specs.Borrow.{Bor}
 use Rattle.std.specs.Str.{bytes_eq}
 use Rattle.std.specs.Cmp.Lexicographic.{bytes_decides}
 use Rattle.std.proofs.lemmas.List.{get_or-map, take_all}
+use Rattle.std.proofs.lemmas.Option.{none-some, same_Some}
 use Rattle.pager_command.specs.declared.form.Making.{Making}
 use Rattle.pager_command.specs.declared.form.Form.{Form}
-use Rattle.pager_command.specs.declared.form.Form.TheVariants.{Order, Turns, Replay, Plan as Planned, Curve}
-use Rattle.pager_command.specs.Forms.{AreBehind, AreWords, IsForm, are_of, making_words, words_of}
+use Rattle.pager_command.specs.declared.form.Order.{Order}
+use Rattle.pager_command.specs.declared.form.Order.TheVariants.{InTurns, Threads}
+use Rattle.pager_command.specs.declared.form.Report.{Report}
+use Rattle.pager_command.specs.declared.form.Report.TheVariants.{Answers as Answered, Plan as Planned, Curves}
+use Rattle.pager_command.specs.declared.form.Turns.TheVariants.{Lines, Drawn}
+use Rattle.pager_command.specs.Forms.{AreBehind, AreWords, IsForm, Spell, are_of, making_words, parts_words, words_of}
 
 -- a list of one word is this word exactly where the word's bytes are equal
 pub one_word : (words : List (Bor (List ℕ))) (d : Bor (List ℕ)) (text : List ℕ) (b : Bool)
@@ -93,26 +98,28 @@ pub form_behind : (o : Option Form) (words : List (Bor (List ℕ))) (d : Bor (Li
     → 1 ≤ length words → (get_or words 0 d).now ≡ first
     → IfSome o (AreBehind first (take (length words - 1) (drop 1 words))) → IfSome o (AreWords words)
 form_behind None words d first some is found = tt
-form_behind (Some form) words d first some is found =
-    record { are = split_first words d first some is ∙ found.0; numbers = found.1 }
+form_behind (Some form) words d first some is found = subst (λ ws. Spell ws form) (sym (split_first words d first some is)) found
 
 pub no_form_behind : (o : Option Form) (words : List (Bor (List ℕ))) (d : Bor (List ℕ)) (first : List ℕ)
     → 1 ≤ length words → (get_or words 0 d).now ≡ first
     → IfNone o ((form : Form) → AreBehind first (take (length words - 1) (drop 1 words)) form → ⊥) → IfNone o (IsForm words → ⊥)
 no_form_behind None words d first some is none = λ form.
-    none form.0 (sym (split_first words d first some is) ∙ form.1.are, form.1.numbers)
+    none form.0 (subst (λ ws. Spell ws form.0) (split_first words d first some is) form.1)
 no_form_behind (Some form) words d first some is none = tt
 
 -- the words of a form begin with one of five
 pub none_of_five : (words : List (Bor (List ℕ))) (d : Bor (List ℕ)) → 1 ≤ length words
     → (get_or words 0 d).now ≢ codes "order" → (get_or words 0 d).now ≢ codes "turns" → (get_or words 0 d).now ≢ codes "replay"
     → (get_or words 0 d).now ≢ codes "plan" → (get_or words 0 d).now ≢ codes "curve" → (form : Form) → AreWords words form → ⊥
-none_of_five words d some order turns replay plan curve (Order parts) is =
-    order (word_at words d (words_of (Order parts)) 0 (omega (arith, some)) is.are)
-none_of_five words d some order turns replay plan curve (Turns seed parts) is =
-    turns (word_at words d (words_of (Turns seed parts)) 0 (omega (arith, some)) is.are)
-none_of_five words d some order turns replay plan curve (Replay parts) is =
-    replay (word_at words d (words_of (Replay parts)) 0 (omega (arith, some)) is.are)
-none_of_five words d some order turns replay plan curve (Planned size) is =
-    plan (word_at words d (words_of (Planned size)) 0 (omega (arith, some)) is.are)
-none_of_five words d some order turns replay plan curve Curve is = curve (word_at words d (words_of Curve) 0 (omega (arith, some)) is.are)
+none_of_five words d some not_order not_turns not_replay not_plan not_curve form is = none form.order form.report is.are
+  where
+    first : (all : List (List ℕ)) → Some all ≡ Some (are_of words) → (get_or words 0 d).now ≡ get_or all 0 []
+    first all same = word_at words d all 0 (omega (arith, some)) (sym (same_Some all (are_of words) same))
+
+    none : (order : Order) (report : Report) → words_of order report ≡ Some (are_of words) → ⊥
+    none (InTurns Lines) (Answered parts) are = not_order (first (codes "order" ∷ parts_words parts) are)
+    none (InTurns (Drawn n)) (Answered parts) are = not_turns (first (codes "turns" ∷ decimal n ∷ parts_words parts) are)
+    none Threads (Answered parts) are = not_replay (first (codes "replay" ∷ parts_words parts) are)
+    none (InTurns Lines) (Planned n) are = not_plan (first (codes "plan" ∷ decimal n ∷ []) are)
+    none (InTurns Lines) Curves are = not_curve (first (codes "curve" ∷ []) are)
+    none order report are = absurd (none-some (are_of words) are)

@@ -1,5 +1,5 @@
--- The forms of the program's words: five that read a trace, and two that make one.
-use Rattle.std.specs.Prelude.{ℕ, ◌≡◌, ◌^◌, ◌<◌, ◌≤◌, List, [], ◌∷◌, map, codes, decimal}
+-- The words of the commands: those that read a trace, run it in an order and print a report of it, and two that make a trace.
+use Rattle.std.specs.Prelude.{ℕ, ◌≡◌, ◌^◌, ◌<◌, ◌≤◌, List, [], ◌∷◌, map, Option, Some, None, codes, decimal}
 use Rattle.std.specs.Borrow.{Bor}
 use Rattle.pager_model.specs.declared.entry.Entry.{Entry}
 use Rattle.pager_model.specs.Plans.{Plan}
@@ -7,79 +7,83 @@ use Rattle.pager_model.specs.Showing.{IsFiled}
 use Rattle.pager_model.specs.TurnOrders.{IsSeeded}
 use Rattle.report_text.specs.declared.report.Parts.{Parts}
 use Rattle.report_text.specs.declared.report.Parts.TheVariants.{Answers, AnswersAndHistory}
-use Rattle.pager_command.specs.declared.form.Form.{Form}
-use Rattle.pager_command.specs.declared.form.Form.TheVariants.{Order, Turns, Replay, Plan as Planned, Curve}
-use Rattle.pager_command.specs.declared.form.Making.{Making}
 use Rattle.pager_command.specs.declared.form.Command.{Command}
 use Rattle.pager_command.specs.declared.form.Command.TheVariants.{Run, Make, Large}
+use Rattle.pager_command.specs.declared.form.Form.{Form}
+use Rattle.pager_command.specs.declared.form.Making.{Making}
+use Rattle.pager_command.specs.declared.form.Order.{Order}
+use Rattle.pager_command.specs.declared.form.Order.TheVariants.{InTurns, Threads}
+use Rattle.pager_command.specs.declared.form.Report.{Report}
+use Rattle.pager_command.specs.declared.form.Report.TheVariants.{Answers as Answered, Counts, Plan as Planned, Curves}
+use Rattle.pager_command.specs.declared.form.Turns.TheVariants.{Lines, Drawn}
 use Rattle.trace_make.specs.Made.{CanMake}
 
--- the words that ask for the parts, behind those of an order
+-- the words that ask for the parts of a report, behind those of an order
 abbrev pub parts_words : Parts → List (List ℕ)
 parts_words Answers = []
 parts_words AnswersAndHistory = codes "--history" ∷ []
 
--- the words of a form
-abbrev pub words_of : Form → List (List ℕ)
-words_of (Order parts) = codes "order" ∷ parts_words parts
-words_of (Turns seed parts) = codes "turns" ∷ decimal seed ∷ parts_words parts
-words_of (Replay parts) = codes "replay" ∷ parts_words parts
-words_of (Planned size) = codes "plan" ∷ decimal size ∷ []
-words_of Curve = codes "curve" ∷ []
+-- the words that ask for an order and a report together, where some do
+abbrev pub words_of : Order → Report → Option (List (List ℕ))
+words_of (InTurns Lines) (Answered parts) = Some (codes "order" ∷ parts_words parts)
+words_of (InTurns (Drawn seed)) (Answered parts) = Some (codes "turns" ∷ decimal seed ∷ parts_words parts)
+words_of Threads (Answered parts) = Some (codes "replay" ∷ parts_words parts)
+words_of (InTurns Lines) (Planned size) = Some (codes "plan" ∷ decimal size ∷ [])
+words_of (InTurns Lines) Curves = Some (codes "curve" ∷ [])
+words_of order report = None
 
--- a form's numbers are in their ranges: a seed has 64 bits, and a size is one of more than a page
-abbrev pub AreInRange : Form → Type 0
-AreInRange (Order parts) = Unit {0}
-AreInRange (Turns seed parts) = seed < 2 ^ 64
-AreInRange (Replay parts) = Unit {0}
-AreInRange (Planned size) = (1 ≤ size) × (size ≤ 3)
-AreInRange Curve = Unit {0}
+-- the seed of an order that has one has 64 bits
+abbrev pub IsSeedInRange : Order → Type 0
+IsSeedInRange (InTurns Lines) = Unit {0}
+IsSeedInRange (InTurns (Drawn seed)) = seed < 2 ^ 64
+IsSeedInRange Threads = Unit {0}
 
--- the entries are made in turns, by one thread
-abbrev pub IsInTurns : Form → Type 0
-IsInTurns (Order parts) = Unit {0}
-IsInTurns (Turns seed parts) = Unit {0}
-IsInTurns (Replay parts) = ⊥
-IsInTurns (Planned size) = Unit {0}
-IsInTurns Curve = Unit {0}
+-- the size of a report that has one is of more than a page
+abbrev pub IsSizeInRange : Report → Type 0
+IsSizeInRange (Answered parts) = Unit {0}
+IsSizeInRange Counts = Unit {0}
+IsSizeInRange (Planned size) = (1 ≤ size) × (size ≤ 3)
+IsSizeInRange Curves = Unit {0}
 
--- the form is for traces of one processor alone
-abbrev pub IsForOneProcessor : Form → Type 0
-IsForOneProcessor (Order parts) = ⊥
-IsForOneProcessor (Turns seed parts) = ⊥
-IsForOneProcessor (Replay parts) = ⊥
-IsForOneProcessor (Planned size) = ⊥
-IsForOneProcessor Curve = Unit {0}
-
--- the trace is one that the form is for
-abbrev pub Admits : Form → Plan → Type 0
-Admits form plan = IsForOneProcessor form → plan.processors ≡ 1
+-- The words ask for this form.
+pub record Spell (words : List (List ℕ)) (form : Form) : Type 0 where
+  pub are : words_of form.order form.report ≡ Some words
+  pub seed : IsSeedInRange form.order
+  pub size : IsSizeInRange form.report
 
 -- what the words are
 abbrev pub are_of : List (Bor (List ℕ)) → List (List ℕ)
 are_of words = map (λ (w : Bor (List ℕ)). w.now) words
 
 -- the words are of this form
-pub record AreWords (words : List (Bor (List ℕ))) (form : Form) : Type 0 where
-  pub are : are_of words ≡ words_of form
-  pub numbers : AreInRange form
+abbrev pub AreWords : List (Bor (List ℕ)) → Form → Type 0
+AreWords words form = Spell (are_of words) form
 
 -- the words behind this first one are a form's
 abbrev pub AreBehind : (first : List ℕ) → List (Bor (List ℕ)) → Form → Type 0
-AreBehind first words form = (first ∷ are_of words ≡ words_of form) × AreInRange form
+AreBehind first words form = Spell (first ∷ are_of words) form
 
 -- the words are of some form
 abbrev pub IsForm : List (Bor (List ℕ)) → Type 0
 IsForm words = (form : Form) × AreWords words form
 
--- the history comes in the order of the form: of the lines, or of turns that are drawn from the seed; nothing is said of the order in
--- which threads come to the locks
-abbrev pub ComesBy : Form → Plan → List Entry → Type 0
-ComesBy (Order parts) plan history = IsFiled plan history
-ComesBy (Turns seed parts) plan history = IsSeeded plan seed history
-ComesBy (Replay parts) plan history = Unit {0}
-ComesBy (Planned size) plan history = IsFiled plan history
-ComesBy Curve plan history = IsFiled plan history
+-- the report is one of traces of one processor alone
+abbrev pub IsForOneProcessor : Report → Type 0
+IsForOneProcessor (Answered parts) = ⊥
+IsForOneProcessor Counts = ⊥
+IsForOneProcessor (Planned size) = ⊥
+IsForOneProcessor Curves = Unit {0}
+
+-- the trace is one that the report is for
+abbrev pub Admits : Report → Plan → Type 0
+Admits report plan = IsForOneProcessor report → plan.processors ≡ 1
+
+-- the history comes in this order: of the lines, or of turns that are drawn from the seed; nothing is said of the order in which threads come
+-- to the locks
+abbrev pub ComesBy : Order → Plan → List Entry → Type 0
+ComesBy (InTurns Lines) plan history = IsFiled plan history
+ComesBy (InTurns (Drawn seed)) plan history = IsSeeded plan seed history
+ComesBy Threads plan history = Unit {0}
 
 -- the words that ask for a trace to be made: the number that it is made from, and how many calls, processors, spaces and frames it has
 abbrev pub making_words : Making → List (List ℕ)

@@ -1,21 +1,18 @@
 -- What the commands that make a trace promise.
-use Rattle.std.specs.Prelude.{ℕ, ◌≡◌, ◌≢◌, ◌<◌, ◌≤◌, ◌⊎◌, List, [], length, map, Some, None}
+use Rattle.std.specs.Prelude.{ℕ, ◌≡◌, ◌≢◌, ◌<◌, ◌≤◌, ◌⊎◌, List, [], length, map, Option, Some, None, MatchOption}
 use Rattle.io_core.specs.Faults.{one_more, Rose}
-use Rattle.pager_model.specs.declared.entry.Numbered.{Numbered}
-use Rattle.pager_model.specs.Counts.{counts}
-use Rattle.pager_model.specs.Legal.{entries_in}
 use Rattle.pager_model.specs.Plans.{Plan}
-use Rattle.pager_model.specs.PrintedText.{summary_text}
-use Rattle.pager_model.specs.Stored.{Stored}
-use Rattle.pager_model.specs.Stores.{setting_over}
 use Rattle.pager_model.specs.TraceText.{text_of}
-use Rattle.pager_model.specs.TurnOrders.{IsSeeded}
-use Rattle.replay_core.specs.Replays.{IsReplay}
 use Rattle.report_text.specs.Written.{WroteAll, WrotePart}
 use Rattle.trace_make.specs.Made.{made}
+use Rattle.trace_reader.specs.declared.fault.TraceFault.{TraceFault}
 use Rattle.trace_reader.specs.declared.fault.TraceFault.TheVariants.{TooFewStores}
 use Rattle.pager_command.specs.declared.form.Making.{Making}
+use Rattle.pager_command.specs.declared.form.Order.TheVariants.{InTurns}
+use Rattle.pager_command.specs.declared.form.Report.TheVariants.{Counts}
+use Rattle.pager_command.specs.declared.form.Turns.TheVariants.{Drawn}
 use Rattle.pager_command.specs.declared.status.TheConstants.{DONE, REFUSED, MEMORY, WRITE_FAULT}
+use Rattle.pager_command.specs.Runs.{MadeNone, MadeRun}
 use Rattle.pager_command.specs.Views.{Ending, OutViews}
 
 -- the text of the trace that is to be made
@@ -25,10 +22,6 @@ made_text m = text_of (made m.number m.calls m.processors m.spaces m.frames)
 -- the large trace of a number: 100,000 calls of four processors on four spaces, over 8,192 frames
 unfoldable pub large_trace : ℕ → Plan
 large_trace number = made number 100000 4 4 8192
-
--- the counts of the history of a trace over stores
-abbrev pub counts_text : Plan → List Stored → List Numbered → List ℕ
-counts_text plan stores history = summary_text (counts (setting_over plan stores) (entries_in history))
 
 -- What making a trace and writing its text promises.
 pub record MakesText {K P : Type 0} (out : OutViews K P) (m : Making) (stores : List P) (end : Ending K P) : Type 0 where
@@ -55,36 +48,16 @@ pub record MakesText {K P : Type 0} (out : OutViews K P) (m : Making) (stores : 
   -- there was no memory, and nothing was written
   pub unwritten : end.outcome.status ≡ MEMORY → end.after ≡ end.before
 
--- What making the large trace, running it in drawn turns and writing the counts promises.
-pub record RunsLarge {K P : Type 0} (out : OutViews K P) (number seed : ℕ) (stores : List P) (end : Ending K P) : Type 0 where
-  -- it is done, there were too few stores or no memory, or a write failed
-  pub statuses : (end.outcome.status ≡ DONE)
-      ⊎ ((end.outcome.status ≡ REFUSED) ⊎ ((end.outcome.status ≡ MEMORY) ⊎ (end.outcome.status ≡ WRITE_FAULT)))
-  -- with a store for each space, and unless a write fails, it is done or there was no memory
-  pub complete : 4 ≤ length stores → (Rose (out.write_faults end.before) (out.write_faults end.after) → ⊥)
-      → (end.outcome.status ≡ DONE) ⊎ (end.outcome.status ≡ MEMORY)
-  -- it is refused exactly where there are fewer stores
-  pub few : length stores < 4 → end.outcome.status ≡ REFUSED
-  pub refused : end.outcome.status ≡ REFUSED
-      → (length stores < 4) × (end.outcome.refusal ≡ Some (TooFewStores (length stores) 4))
-  pub no_refusal : end.outcome.status ≢ REFUSED → end.outcome.refusal ≡ None
-  -- where no run was made nothing was written, and the stores are as they were
-  pub unwritten : end.outcome.status ≢ DONE → end.outcome.status ≢ WRITE_FAULT → end.after ≡ end.before
-  pub no_trace : end.outcome.status ≢ DONE → end.outcome.status ≢ WRITE_FAULT
-      → (end.outcome.trace ≡ None) × (end.outcome.history.items ≡ [])
-  pub same_stores : end.outcome.status ≢ DONE → end.outcome.status ≢ WRITE_FAULT
-      → map out.seen end.outcome.stores.items ≡ map out.seen stores
-  -- a run that was made is of the large trace, in the turns of the seed
-  pub trace : (end.outcome.status ≡ DONE) ⊎ (end.outcome.status ≡ WRITE_FAULT) → end.outcome.trace ≡ Some (large_trace number)
-  pub run : (end.outcome.status ≡ DONE) ⊎ (end.outcome.status ≡ WRITE_FAULT)
-      → IsReplay (large_trace number) (map out.seen stores) end.outcome.history.items (map out.seen end.outcome.stores.items)
-  pub seeded : (end.outcome.status ≡ DONE) ⊎ (end.outcome.status ≡ WRITE_FAULT)
-      → IsSeeded (large_trace number) seed (entries_in end.outcome.history.items)
-  -- the sink has gained the counts of that run
-  pub wrote : end.outcome.status ≡ DONE → WroteAll
-      (counts_text (large_trace number) (map out.seen stores) end.outcome.history.items) (out.taken end.before) (out.taken end.after)
-  -- the sink failed, and has gained a beginning of them
-  pub part : end.outcome.status ≡ WRITE_FAULT → WrotePart
-      (counts_text (large_trace number) (map out.seen stores) end.outcome.history.items) (out.taken end.before) (out.taken end.after)
-  pub write_fault : end.outcome.status ≡ WRITE_FAULT → out.write_faults end.after ≡ one_more (out.write_faults end.before)
-  pub no_write_fault : end.outcome.status ≢ WRITE_FAULT → out.write_faults end.after ≡ out.write_faults end.before
+-- why the large trace wasn't run: there were fewer stores than its four spaces, and the refusal says how many; or there was no memory
+abbrev pub LacksForLarge : ℕ → ℕ → Option TraceFault → Type 0
+LacksForLarge stores status refusal =
+    ((stores < 4) × (status ≡ REFUSED) × (refusal ≡ Some (TooFewStores stores 4)))
+    ⊎ ((4 ≤ stores) × (status ≡ MEMORY) × (refusal ≡ None))
+
+-- What making the large trace, running it in drawn turns and writing the counts promises. Without a trace no run was made, and it is said why;
+-- with one it is the large one, and a run of it was made.
+abbrev pub RunsLarge : {K P : Type 0} → OutViews K P → (number seed : ℕ) → List P → Ending K P → Type 0
+RunsLarge out number seed stores end =
+    MatchOption end.outcome.trace
+    (LacksForLarge (length stores) end.outcome.status end.outcome.refusal × MadeNone out stores end)
+    (λ plan. (plan ≡ large_trace number) × MadeRun out (InTurns (Drawn seed)) Counts stores end plan)

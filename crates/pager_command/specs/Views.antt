@@ -1,6 +1,6 @@
 -- How a source, a sink and stores are seen, and how a call that reads and writes left them.
 use Rattle.std.specs.Prelude.{ℕ, List, Option}
-use Rattle.pager_core.specs.declared.run_parts.Gathered.{Gathered}
+use Rattle.pager_model.specs.declared.entry.Numbered.{Numbered}
 use Rattle.pager_model.specs.Plans.{Plan}
 use Rattle.pager_model.specs.Stored.{Stored}
 use Rattle.pager_command.specs.declared.outcome.Outcome.{Outcome}
@@ -41,11 +41,11 @@ pub record Ending (K P : Type 0) : Type 0 where
 abbrev pub ending : {K P : Type 0} (before after : K) (outcome : Outcome P) → Ending K P
 ending before after outcome = record { before = before; after = after; outcome = outcome }
 
--- A replay: the trace, the stores as they were before it, and what was gathered of it.
-pub record Replayed (P : Type 0) : Type 0 where
+-- A run that was made: its trace, the stores as they were before it, and its history.
+pub record Replayed : Type 0 where
   pub plan : Plan
   pub stores : List Stored
-  pub gathered : Gathered P
+  pub history : List Numbered
 
-abbrev pub replayed : {P : Type 0} (plan : Plan) (stores : List Stored) (gathered : Gathered P) → Replayed P
-replayed plan stores gathered = record { plan = plan; stores = stores; gathered = gathered }
+abbrev pub replayed : (plan : Plan) (stores : List Stored) (history : List Numbered) → Replayed
+replayed plan stores history = record { plan = plan; stores = stores; history = history }

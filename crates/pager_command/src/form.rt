@@ -1,4 +1,4 @@
-//! The forms of the program's words.
+//! The program's words, and what they ask for.
 
 ghost use Rattle.std.specs.Prelude.{◌≡◌, ◌≢◌, ℕ, ◌^◌, ◌<◌, ◌≤◌, [], ◌∷◌, ◌↔◌, IsTrue, IfSome, IfNone, codes, decimal};
 ghost use Rattle.report_text.specs.declared.report.Parts.{Parts as Printed};
@@ -13,7 +13,7 @@ use report_text::Parts;
 /// What the program is asked to do.
 #[derive(Clone, Copy)]
 pub enum Command {
-    /// To read a trace and run it.
+    /// To read a trace and run it in this form.
     Run(Form),
     /// To make a trace and write its text.
     Make(Making),
@@ -21,28 +21,50 @@ pub enum Command {
     Large { number: u64, seed: u64 },
 }
 
-/// In which order the trace that is read is run, and what is printed: which parts of the run before the counts, a plan, or miss curves.
-#[derive(Clone, Copy, PartialEq, Eq)]
-pub enum Form {
-    /// To run a trace in the order of its lines.
-    Order { parts: Parts },
-    /// To run it in an order of turns that is drawn from this seed.
-    Turns { seed: u64, parts: Parts },
-    /// To run it with a thread for each processor, in the order in which they come to the locks.
-    Replay { parts: Parts },
-    /// To run it in the order of its lines, and to plan which extent of this size to empty then.
-    Plan { size: Size },
-    /// To run a trace of one processor in the order of its lines, and to count the misses of images of each capacity from 1 to 1,024, with the
-    /// run's tiles and with base pages alone.
-    Curve,
+/// In which order a trace that is read is run, and what is printed of the run.
+#[derive(Clone, Copy)]
+pub struct Form {
+    pub order: Order,
+    pub report: Report,
 }
 
-impl Form {
+/// In which order the calls of a trace are run.
+#[derive(Clone, Copy)]
+pub enum Order {
+    /// By one thread, which makes the entries of all processors in turns.
+    InTurns(Turns),
+    /// With a thread for each processor, in the order in which they come to the locks.
+    Threads,
+}
+
+/// How one thread makes the entries of all processors.
+#[derive(Clone, Copy)]
+pub enum Turns {
+    /// In the order of the lines.
+    Lines,
+    /// In an order of turns that is drawn from this seed.
+    Drawn { seed: u64 },
+}
+
+/// What is printed of a run.
+#[derive(Clone, Copy)]
+pub enum Report {
+    /// Each processor's answers, the history where it is asked for, and the counts.
+    Answers { parts: Parts },
+    /// The counts alone.
+    Counts,
+    /// Which extent of this size to empty then.
+    Plan { size: Size },
+    /// Of a trace of one processor: the misses of images of each capacity from 1 to 1,024, with the run's tiles and with base pages alone.
+    Curves,
+}
+
+impl Report {
     /// Whether it is for traces of one processor alone.
     pub fn is_for_one_processor(&self) -> bool
         ensures { IsTrue result ↔ IsForOneProcessor self.now }
     {
-        matches!(self, Form::Curve)
+        matches!(self, Report::Curves)
     }
 }
 
@@ -148,8 +170,10 @@ fn order_asked(words: &[&str]) -> Option<Form>
     ensures some { IfSome result (AreBehind (codes "order") words.now) }
     ensures none { IfNone result ((form : Asked) → AreBehind (codes "order") words.now form → ⊥) }
 {
-    Some(Form::Order {
-        parts: parts_asked(words)?,
+    let parts = parts_asked(words)?;
+    Some(Form {
+        order: Order::InTurns(Turns::Lines),
+        report: Report::Answers { parts },
     })
 }
 
@@ -161,9 +185,11 @@ fn turns_asked(words: &[&str]) -> Option<Form>
     let [seed, rest @ ..] = words else {
         return None;
     };
-    Some(Form::Turns {
-        seed: number_of(seed)?,
-        parts: parts_asked(rest)?,
+    let seed = number_of(seed)?;
+    let parts = parts_asked(rest)?;
+    Some(Form {
+        order: Order::InTurns(Turns::Drawn { seed }),
+        report: Report::Answers { parts },
     })
 }
 
@@ -172,8 +198,10 @@ fn replay_asked(words: &[&str]) -> Option<Form>
     ensures some { IfSome result (AreBehind (codes "replay") words.now) }
     ensures none { IfNone result ((form : Asked) → AreBehind (codes "replay") words.now form → ⊥) }
 {
-    Some(Form::Replay {
-        parts: parts_asked(words)?,
+    let parts = parts_asked(words)?;
+    Some(Form {
+        order: Order::Threads,
+        report: Report::Answers { parts },
     })
 }
 
@@ -182,8 +210,10 @@ fn plan_asked(words: &[&str]) -> Option<Form>
     ensures some { IfSome result (AreBehind (codes "plan") words.now) }
     ensures none { IfNone result ((form : Asked) → AreBehind (codes "plan") words.now form → ⊥) }
 {
-    Some(Form::Plan {
-        size: size_asked(words)?,
+    let size = size_asked(words)?;
+    Some(Form {
+        order: Order::InTurns(Turns::Lines),
+        report: Report::Plan { size },
     })
 }
 
@@ -193,7 +223,10 @@ fn curve_asked(words: &[&str]) -> Option<Form>
     ensures none { IfNone result ((form : Asked) → AreBehind (codes "curve") words.now form → ⊥) }
 {
     match words {
-        [] => Some(Form::Curve),
+        [] => Some(Form {
+            order: Order::InTurns(Turns::Lines),
+            report: Report::Curves,
+        }),
         _ => None,
     }
 }

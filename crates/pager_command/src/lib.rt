@@ -4,6 +4,7 @@
 mod form;
 mod making;
 mod outcome;
+mod printing;
 mod running;
 mod status;
 

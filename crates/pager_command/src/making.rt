@@ -1,24 +1,21 @@
 //! Traces that are made from a number: written, or run.
 
-ghost use Rattle.std.specs.Prelude.{◌≡◌, ◌≢◌, ◌≤◌, ◌⊎◌, true, None, Some, IfOk, IfErr, length, map};
+ghost use Rattle.std.specs.Prelude.{◌≡◌, ◌≤◌, true, IfOk, IfErr, length, map};
 ghost use Rattle.flight_core.specs.Lacking.{NoneLacked};
-ghost use Rattle.io_core.specs.Faults.{one_more};
 ghost use Rattle.pager_model.specs.Legal.{entries_in};
-ghost use Rattle.pager_model.specs.PrintedText.{summary_text};
 ghost use Rattle.pager_model.specs.TurnOrders.{IsSeeded};
 ghost use Rattle.replay_core.specs.Replays.{IsReplay, AreItsCounts};
-ghost use Rattle.report_text.specs.Written.{WroteAll, WrotePart};
 ghost use Rattle.trace_make.specs.Made.{CanMake};
 ghost use Rattle.pager_command.specs.MadeRuns.{MakesText, RunsLarge, large_trace};
 ghost use Rattle.pager_command.specs.Views.{ending, out_views};
 
-use crate::form::Making;
+use crate::form::{Making, Report};
 use crate::outcome::{Outcome, status_of_write, stopped};
-use crate::status::{DONE, MEMORY, REFUSED, WRITE_FAULT};
+use crate::printing::write_run;
+use crate::status::{MEMORY, REFUSED};
 use io_core::Sink;
 use pager_model::{NoMemory, Trace};
 use replay_core::{Gathered, replay_turns};
-use report_text::write_summary;
 use run_history::History;
 use std::alloc::Global;
 use store_core::Store;
@@ -88,7 +85,7 @@ pub fn run_large<K: Sink, S: Store + Send + Drop>(
         return stopped(alloc, REFUSED, Some(fault), stores);
     }
     match replay_large(alloc, number, seed, stores) {
-        Ok((trace, gathered)) => write_counts(sink, trace, gathered),
+        Ok((trace, gathered)) => write_run(alloc, sink, Report::Counts, trace, gathered),
         Err(stores) => stopped(alloc, MEMORY, None, stores),
     }
 }
@@ -102,6 +99,7 @@ fn replay_large<S: Store + Send + Drop>(
 ) -> Result<(Trace, Gathered<S>), Vec<S>>
     requires enough { LARGE_SPACES ≤ length stores.items }
     ensures trace { IfOk result (λ made. made.0 ≡ large_trace number) }
+    ensures stored { IfOk result (λ made. made.0.spaces ≤ length stores.items) }
     ensures run { IfOk result (λ made.
         IsReplay made.0 (map S.seen stores.items) made.1.history.items (map S.seen made.1.stores.items)) }
     ensures lasting { S.lasts ≡ true → IfOk result (λ made. NoneLacked (entries_in made.1.history.items)) }
@@ -130,35 +128,4 @@ fn make_large(alloc: Global, number: u64) -> Result<Trace, NoMemory>
         LARGE_SPACES,
         LARGE_FRAMES,
     )
-}
-
-/// Writes the counts of a run.
-fn write_counts<K: Sink, S: Store + Send + Drop>(
-    sink: &mut K,
-    trace: Trace,
-    gathered: Gathered<S>,
-) -> Outcome<S>
-    ensures statuses { (result.status ≡ DONE) ⊎ (result.status ≡ WRITE_FAULT) }
-    ensures refusal { result.refusal ≡ None }
-    ensures trace { result.trace ≡ Some trace }
-    ensures history { result.history ≡ gathered.history }
-    ensures stores { result.stores ≡ gathered.stores }
-    ensures wrote { result.status ≡ DONE → WroteAll (summary_text gathered.summary) (K.taken sink.old) (K.taken sink.new) }
-    ensures part { result.status ≡ WRITE_FAULT → WrotePart (summary_text gathered.summary) (K.taken sink.old) (K.taken sink.new) }
-    ensures write_fault { result.status ≡ WRITE_FAULT → K.faults sink.new ≡ one_more (K.faults sink.old) }
-    ensures no_write_fault { result.status ≢ WRITE_FAULT → K.faults sink.new ≡ K.faults sink.old }
-{
-    let Gathered {
-        history,
-        stores,
-        summary,
-    } = gathered;
-    let status = status_of_write(write_summary(sink, &summary));
-    Outcome {
-        status,
-        refusal: None,
-        trace: Some(trace),
-        history,
-        stores,
-    }
 }

@@ -1,7 +1,7 @@
 use Rattle.std.proofs.Common.{◌≡◌, true, false, rules, [], sym, subst, ◌∙◌, arith}
 use Rattle.pager_command.specs.declared.form.Making.{Making}
 use Rattle.pager_command.specs.Forms.{are_of, making_words}
-use Rattle.pager_command.proofs.OneForm.{below_32_bits, same_making}
+use Rattle.pager_command.proofs.OneCommand.{below_32_bits, same_making}
 use Rattle.pager_command.proofs.Words.{making_of_six, word_at}
 use Rattle.trace_make.specs.Made.{CanMake}
 use Rattle.pager_command.proofs.form.making_of.Goals as goal

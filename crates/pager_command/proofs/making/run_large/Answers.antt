@@ -1,32 +1,54 @@
-use Rattle.std.proofs.Common.{Some, map, ap, sym, subst, ◌∙◌, arith}
+use Rattle.std.proofs.Common.{map, inl, inr, rules, refl, sym, subst, arith}
 use Rattle.flight_core.specs.Lacking.{NoneLacked}
 use Rattle.pager_model.specs.Legal.{entries_in}
 use Rattle.run_history.specs.Kept.{Kept}
-use Rattle.report_text.specs.Written.{WroteAll, WrotePart}
-use Rattle.pager_command.specs.Views.{ending, out_views, replayed}
-use Rattle.pager_command.proofs.LargeRuns.{RunsLarge-written, counted_text}
+use Rattle.pager_command.specs.declared.form.Order.TheVariants.{InTurns}
+use Rattle.pager_command.specs.declared.form.Report.TheVariants.{Counts}
+use Rattle.pager_command.specs.declared.form.Turns.TheVariants.{Drawn}
+use Rattle.pager_command.specs.Views.{ending, out_views}
+use Rattle.pager_command.proofs.FormRuns.{MadeRun-gathered, WasRun-gathered}
+use Rattle.pager_command.proofs.LargeRuns.{RunsLarge-made, RunsLarge-unmade}
 use Rattle.pager_command.proofs.making.run_large.Goals as goal
+
+-- there are too few stores
+pub returns-then-count-from-clause-runs : goal.returns-then-count-from-clause-runs
+returns-then-count-from-clause-runs g c =
+    let stop = c.stopped.ensures in
+    RunsLarge-unmade (out_views g.K.Sink.taken g.K.Sink.faults g.S.Store.seen) c.args.number c.args.seed c.args.stores.items
+    (ending c.args.sink.now c.args.sink.now c.stopped.result) stop.trace
+    (inl (omega arith, stop.status, search rules))
+    (record { unwritten = refl; no_history = stop.history; same_stores = search rules })
+
+-- there is no memory
+pub returns-in-Err-clause-runs : goal.returns-in-Err-clause-runs
+returns-in-Err-clause-runs g c =
+    let stop = c.stopped-in-Err.ensures in
+    RunsLarge-unmade (out_views g.K.Sink.taken g.K.Sink.faults g.S.Store.seen) c.args.number c.args.seed c.args.stores.items
+    (ending c.args.sink.now c.args.sink.now c.stopped-in-Err.result) stop.trace
+    (inr (omega arith, stop.status, stop.refusal))
+    (record { unwritten = refl; no_history = stop.history; same_stores = search rules })
+
+pub write_run-requires-clause-run : goal.write_run-requires-clause-run
+write_run-requires-clause-run g c κs _ =
+    let ran = c.in-Ok.ensures in (
+      map g.S.Store.seen c.args.stores.items,
+      WasRun-gathered g.S.Store.seen c.in-Ok.trace c.args.stores.items c.in-Ok.gathered
+          ran.stored ran.run ran.counts,
+    )
 
 pub returns-in-Ok-clause-runs : goal.returns-in-Ok-clause-runs
 returns-in-Ok-clause-runs g c =
-    let wrote = c.write_counts.ensures in
     let ran = c.in-Ok.ensures in
-    let taken = g.K.Sink.taken in
-    let sink = c.write_counts.new.sink in
-    let run = replayed c.in-Ok.trace (map g.S.Store.seen c.args.stores.items) c.in-Ok.gathered in
-    let text = counted_text c.args.number run c.write_counts.result ran.trace ran.counts wrote.history in
-    RunsLarge-written (out_views taken g.K.Sink.faults g.S.Store.seen) c.args.number c.args.seed c.args.stores.items
-    (ending c.args.sink.now sink c.write_counts.result) (omega arith)
-    (rw (← ran.trace, wrote.history, wrote.stores) ran.run)
-    (rw (← ran.trace, wrote.history) ran.seeded)
-    wrote.statuses wrote.refusal (wrote.trace ∙ ap Some ran.trace)
-    (λ done. subst (λ t. WroteAll t (taken c.args.sink.now) (taken sink)) text (wrote.wrote done))
-    (λ failed. subst (λ t. WrotePart t (taken c.args.sink.now) (taken sink)) text (wrote.part failed))
-    wrote.write_fault wrote.no_write_fault
+    let wrote = c.write_run.ensures in
+    let end = ending c.args.sink.now c.write_run.new.sink c.write_run.result in
+    let out = out_views g.K.Sink.taken g.K.Sink.faults g.S.Store.seen in
+    RunsLarge-made out c.args.number c.args.seed c.args.stores.items end c.in-Ok.trace wrote.trace ran.trace
+    (MadeRun-gathered out (InTurns (Drawn c.args.seed)) Counts c.args.stores.items end c.in-Ok.trace c.in-Ok.gathered
+    ran.stored ran.run ran.counts ran.seeded wrote.refusal wrote.history wrote.stores wrote.ends)
 
 pub returns-in-Ok-clause-lasting : goal.returns-in-Ok-clause-lasting
 returns-in-Ok-clause-lasting g c = λ lasts.
-    subst (λ (h : Kept). NoneLacked (entries_in h.items)) (sym c.write_counts.ensures.history) (c.in-Ok.ensures.lasting lasts)
+    subst (λ (h : Kept). NoneLacked (entries_in h.items)) (sym c.write_run.ensures.history) (c.in-Ok.ensures.lasting lasts)
 
 pub returns-in-Err-clause-lasting : goal.returns-in-Err-clause-lasting
 returns-in-Err-clause-lasting g c = λ _. subst (λ h. NoneLacked (entries_in h)) (sym c.stopped-in-Err.ensures.history) tt

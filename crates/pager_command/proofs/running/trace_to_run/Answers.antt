@@ -20,14 +20,14 @@ returns-in-Err-clause-stopped g c =
       told = search rules;
       few_stores = λ count wanted is. absurd (c.in-Err.ensures.asks_no_stores count wanted
           (ap Err (same_Some _ _ (sym told.refusal ∙ is))));
-      one_processor = another_fault c.args.form.now c.refused.result.refusal c.in-Err.fault told.refusal
+      one_processor = another_fault c.args.report.now c.refused.result.refusal c.in-Err.fault told.refusal
           (λ processors is. c.in-Err.ensures.asks_no_processors processors (ap Err is));
-      refused = λ is. refused_text c.args.form.now left c.in-Err.fault c.args.stores status c.refused.result.refusal
+      refused = λ is. refused_text c.args.report.now left c.in-Err.fault c.args.stores status c.refused.result.refusal
           c.in-Err.ensures.refused told.status told.refusal is;
       read_fault = search rules;
       no_fault = λ other. c.in-Err.ensures.no_other_fault (λ is. other (told.status ∙ ap status_of (same_Some _ _ (ap result_err is))));
       memory = search rules;
-      complete = λ text no_read. not_refused_text c.args.form.now left c.in-Err.fault c.args.stores status text c.in-Err.ensures.refused
+      complete = λ text no_read. not_refused_text c.args.report.now left c.in-Err.fault c.args.stores status text c.in-Err.ensures.refused
           told.status (λ is. no_read (rw (c.in-Err.ensures.fault (ap Err is)) (rose_by_one (g.T.Source.faults c.args.source.now))));
     }
 
@@ -37,10 +37,10 @@ returns-then-processors-ne1-clause-stopped g c =
     let told = c.refused-then-processors-ne1.ensures in
     let trace = c.in-Ok.trace in
     let read = c.in-Ok.ensures.ok in
-    let form = c.args.form.now in
+    let report = c.args.report.now in
     let refusal = c.refused-then-processors-ne1.result.refusal in
     let count : c.processors-processors.result ≡ trace.processors = c.processors-processors.ensures.processors in
-    let one : IsForOneProcessor form = c.is_for_one_processor.ensures.0 c.if-is_for_one_processor.true in
+    let one : IsForOneProcessor report = c.is_for_one_processor.ensures.0 c.if-is_for_one_processor.true in
     let more : 1 < trace.processors = omega (
       arith,
       count,
@@ -53,12 +53,12 @@ returns-then-processors-ne1-clause-stopped g c =
       told = search rules;
       few_stores = λ stores spaces is. absurd (let other : Some (OneProcessor trace.processors) ≡ Some (TooFewStores stores spaces) =
           sym wanted ∙ is in cc);
-      one_processor = counts_processors form refusal trace.processors wanted one more;
-      refused = λ is. refused_processors form left _ trace c.args.stores refusal read one (more, wanted);
+      one_processor = counts_processors report refusal trace.processors wanted one more;
+      refused = λ is. refused_processors report left _ trace c.args.stores refusal read one (more, wanted);
       read_fault = search rules;
       no_fault = λ _. c.in-Ok.ensures.no_other_fault (λ is. false≢true (ap is_err is));
       memory = search rules;
-      complete = λ text no_read. absurd (omega (arith, more, (runs_read form left _ trace c.args.stores text read).0 one));
+      complete = λ text no_read. absurd (omega (arith, more, (runs_read report left _ trace c.args.stores text read).0 one));
     }
 
 pub returns-then-stores-from-clause-stopped : goal.returns-then-stores-from-clause-stopped
@@ -74,12 +74,12 @@ returns-then-stores-from-clause-stopped g c =
       statuses = inl told.status;
       told = search rules;
       few_stores = counts_stores c.refused-then-stores-from.result.refusal c.args.stores trace.spaces wanted few;
-      one_processor = another_fault c.args.form.now c.refused-then-stores-from.result.refusal
+      one_processor = another_fault c.args.report.now c.refused-then-stores-from.result.refusal
           (TooFewStores c.args.stores trace.spaces) wanted (λ processors is. cc);
-      refused = λ is. refused_stores c.args.form.now left _ trace c.args.stores c.refused-then-stores-from.result.refusal read
+      refused = λ is. refused_stores c.args.report.now left _ trace c.args.stores c.refused-then-stores-from.result.refusal read
           (search rules) (few, wanted);
       read_fault = search rules;
       no_fault = λ _. c.in-Ok.ensures.no_other_fault (λ is. false≢true (ap is_err is));
       memory = search rules;
-      complete = λ text no_read. absurd (omega (arith, few, (runs_read c.args.form.now left _ trace c.args.stores text read).1));
+      complete = λ text no_read. absurd (omega (arith, few, (runs_read c.args.report.now left _ trace c.args.stores text read).1));
     }

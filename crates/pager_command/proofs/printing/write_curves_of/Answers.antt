@@ -1,5 +1,5 @@
 use Rattle.pager_command.proofs.Results.{of_ok, of_err}
-use Rattle.pager_command.proofs.running.write_curves_of.Goals as goal
+use Rattle.pager_command.proofs.printing.write_curves_of.Goals as goal
 
 pub returns-in-Ok-clause-wrote : goal.returns-in-Ok-clause-wrote
 returns-in-Ok-clause-wrote g c = λ is given run.

@@ -1,0 +1,166 @@
+-- Words are of one command: what they ask for is read off them.
+use Rattle.std.proofs.Common.{◌≡◌, ℕ, ◌==◌, ◌||◌, ◌<◌, ◌^◌, if◌then◌else◌, Bool, false, List, [], ◌∷◌, codes, decimal, drop, get_or, Some, sym, ap, subst, refl, ◌∙◌, arith}
+use Rattle.std.proofs.lemmas.Bool.{false≢true}
+use Rattle.std.proofs.lemmas.Fmt.{decimal_injective, decimal_is_IsNumeral}
+use Rattle.std.proofs.lemmas.Option.{none-some, same_Some}
+use Rattle.std.specs.Borrow.{Bor}
+use Rattle.std.specs.Str.Parse.{digits_value}
+use Rattle.report_text.specs.declared.report.Parts.{Parts}
+use Rattle.report_text.specs.declared.report.Parts.TheVariants.{Answers, AnswersAndHistory}
+use Rattle.pager_command.specs.declared.form.Command.{Command}
+use Rattle.pager_command.specs.declared.form.Command.TheVariants.{Run, Make, Large}
+use Rattle.pager_command.specs.declared.form.Form.{Form}
+use Rattle.pager_command.specs.declared.form.Making.{Making}
+use Rattle.pager_command.specs.declared.form.Order.{Order}
+use Rattle.pager_command.specs.declared.form.Order.TheVariants.{InTurns, Threads}
+use Rattle.pager_command.specs.declared.form.Report.{Report}
+use Rattle.pager_command.specs.declared.form.Report.TheVariants.{Answers as Answered, Plan as Planned, Curves}
+use Rattle.pager_command.specs.declared.form.Turns.TheVariants.{Lines, Drawn}
+use Rattle.pager_command.specs.Forms.{AreLargeWords, AreMakingWords, AreOfCommand, AreWords, IsSeedInRange, IsSizeInRange, Spell, are_of, large_words, making_words, parts_words, words_of}
+use Rattle.trace_make.specs.Made.{CanMake}
+
+abbrev asked : Order → Report → Form
+asked order report = record { order = order; report = report }
+
+-- the parts that the words behind an order ask for
+abbrev parts_by : List (List ℕ) → Parts
+parts_by [] = Answers
+parts_by (word ∷ words) = AnswersAndHistory
+
+back_parts : (parts : Parts) → parts_by (parts_words parts) ≡ parts
+back_parts Answers = refl
+back_parts AnswersAndHistory = refl
+
+back_number : (n : ℕ) → n < 2 ^ 64 → digits_value 10 (decimal n) ≡ n
+back_number n below = (decimal_is_IsNumeral n below).1
+
+-- the first letter, by which the commands differ
+abbrev letter : List (List ℕ) → ℕ
+letter words = get_or (get_or words 0 []) 0 0
+
+-- the form that words ask for, if they are a form's
+abbrev form_by : List (List ℕ) → Form
+form_by words =
+    if letter words == 111 then asked (InTurns Lines) (Answered (parts_by (drop 1 words)))
+    else if letter words == 116 then asked (InTurns (Drawn (digits_value 10 (get_or words 1 [])))) (Answered (parts_by (drop 2 words)))
+    else if letter words == 114 then asked Threads (Answered (parts_by (drop 1 words)))
+    else if letter words == 112 then asked (InTurns Lines) (Planned (digits_value 10 (get_or words 1 [])))
+    else asked (InTurns Lines) Curves
+
+back : (order : Order) (report : Report) (words : List (List ℕ)) → words_of order report ≡ Some words → IsSeedInRange order
+    → IsSizeInRange report → form_by words ≡ asked order report
+back (InTurns Lines) (Answered parts) words are seed size =
+    let same : codes "order" ∷ parts_words parts ≡ words = same_Some _ words are in
+    subst (λ ws. form_by ws ≡ asked (InTurns Lines) (Answered parts)) same (ap (λ p. asked (InTurns Lines) (Answered p)) (back_parts parts))
+back (InTurns (Drawn n)) (Answered parts) words are seed size =
+    let same : codes "turns" ∷ decimal n ∷ parts_words parts ≡ words = same_Some _ words are in
+    subst (λ ws. form_by ws ≡ asked (InTurns (Drawn n)) (Answered parts)) same
+    (ap (λ k. asked (InTurns (Drawn k)) (Answered (parts_by (parts_words parts)))) (back_number n seed)
+    ∙ ap (λ p. asked (InTurns (Drawn n)) (Answered p)) (back_parts parts))
+back Threads (Answered parts) words are seed size =
+    let same : codes "replay" ∷ parts_words parts ≡ words = same_Some _ words are in
+    subst (λ ws. form_by ws ≡ asked Threads (Answered parts)) same (ap (λ p. asked Threads (Answered p)) (back_parts parts))
+back (InTurns Lines) (Planned n) words are seed size =
+    let same : codes "plan" ∷ decimal n ∷ [] ≡ words = same_Some _ words are in
+    subst (λ ws. form_by ws ≡ asked (InTurns Lines) (Planned n)) same
+    (ap (λ k. asked (InTurns Lines) (Planned k)) (back_number n (omega (arith, size.1))))
+back (InTurns Lines) Curves words are seed size =
+    let same : codes "curve" ∷ [] ≡ words = same_Some _ words are in
+    subst (λ ws. form_by ws ≡ asked (InTurns Lines) Curves) same refl
+back order report words are seed size = absurd (none-some words are)
+
+back_form : (words : List (List ℕ)) (form : Form) → Spell words form → form_by words ≡ form
+back_form words form is = back form.order form.report words is.are is.seed is.size
+
+one_form : (words : List (List ℕ)) (a b : Form) → Spell words a → Spell words b → a ≡ b
+one_form words a b is also = sym (back_form words a is) ∙ back_form words b also
+
+-- the words of the other commands begin with letters of their own
+abbrev is_others : ℕ → Bool
+is_others n = (n == 108) || (n == 109)
+
+begins : (order : Order) (report : Report) (words : List (List ℕ)) → words_of order report ≡ Some words → is_others (letter words) ≡ false
+begins (InTurns Lines) (Answered parts) words are =
+    ap (λ ws. is_others (letter ws)) (sym (same_Some (codes "order" ∷ parts_words parts) words are))
+begins (InTurns (Drawn n)) (Answered parts) words are =
+    ap (λ ws. is_others (letter ws)) (sym (same_Some (codes "turns" ∷ decimal n ∷ parts_words parts) words are))
+begins Threads (Answered parts) words are =
+    ap (λ ws. is_others (letter ws)) (sym (same_Some (codes "replay" ∷ parts_words parts) words are))
+begins (InTurns Lines) (Planned n) words are =
+    ap (λ ws. is_others (letter ws)) (sym (same_Some (codes "plan" ∷ decimal n ∷ []) words are))
+begins (InTurns Lines) Curves words are =
+    ap (λ ws. is_others (letter ws)) (sym (same_Some (codes "curve" ∷ []) words are))
+begins order report words are = absurd (none-some words are)
+
+making_is_no_form : (words : List (Bor (List ℕ))) (m : Making) → AreMakingWords words m → (form : Form) → AreWords words form → ⊥
+making_is_no_form words m is form spelled =
+    false≢true (sym (begins form.order form.report (are_of words) spelled.are) ∙ ap (λ ws. is_others (letter ws)) is.are)
+
+large_is_no_form : (words : List (Bor (List ℕ))) (number seed : ℕ) → AreLargeWords words number seed → (form : Form) → AreWords words form → ⊥
+large_is_no_form words number seed is form spelled =
+    false≢true (sym (begins form.order form.report (are_of words) spelled.are) ∙ ap (λ ws. is_others (letter ws)) is.are)
+
+making_is_not_large : (words : List (Bor (List ℕ))) (m : Making) (number seed : ℕ) → AreMakingWords words m
+    → AreLargeWords words number seed → ⊥
+making_is_not_large words m number seed is large =
+    let same : 109 ≡ 108 = ap letter (sym is.are ∙ large.are) in
+    omega (arith, same)
+
+-- digits are of one number
+one_number : (m n : ℕ) → m < 2 ^ 32 → n < 2 ^ 32 → decimal m ≡ decimal n → m ≡ n
+one_number m n below other = decimal_injective m n (omega (arith, below)) (omega (arith, other))
+
+-- what can be made has numbers of at most 32 bits
+pub below_32_bits : (calls processors spaces frames : ℕ) → CanMake calls processors spaces frames
+    → (calls < 2 ^ 32) × (processors < 2 ^ 32) × (spaces < 2 ^ 32) × (frames < 2 ^ 32)
+below_32_bits calls processors spaces frames can =
+    (omega (arith, can.calls_in.1), omega (arith, can.processors_in.1), omega (arith, can.spaces_in.1), omega (arith, can.frames_in.1))
+
+abbrev making_of : (number calls processors spaces frames : ℕ) → Making
+making_of number calls processors spaces frames =
+    record { number = number; calls = calls; processors = processors; spaces = spaces; frames = frames }
+
+-- the same words ask for the same trace
+pub same_making : (a b : Making) → a.number < 2 ^ 64 → b.number < 2 ^ 64 → a.calls < 2 ^ 32 → a.processors < 2 ^ 32 → a.spaces < 2 ^ 32
+    → a.frames < 2 ^ 32 → CanMake b.calls b.processors b.spaces b.frames → making_words a ≡ making_words b → a ≡ b
+same_making a b number also calls processors spaces frames can same =
+    let below = below_32_bits b.calls b.processors b.spaces b.frames can in
+    let at : (i : ℕ) → get_or (making_words a) i [] ≡ get_or (making_words b) i [] =
+    λ i. ap (λ (ws : List (List ℕ)). get_or ws i []) same in
+    let number_is : a.number ≡ b.number = decimal_injective a.number b.number number also (at 1) in
+    let calls_are : a.calls ≡ b.calls = one_number a.calls b.calls calls below.0 (at 2) in
+    let processors_are : a.processors ≡ b.processors = one_number a.processors b.processors processors below.1 (at 3) in
+    let spaces_are : a.spaces ≡ b.spaces = one_number a.spaces b.spaces spaces below.2 (at 4) in
+    let frames_are : a.frames ≡ b.frames = one_number a.frames b.frames frames below.3 (at 5) in
+    ap (λ n. making_of n a.calls a.processors a.spaces a.frames) number_is
+    ∙ ap (λ n. making_of b.number n a.processors a.spaces a.frames) calls_are
+    ∙ ap (λ n. making_of b.number b.calls n a.spaces a.frames) processors_are
+    ∙ ap (λ n. making_of b.number b.calls b.processors n a.frames) spaces_are
+    ∙ ap (making_of b.number b.calls b.processors b.spaces) frames_are
+
+one_making : (words : List (Bor (List ℕ))) (a b : Making) → AreMakingWords words a → AreMakingWords words b → a ≡ b
+one_making words a b is also =
+    let below = below_32_bits a.calls a.processors a.spaces a.frames is.can in
+    same_making a b is.number also.number below.0 below.1 below.2 below.3 also.can (sym is.are ∙ also.are)
+
+-- the same words ask for the same number and seed
+one_large : (words : List (Bor (List ℕ))) (number seed number' seed' : ℕ) → AreLargeWords words number seed
+    → AreLargeWords words number' seed' → (number ≡ number') × (seed ≡ seed')
+one_large words number seed number' seed' is also =
+    let at : (i : ℕ) → get_or (large_words number seed) i [] ≡ get_or (large_words number' seed') i [] =
+    λ i. ap (λ (ws : List (List ℕ)). get_or ws i []) (sym is.are ∙ also.are) in
+    (decimal_injective number number' is.number_in also.number_in (at 1), decimal_injective seed seed' is.seed_in also.seed_in (at 2))
+
+-- words are of one command
+pub one_command : (words : List (Bor (List ℕ))) (a b : Command) → AreOfCommand words a → AreOfCommand words b → a ≡ b
+one_command words (Run a) (Run b) is also = ap Run (one_form (are_of words) a b is also)
+one_command words (Run a) (Make m) is also = absurd (making_is_no_form words m also a is)
+one_command words (Run a) (Large number seed) is also = absurd (large_is_no_form words number seed also a is)
+one_command words (Make m) (Run b) is also = absurd (making_is_no_form words m is b also)
+one_command words (Make m) (Make k) is also = ap Make (one_making words m k is also)
+one_command words (Make m) (Large number seed) is also = absurd (making_is_not_large words m number seed is also)
+one_command words (Large number seed) (Run b) is also = absurd (large_is_no_form words number seed is b also)
+one_command words (Large number seed) (Make m) is also = absurd (making_is_not_large words m number seed also is)
+one_command words (Large number seed) (Large number' seed') is also =
+    let same = one_large words number seed number' seed' is also in
+    ap (λ n. Large n seed) same.0 ∙ ap (Large number') same.1
