@@ -23,7 +23,7 @@ OWN_NAME = re.compile('^(superpager|judge): ')
 # The least and the most frames that a trace may have, and what their number is a multiple of.
 FRAMES = (512, 32768, 512)
 # The first words of a trace's first line, and what stands behind its numbers of frames, processors and spaces.
-FIRST_LINES = [([b'trace', b'1'], [])] + [([b'trace', b'2'], [sizes.encode()]) for sizes in SIZE_SETS]
+FIRST_LINES = [([b'trace', b'1'], [])] + [([b'trace', version], [sizes.encode()]) for version in (b'2', b'3') for sizes in SIZE_SETS]
 
 
 class Stopped(Exception):
@@ -146,7 +146,7 @@ def with_first_line(trace: bytes, frames: Optional[int], sizes: Optional[str]) -
     if frames is not None:
         words[2] = b'%d' % frames
     if sizes is not None:
-        words = [b'trace', b'2', *words[2:5], sizes.encode()]
+        words = [b'trace', max(b'2', words[1]), *words[2:5], sizes.encode()]
     return b' '.join(words) + line_feed + rest
 
 

@@ -35,15 +35,16 @@ Place = Union[Number, Choice, Word]
 
 
 class Form(NamedTuple):
-    """A line's form. Its first and its last possible line are counted from 1; 0 is no last one."""
+    """A line's form, from a version of the trace on. Its first and its last possible line are counted from 1; 0 is no last one."""
     first: int
     last: int
     places: Tuple[Place, ...]
+    version: int = 1
 
 
-def call(name: str, *places: Place) -> Form:
+def call(name: str, *places: Place, version: int = 1) -> Form:
     """The form of a call: a processor, the name, a space, and these places."""
-    return Form(2, 0, (PROCESSOR, Word(name), SPACE) + places)
+    return Form(2, 0, (PROCESSOR, Word(name), SPACE) + places, version)
 
 
 # The most of a processor and of a space are those of 16; the first line of a text makes them less.
@@ -59,7 +60,7 @@ END = Form(2, 0, (Word('end'),))
 COUNTS = (Number('F', 'a number of frames', 512, 32768, 512), Number('P', 'a number of processors', 1, 16), Number('S', 'a number of spaces', 1, 16))
 SIZES = Choice('SIZES', 'the page sizes', SIZE_SETS)
 # The version of a first line is told by how many words it has.
-VERSIONS = (Number('1', 'the version of a line of five words', 1, 1), Number('2', 'the version of a line of six words', 2, 2))
+VERSIONS = (Number('1', 'the version of a line of five words', 1, 1), Number('2', 'the version of a line of six words', 2, 3))
 FIRST, SIZED = (Form(1, 1, (Word('trace'), version) + COUNTS + more) for version, more in zip(VERSIONS, ((), (SIZES,))))
 FORMS = (
     FIRST,
@@ -73,8 +74,13 @@ FORMS = (
     call('store', ADDRESS, Number('WORD', 'a word', 0, 2 ** 64 - 1)),
     call('sync', PAGE),
     call('evict', PAGE),
+    call('discard', PAGE, LENGTH, version=3),
+    call('wire', PAGE, version=3),
+    call('unwire', PAGE, version=3),
     END,
 )
+# The first version of the calls that not each version has, by their names.
+LATER = {form.places[1].name.encode(): form.version for form in FORMS if form.version > 1}
 
 # What is wrong with a word where a number must stand, the first that it is.
 NO_NUMBERS = (
@@ -88,7 +94,7 @@ NO_NUMBERS = (
 # What is wrong with the version of the other form.
 OTHER_VERSION = {
     VERSIONS[0]: 'the version is 1 in a line of five words: version 2 names its page sizes',
-    VERSIONS[1]: 'the version is 2 in a line of six words: version 1 names no page sizes',
+    VERSIONS[1]: 'the version is 2 or 3 in a line of six words: version 1 names no page sizes',
 }
 # The usual slips of a line, and what to do.
 SLIPS = (
@@ -166,7 +172,9 @@ def forms_behind(first: bytes, number: int) -> Tuple[Form, ...]:
     """The forms of the line of this number, behind this first line."""
     words = first.split(b' ')
     mosts: Dict[Place, int] = {} if number == 1 else {PROCESSOR: int(words[3]) - 1, SPACE: int(words[4]) - 1}
-    return tuple(narrowed(form, mosts) for form in FORMS if form.first <= number and (not form.last or number <= form.last))
+    version = 1 if number == 1 else int(words[1])
+    there = (form for form in FORMS if form.version <= version and form.first <= number and (not form.last or number <= form.last))
+    return tuple(narrowed(form, mosts) for form in there)
 
 
 def refusal_of_lines(lines: List[bytes]) -> Tuple[Optional[Refusal], int]:
@@ -196,9 +204,12 @@ def refusal_of(data: bytes) -> Tuple[Optional[Refusal], int]:
     return (Refusal('trace too long'), 0) if len(data) > MOST_BYTES else refusal_of_lines(data.split(b'\n'))
 
 
-def shown(form: Form) -> str:
-    """The form as the documents write it."""
-    return '`%s`' % ' '.join(place.name for place in form.places)
+def shown(form: Form, version: Optional[bytes] = None) -> str:
+    """The form as the documents write it; a first line is shown with this version, where it may have it."""
+    names = [place.name for place in form.places]
+    if form == SIZED and version == b'3':
+        names[1] = '3'
+    return '`%s`' % ' '.join(names)
 
 
 def listed(words: Sequence[str], last: str = 'or') -> str:
@@ -251,7 +262,7 @@ def keyword_of(form: Form) -> Tuple[int, str]:
 def first_meant(words: List[bytes]) -> Form:
     """The form that a first line is most likely meant to have: that of its version, or else of its number of words."""
     version = words[1:2]
-    return SIZED if version == [b'2'] or version != [b'1'] and len(words) > len(FIRST.places) else FIRST
+    return SIZED if version in ([b'2'], [b'3']) or version != [b'1'] and len(words) > len(FIRST.places) else FIRST
 
 
 def meant(forms: Sequence[Form], words: List[bytes]) -> Optional[Form]:
@@ -286,6 +297,9 @@ def unknown_text(forms: Sequence[Form], words: List[bytes]) -> Tuple[int, str]:
     names = [word for at, word in map(keyword_of, forms) if at == 1]
     if text_of(words[0]) in names:
         return 1, '`%s` stands in place of %s; a call begins with it' % (text_of(words[0]), wanted(PROCESSOR))
+    if words[1:2] and words[1] in LATER:
+        version = LATER[words[1]]
+        return 2, '`%s` is a call from version %d on; the first line is `trace %d F P S SIZES` then' % (text_of(words[1]), version, version)
     if len(words) == 1:
         return 1, '`%s` is no call, nor `end`%s' % (text_of(words[0]), guess(words[0], ['end']))
     return 2, '`%s` is no call; here stands %s%s' % (text_of(words[1]), listed(['`%s`' % name for name in names]), guess(words[1], names))
@@ -302,7 +316,7 @@ def fault_text(refusal: Refusal) -> Tuple[int, str]:
     if form is None:
         return unfit(words) or unknown_text(refusal.forms, words)
     at, what = unfit(words) or form_text(form, words)
-    known = shown(form) if form != FIRST or words[1:2] == [b'1'] else '%s or %s' % (shown(FIRST), shown(SIZED))
+    known = shown(form, *words[1:2]) if form != FIRST or words[1:2] == [b'1'] else '%s or %s' % (shown(FIRST), shown(SIZED))
     more = ordered(words[at - 1]) if form == SIZED and at == len(SIZED.places) == len(words) else ''
     return at, '%s. The form is %s%s' % (what, known, more)
 

@@ -4,10 +4,12 @@
     python3 crates/run_tests/draw_run.py 17 turns
     python3 crates/run_tests/draw_run.py 17 faults
     python3 crates/run_tests/draw_run.py 17 trace --daemon
+    python3 crates/run_tests/draw_run.py 17 trace --wires
 
 The trace begins with lines of processor 0 that use most of the 512 frames or all of them, and the turns with as many of processor 0 as
 these lines have steps. The faults are each space's reads and writes that fail and the writes that find no memory, counted from 1. With
---daemon a daemon keeps frames free beside the processors, and fewer pages are wired. Equal seeds give equal bytes.
+--daemon a daemon keeps frames free beside the processors, and fewer pages are wired. With --wires there are discards, wires and unwires too.
+Equal seeds give equal bytes.
 """
 import argparse
 import json
@@ -56,17 +58,18 @@ def maps(r, spaces):
     return lines, pages
 
 
-def call(r, processor, pages):
+def call(r, processor, pages, wires):
     """One call of the processor on one of the pages."""
     space, page = r.choice(pages)
-    names = ('load', 'store', 'evict', 'sync', 'unmap', 'protect', 'map', 'grow')
-    name = r.choices(names, (30, 30, 9, 6, 7, 9, 4, 4))[0]
+    names = ('load', 'store', 'evict', 'sync', 'unmap', 'protect', 'map', 'grow') + (('discard', 'wire', 'unwire') if wires else ())
+    name = r.choices(names, (30, 30, 9, 6, 7, 9, 4, 4) + ((9, 20, 9) if wires else ()))[0]
     rest = {
         'load': [page * PAGE],
         'store': [page * PAGE, r.randrange(1, 100)],
         'protect': [page, 1, r.choice(('none', 'read', 'write'))],
         'map': [r.choice((page, page + 3, 1048575)), 2, 'fixed', 'write'],
         'grow': [page, r.choice((1, 9))],
+        'discard': [page, r.choice((1, 2))] if wires else [],
     }.get(name, [page])
     return ' '.join(map(str, [processor, name, space] + rest))
 
@@ -76,7 +79,7 @@ def numbers(r):
     return sorted(r.sample(range(1, 5), r.choice((0, 0, 1, 2))))
 
 
-def draw(seed, daemon=False):
+def draw(seed, daemon=False, wires=False):
     """The run as a dictionary."""
     r = random.Random(seed)
     run = {'processors': r.randrange(2, 5), 'spaces': r.randrange(1, 4), 'fill': fill(r, daemon)}
@@ -84,11 +87,14 @@ def draw(seed, daemon=False):
     lines, pages = maps(r, run['spaces'])
     filled = sum(count * length for count, length, kind in run['fill'])
     pages.append((0, r.choice((0, filled - 1, 600))))
+    if wires:
+        pages += [(0, filled - 1)] * 3
     actors = run['processors'] + (1 if daemon else 0)
     run['turns'] = '0' * len(lines) + ''.join(str(r.randrange(actors)) for _ in range(r.randrange(20, 45)))
-    run['lines'] = lines + [call(r, r.randrange(run['processors']), pages) for _ in range(r.randrange(6, 16))]
+    run['lines'] = lines + [call(r, r.randrange(run['processors']), pages, wires) for _ in range(r.randrange(6, 16))]
     run['full'] = r.random() < 0.15
     run['reads'], run['writes'] = ([], []) if run['full'] else (numbers(r), numbers(r))
+    run['head'] = 'trace 3 %d %d %d 0123' if wires else 'trace 1 %d %d %d'
     run['daemon'] = (r.choice((1, 1, 2, 3, 64)), r.randrange(1, 6)) if daemon else None
     return run
 
@@ -96,7 +102,7 @@ def draw(seed, daemon=False):
 def trace(run):
     """The lines of the trace, and how many entries those that use the frames make."""
     first, filled = fill_lines(run['fill'], run['stored'])
-    head = ['trace 1 %d %d %d' % (FRAMES, run['processors'], run['spaces'])]
+    head = [run['head'] % (FRAMES, run['processors'], run['spaces'])]
     if run['daemon']:
         head.append('daemon %d %d' % run['daemon'])
     return head + first + run['lines'] + ['end'], len(first) + filled
@@ -115,8 +121,9 @@ if __name__ == '__main__':
     words.add_argument('seed', type=int)
     words.add_argument('part', choices=('trace', 'turns', 'faults'))
     words.add_argument('--daemon', action='store_true', help='a daemon beside the processors')
+    words.add_argument('--wires', action='store_true', help='discards, wires and unwires too')
     words = words.parse_args()
-    drawn = draw(words.seed, words.daemon)
+    drawn = draw(words.seed, words.daemon, words.wires)
     lines, before = trace(drawn)
     print({
         'trace': '\n'.join(lines),

@@ -38,6 +38,10 @@ compare_drawn drawn-with-few-frames --seeds 251..270 --forms order,turns
 compare_drawn drawn-by-page-sizes --seeds 501..504 --sizes all
 compare_drawn drawn-short-of-frames --seeds 1..3 --short
 compare_drawn drawn-short-of-slots-in-threads --seeds 1..25 --short --forms replay --swap 4
+compare_drawn drawn-with-pins --seeds 1..3,251..255 --forms order,turns --pins
+compare_drawn drawn-with-pins-by-page-sizes --seeds 1..2 --sizes all --pins
+compare_drawn drawn-with-pins-short-of-frames --seeds 1..2 --short --pins
+compare_drawn drawn-with-pins-over-slots --seeds 251..252 --forms order,turns --swap 8 --pins
 compare_drawn drawn-curves --seeds 1..3 --forms curve
 compare_drawn drawn-curves-by-sizes --seeds 1..1 --forms curve --sizes 02,0123
 compare_drawn drawn-plans --seeds 251..253 --forms plan1,plan2,plan3
@@ -54,10 +58,13 @@ judge short-of-frames "$made/short" '' turns 18
 judge short-of-slots "$made/short" 4 turns 18
 ../../tools/judge make 7 2000 4 4 8192 >"$made/calls"
 judge made-in-turns "$made/calls" '' turns 3
+../../tools/judge short --pins 4 1 >"$made/pins"
+judge short-with-pins "$made/pins" '' turns 4
+judge busy-in-turns ../runs/busy.trace '' turns 24
 
 # In threads each run makes another history, so it is judged, and the laws after each of its entries.
 echo legal >"$made/legal"
-for trace in ../lesson/paged-out.trace ../runs/daemon.trace ../runs/sixteen-spaces.trace ../runs/one-to-spare-for-two.trace; do
+for trace in ../lesson/paged-out.trace ../runs/daemon.trace ../runs/sixteen-spaces.trace ../runs/busy.trace ../runs/one-to-spare-for-two.trace; do
     run "$trace" told "$program" replay --history
     mv "$made/output" "$made/history"
     run /dev/null told ../../tools/judge history replay --laws "$trace" "$made/history"

@@ -19,6 +19,10 @@ start: failed write: Start, write failed
 start: evicted clean, evicted written: Start to Evict; Evict
 start: clear: Start to Clear; Clear
 clear: answer done: Gone
+start: pin: Start to Pin; Pin, pinned
+pin: answer done: Gone
+start: kept: Start to Pin; Pin, kept
+kept: answer busy: Busy
 start: take: Start to Frame; Frame, taken
 start: claim: Start to Frame; Frame, claimed
 start: refused: Start to Frame; Frame, refused
@@ -46,9 +50,9 @@ unclaim: answer storefault: Fault
 unclaim: answer nomemory: Lack"""
 
 # Elsewhere they can't be walked: a flight takes a victim late, or keeps the lock of its own space.
-OWN = ('Start, answered; Start, write failed; Start to Evict; Start to Clear; Start to Frame; Evict; Clear; Gone; Frame, taken; Frame, claimed; '
-       'Frame, refused; Short; Fill, answered; Fill, read failed; Unfill; Out to Write; Write, done; Write, failed; Write, no memory; Hand; '
-       'Unclaim to Fault; Unclaim to Lack; Back to Use; Use; Fault; Lack')
+OWN = ('Start, answered; Start, write failed; Start to Evict; Start to Clear; Start to Pin; Start to Frame; Evict; Clear; Pin, pinned; Pin, '
+       'kept; Busy; Gone; Frame, taken; Frame, claimed; Frame, refused; Short; Fill, answered; Fill, read failed; Unfill; Out to Write; '
+       'Write, done; Write, failed; Write, no memory; Hand; Unclaim to Fault; Unclaim to Lack; Back to Use; Use; Fault; Lack')
 OTHER = ('Start to Frame; Frame, claimed; Fill, answered; Fill, read failed; Unfill; Out, given up; Out to Write; Write, done; Write, failed; '
          'Write, no memory; Hand; Unclaim to Fault; Unclaim to Lack; Back to Drop; Back to Use; Drop; Late; Use; Fault; Lack')
 

@@ -47,11 +47,11 @@ MOST = 8000
 STEP = 20
 
 
-def text_of(seed: int) -> bytes:
-    """The random trace of a seed."""
+def text_of(seed: int, pins: bool) -> bytes:
+    """The random trace of a seed; one that pins has its own daemon, or none."""
     *numbers, daemon = KINDS[seed % len(KINDS)]
-    first, *lines = write_trace(seed, *numbers)
-    return ('\n'.join([first] + [daemon] * (daemon is not None) + lines) + '\n').encode()
+    first, *lines = write_trace(seed, *numbers, pins)
+    return ('\n'.join([first] + [daemon] * (daemon is not None and not pins) + lines) + '\n').encode()
 
 
 def wrong_with_frames(machine: Machine) -> Iterator[str]:
@@ -138,9 +138,9 @@ def wrong_with_counts(program: List[Counts], found: List[Counts], best: Counts) 
         yield 'the best misses %d times, and others %s' % (best.misses, [counts.misses for counts in program + [base, reservations]])
 
 
-def wrong_with_seed(program: str, seed: int) -> List[str]:
+def wrong_with_seed(program: str, seed: int, pins: bool) -> List[str]:
     """What is wrong with the runs of the trace of a seed."""
-    text = text_of(seed)
+    text = text_of(seed, pins)
     trace = trace_of(text)
     runs = [run(trace, policy, *knobs) for policy, knobs in POLICIES]
     noting = Machine(trace, Noting)
@@ -167,11 +167,13 @@ def wrong_with_example(program: str, path: str) -> List[str]:
 def main() -> int:
     """Tries all traces, and answers the status."""
     parser = argparse.ArgumentParser('check_policies.py', description=HELP, formatter_class=argparse.RawDescriptionHelpFormatter)
-    parser.add_argument('--seeds', type=number_in(1, 10000), default=8, metavar='N', help='try the seeds from 0 to before N, 8 where nothing is said')
+    parser.add_argument('--seeds', type=number_in(1, 10000), default=8, metavar='N',
+                        help='try the seeds from 0 to before N, 8 where nothing is said, each without and with calls that pin')
     parser.add_argument('program', metavar='PROGRAM', nargs='?', help='without it crates/superpager/out/superpager')
     options = parser.parse_args()
     program = program_at(options.program)
-    wrong = {'seed %d' % seed: wrong_with_seed(program, seed) for seed in range(options.seeds)}
+    seeds = range(options.seeds)
+    wrong = {'seed %d%s' % (seed, ' with pins' * pins): wrong_with_seed(program, seed, pins) for pins in (False, True) for seed in seeds}
     wrong.update((path, wrong_with_example(program, path)) for path in examples())
     for name in wrong:
         for what in wrong[name][:3]:

@@ -29,6 +29,8 @@ PLANS = {'plan1': 1, 'plan2': 2, 'plan3': 3}
 CURVE = 'curve'
 MOVES = ('promotions', 'demotions', 'preemptions')
 REFUSED = 'noframes'
+# The kinds of entries that are counted.
+COUNTED = {'claim': 'claims', 'pin': 'pins', 'kept': 'kept'}
 # The forms that print no history.
 WITHOUT_HISTORY = (*PLANS, CURVE)
 # The first seeds draw traces over frames enough, and those above them traces in which few frames are left.
@@ -39,7 +41,7 @@ SECONDS = 600
 class Job(NamedTuple):
     """One run: of the trace of a seed, by a form of the program, with the copies of each space in so many slots where a number is given. Where
     `beyond` is a number the trace is one short of frames, whose wired pages and processors are so many more than its frames. Where `sizes` is
-    a word of page sizes the trace names them."""
+    a word of page sizes the trace names them. Where `pins` is set it has discards, wires and unwires."""
     program: str
     seed: int
     form: str
@@ -48,6 +50,7 @@ class Job(NamedTuple):
     turns: int
     beyond: Optional[int] = None
     sizes: Optional[str] = None
+    pins: bool = False
 
 
 class Outcome(NamedTuple):
@@ -144,9 +147,9 @@ def words_of(job: Job) -> List[str]:
 def trace_text(job: Job) -> bytes:
     """The text of a run's trace."""
     if job.beyond is not None:
-        return text_of(short(job.seed, job.beyond, job.sizes)).encode()
+        return text_of(short(job.seed, job.beyond, job.sizes, job.pins)).encode()
     words = trace_words(job.seed, job.form) if job.sizes is None or job.form == CURVE else sized_words(job.seed)
-    lines = write_trace(*words, job.sizes)
+    lines = write_trace(*words, job.sizes, job.pins)
     return ''.join(line + '\n' for line in lines).encode()
 
 
@@ -175,8 +178,8 @@ def run(job: Job) -> Outcome:
 
 def counted(printed: str) -> Dict[str, int]:
     """How often a run promoted, demoted and preempted, which it prints; how many accesses it refused for want of a frame; how many frames were
-    claimed; and how many accesses hit by a translation of each size from 1 on. With its history a run prints each answer twice, and a line of the
-    history has the answer behind four words."""
+    claimed, and regions pinned or kept from it; and how many accesses hit by a translation of each size from 1 on. With its history a run prints
+    each answer twice, and a line of the history has the answer behind four words."""
     counts: Dict[str, int] = Counter({REFUSED: 0})
     for line in printed.splitlines():
         words = line.split(' ')
@@ -184,8 +187,8 @@ def counted(printed: str) -> Dict[str, int]:
             counts[words[0]] += int(words[1])
         elif words[2:3] == [REFUSED]:
             counts[REFUSED] += 1
-        elif words[3:4] == ['claim']:
-            counts['claims'] += 1
+        elif words[3:4] and words[3] in COUNTED:
+            counts[COUNTED[words[3]]] += 1
         elif words[3:4] == ['answer'] and words[-2] == 'hit' and words[-1] != '0':
             counts['hits of size ' + words[-1]] += 1
     return counts
@@ -207,7 +210,7 @@ def name_of(job: Job) -> str:
     form = 'turns %d' % job.turns if job.form == 'turns' else job.form
     beyond = '' if job.beyond is None else ' with %d beyond' % job.beyond
     sizes = '' if job.sizes is None else ' of sizes %s' % job.sizes
-    return 'seed %d%s%s, %s' % (job.seed, sizes, beyond, form)
+    return 'seed %d%s%s%s, %s' % (job.seed, sizes, beyond, ' with pins' * job.pins, form)
 
 
 def compare(jobs: List[Job], processes: int) -> List[Outcome]:

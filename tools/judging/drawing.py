@@ -3,7 +3,7 @@ frames."""
 from typing import List, Optional, Tuple
 
 from .trace_text import sizes_of
-from .values import ALL_SIZES, Call, Daemon, Evict, Line, Load, Map, Protect, Store, Sync, Trace
+from .values import ALL_SIZES, Call, Daemon, Discard, Evict, Line, Load, Map, Protect, Store, Sync, Trace, Unwire, Wire
 
 REGION = 4096
 NEAR = 512
@@ -52,26 +52,30 @@ def drawn_call(g: Generator, space: int, page: int) -> Call:
     return Protect(space, page - page % 8, 8, rights)
 
 
-def short(seed: int, beyond: int, sizes: Optional[str] = None) -> Trace:
+def short(seed: int, beyond: int, sizes: Optional[str] = None, pins: bool = False) -> Trace:
     """A trace whose wired pages and processors, a daemon among them, are as many as its frames, or `beyond` more. A processor maps and loads
     its share of the wired pages, and has a few that aren't wired; then all make calls at those, and few frames are left for them. It names its
-    page sizes where a word of them is given."""
+    page sizes where a word of them is given. Where it pins a share is wired by a call, and later calls unwire it, wire it again and discard
+    pages."""
     g = Generator(seed)
     processors, spaces = 1 + g.draw(4), 1 + g.draw(3)
     daemon = Daemon(1 + g.draw(64), 100 + g.draw(1400)) if g.draw(2) else None
     wired = FRAMES - processors - (daemon is not None) + beyond
     ends = [0] * spaces
     rows: List[List[Line]] = []
+    shares: List[Place] = []
     others: List[Place] = []
     for c in range(processors):
-        share, kept = mapped(g, c, ends, wired // processors + (c < wired % processors), 'wired')
+        share, kept = mapped(g, c, ends, wired // processors + (c < wired % processors), 'growing' if pins else 'wired')
         loads = [Line(c, Load(*at_word(g, place))) for place in kept]
         few, pages = mapped(g, c, ends, 4 + g.draw(37), 'growing' if g.draw(2) else 'fixed')
-        rows.append([few, share, *loads])
+        rows.append([few, share, *([Line(c, Wire(*kept[0]))] if pins else []), *loads])
+        shares += kept
         others += pages
     filling = [line for n in range(max(map(len, rows))) for row in rows for line in row[n:n + 1]]
-    behind = [Line(g.draw(processors), call_at(g, others[g.draw(len(others))])) for _ in range(60 + 40 * processors)]
-    version, there = (1, ALL_SIZES) if sizes is None else (2, sizes_of(sizes))
+    behind = [Line(g.draw(processors), later_call(g, shares if pins else [], others)) for _ in range(60 + 40 * processors)]
+    version = 3 if pins else 1 if sizes is None else 2
+    there = ALL_SIZES if sizes is None else sizes_of(sizes)
     return Trace(version, FRAMES, processors, spaces, there, daemon, tuple(filling + behind))
 
 
@@ -86,6 +90,16 @@ def mapped(g: Generator, processor: int, ends: List[int], length: int, kind: str
 def at_word(g: Generator, place: Place) -> Tuple[int, int]:
     """The space and the address of a word of a page."""
     return place[0], place[1] * 8192 + 8 * g.draw(1024)
+
+
+def later_call(g: Generator, shares: List[Place], others: List[Place]) -> Call:
+    """A call at one of the other pages, or, where there are shares that calls wire, as each fourth a call that pins or discards."""
+    if not shares or g.draw(4):
+        return call_at(g, others[g.draw(len(others))])
+    kind, place = g.draw(8), shares[g.draw(len(shares))]
+    if kind < 6:
+        return Wire(*place) if kind < 4 else Unwire(*place)
+    return Discard(*(place if kind == 6 else others[g.draw(len(others))]), 1 + g.draw(8))
 
 
 def call_at(g: Generator, place: Place) -> Call:

@@ -5,22 +5,27 @@ region.
 """
 from typing import Dict, List, Optional, Set
 
-from .values import (CLEAN, DENIED, DONE, MOST_REGIONS, SPACE_PAGES, UNMAPPED, WRITTEN, Call, Evict, Grow, Load, Map, Protect, Reply, Store,
-                     Sync, Unmap, Want, page_of, page_of_call, word_of)
+from .values import (CLEAN, DENIED, DONE, MOST_REGIONS, SPACE_PAGES, UNMAPPED, WRITTEN, Call, Discard, Evict, Grow, Load, Map, Protect, Reply,
+                     Store, Sync, Unmap, Unwire, Want, Wire, page_of, page_of_call, word_of)
 
 Words = Dict[int, int]
 
 
 class Region:
-    """A first page, a length, a kind and first rights."""
+    """A first page, a length, a kind, first rights, and whether a call pinned it."""
 
     def __init__(self, first: int, length: int, kind: str, rights: str):
-        self.first, self.length, self.kind, self.rights = first, length, kind, rights
+        self.first, self.length, self.kind, self.rights, self.pinned = first, length, kind, rights, False
 
     @property
     def end(self) -> int:
         """The first page after it."""
         return self.first + self.length
+
+    @property
+    def wired(self) -> bool:
+        """Its pages keep their frames: by its kind, or because it is pinned. (Regions.antt)"""
+        return self.kind == 'wired' or self.pinned
 
     def meets(self, first: int, length: int) -> bool:
         """It has one of the pages of the range."""
@@ -68,15 +73,15 @@ def reply_of(flat: Flat, call: Call) -> Reply:
         return UNMAPPED
     if isinstance(call, Grow):
         return grow_reply(flat, region, call)
-    if isinstance(call, Protect):
-        return DONE if call.page + call.length <= region.end else UNMAPPED
+    if isinstance(call, (Protect, Discard)) and call.page + call.length > region.end:
+        return UNMAPPED
     if isinstance(call, (Load, Store)):
         return access_reply(flat, call)
-    if isinstance(call, Unmap):
-        return DONE
-    if isinstance(call, Evict) and region.kind == 'wired':
+    if isinstance(call, (Evict, Discard)) and region.wired or isinstance(call, Unwire) and region.kind == 'wired':
         return DENIED
-    return WRITTEN if call.page in flat.dirty else CLEAN
+    if isinstance(call, (Sync, Evict)):
+        return WRITTEN if call.page in flat.dirty else CLEAN
+    return DONE
 
 
 def map_reply(flat: Flat, call: Map) -> Reply:
@@ -119,7 +124,11 @@ def after_call(flat: Flat, call: Call) -> None:
     elif isinstance(call, Grow):
         flat.region_at(call.page).length += call.by
     elif isinstance(call, Unmap):
-        forget(flat, flat.region_at(call.page))
+        unmap(flat, flat.region_at(call.page))
+    elif isinstance(call, Discard):
+        forget(flat, range(call.page, call.page + call.length))
+    elif isinstance(call, (Wire, Unwire)):
+        flat.region_at(call.page).pinned = isinstance(call, Wire)
     elif isinstance(call, Protect):
         flat.own_rights.update((p, call.rights) for p in range(call.page, call.page + call.length))
     elif isinstance(call, Store):
@@ -130,14 +139,20 @@ def after_call(flat: Flat, call: Call) -> None:
         out(flat, call.page)
 
 
-def forget(flat: Flat, region: Region) -> None:
-    """The region goes, and what its pages held: the pages of a later region are zero, equal to their copies and clean. (Flat.antt)"""
+def unmap(flat: Flat, region: Region) -> None:
+    """The region goes, and what its pages held: the pages of a later region are new. (Flat.antt)"""
     flat.regions.remove(region)
-    gone = [p for table in (flat.words, flat.copies, flat.own_rights, flat.dirty) for p in table if region.first <= p < region.end]
-    for p in gone:
+    pages = range(region.first, region.end)
+    forget(flat, pages)
+    for p in [p for p in flat.own_rights if p in pages]:
+        del flat.own_rights[p]
+
+
+def forget(flat: Flat, pages: range) -> None:
+    """The pages are zero, equal to their copies and clean; their rights stay. (Flat.antt)"""
+    for p in [p for table in (flat.words, flat.copies, flat.dirty) for p in table if p in pages]:
         flat.words.pop(p, None)
         flat.copies.pop(p, None)
-        flat.own_rights.pop(p, None)
         flat.dirty.discard(p)
 
 
@@ -154,9 +169,9 @@ def lost(flat: Flat, page: int) -> None:
 
 def wanted(flat: Flat, page: int) -> Optional[Want]:
     """Where a reservation for the page may lie: within a fixed or wired region, and up to the next region round a growing one; with no more
-    pages than the region has now. (Regions.antt)"""
+    pages than the region has now. Whether the region is pinned changes none of these. (Regions.antt)"""
     region = flat.region_at(page)
     if region is None:
         return None
     above = min((r.first for r in flat.regions if r.first >= region.end), default=SPACE_PAGES)
-    return Want(region.first, above if region.kind == 'growing' else region.end, region.length, region.kind == 'wired')
+    return Want(region.first, above if region.kind == 'growing' else region.end, region.length, region.wired)

@@ -4,8 +4,8 @@ from copy import copy
 from itertools import islice
 from typing import Collection, Dict, FrozenSet, Iterator, List, NamedTuple, Optional, Set, Tuple
 
-from .values import (Answer, Claim, Clear, DropHeld, Entry, Evict, Give, Got, Refused, Rest, Sizes, Take, Unclaim, UseHeld, Want, extent_start,
-                     pages_of)
+from .values import (Answer, Claim, Clear, DropHeld, Entry, Evict, Give, Got, Kept, Pin, Refused, Rest, Sizes, Take, Unclaim, UseHeld, Want,
+                     extent_start, pages_of)
 
 # The largest free block has 2^9 frames, which is an extent of size 3.
 LARGEST_ORDER = 9
@@ -77,6 +77,10 @@ class Frames:
     def used_pages(self) -> Dict[Tuple[int, int], int]:
         """Of each space and page that has a used place its frame."""
         return {(r.space, r.first + i): r.frame + i for r in self.reservations for i in r.used}
+
+    def used_in(self, space: int, first: int, length: int) -> List[Tuple[int, int]]:
+        """The pages of a range of a space that have a used place, ascending, each with its frame."""
+        return sorted((page, frame) for (s, page), frame in self.used_pages().items() if s == space and first <= page < first + length)
 
     def claimed_by(self, processor: int) -> List[int]:
         """The frames that the processor claims."""
@@ -304,9 +308,28 @@ def given_as(state: Frames, e: Entry) -> Optional[str]:
 
 def cleared_as(state: Frames, e: Entry) -> Optional[str]:
     """Each page of a range that has a frame gives it up, ascending by page. (FrameStates.antt: give_range)"""
-    first, end = e.what.first, e.what.first + e.what.length
-    for page in sorted(p for s, p in state.used_pages() if s == e.space and first <= p < end):
+    for page, _ in state.used_in(e.space, e.what.first, e.what.length):
         give(state, e.space, page)
+    return None
+
+
+def lowest_claimed(state: Frames, space: int, first: int, length: int) -> Optional[Tuple[int, int]]:
+    """The lowest page of a range whose used place is claimed, with its frame. (FrameStates.antt)"""
+    used = state.used_in(space, first, length)
+    return next(((page, frame) for page, frame in used if state.used[frame].claim is not None), None)
+
+
+def pinned_as(state: Frames, e: Entry) -> Optional[str]:
+    """Each used place of a range gets the wired flag, and none is claimed where that says wired; or the lowest that is claimed is told, and
+    nothing changes. (FrameStates.antt: FramesAllow, pin_range)"""
+    w = e.what
+    claimed = lowest_claimed(state, e.space, w.first, w.length)
+    if isinstance(w, Kept):
+        return None if claimed == (w.page, w.frame) else 'the lowest claimed page and its frame are %s' % (claimed,)
+    if w.wired and claimed:
+        return 'page %d is claimed' % claimed[0]
+    for _, frame in state.used_in(e.space, w.first, w.length):
+        state.used[frame] = state.used[frame]._replace(wired=w.wired)
     return None
 
 
@@ -361,6 +384,8 @@ def frames_after(state: Frames, mark: int, e: Entry) -> Optional[str]:
         wrong = given_as(state, e)
     elif isinstance(w, Clear):
         wrong = cleared_as(state, e)
+    elif isinstance(w, (Pin, Kept)):
+        wrong = pinned_as(state, e)
     elif isinstance(w, Claim):
         wrong = claimed_as(state, e, mark)
     elif isinstance(w, Unclaim):

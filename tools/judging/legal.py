@@ -5,7 +5,7 @@ from . import frames as fr
 from .frames import Frames, Reservation
 from .order import Victim, at_rest, is_whole, progress_after
 from .spaces import Space, wrong_with
-from .values import (Answer, Claim, Clear, DropHeld, Entry, Failed, Give, Got, Out, Refused, Rest, Setting, Take, Unclaim, UseHeld)
+from .values import (Answer, Claim, Clear, DropHeld, Entry, Failed, Give, Got, Kept, Out, Pin, Refused, Rest, Setting, Take, Unclaim, UseHeld)
 
 
 class Illegal(Exception):
@@ -21,7 +21,7 @@ def names_its_parts(e: Entry) -> bool:
         return e.space == w.call.space
     if isinstance(w, (Out, Failed)):
         return on_space and not e.frames
-    if isinstance(w, (Take, Give, Clear, UseHeld, Unclaim)):
+    if isinstance(w, (Take, Give, Clear, Pin, Kept, UseHeld, Unclaim)):
         return on_space and e.frames
     if isinstance(w, Claim):
         return e.frames and on_space == (w.need is not None)
@@ -91,6 +91,7 @@ def broken_law(pager: Pager, before: Frames, e: Entry) -> Optional[str]:
         'frames': is_partition(pager.frames) and keeps_frames(pager.frames),
         'owners': all(owns(pager.frames, c, p) for c, p in enumerate(pager.progress)),
         'agreement': agrees(pager),
+        'wires': keeps_wires(pager),
         'rest': not pager.is_whole() or not (pager.frames.held or pager.frames.refusal().claimed),
         'preemptions': preempts_oldest(before, pager.frames, e),
     }
@@ -115,9 +116,9 @@ def is_oldest(state: Frames, r: Reservation) -> bool:
 
 
 def keeps_copies(space: Space) -> bool:
-    """A page that isn't dirty equals its copy, which is known; and a dirty page is resident, unless its region is being unmapped.
+    """A page that isn't dirty equals its copy, which is known; and a dirty page is resident, unless it was just cleared.
     (Laws.antt: KeepsCopies)"""
-    flat, cleared = space.flat, space.cleared
+    flat, cleared = space.flat, space.begun if isinstance(space.begun, Clear) else None
 
     def words(kept) -> dict:
         return {i: word for i, word in kept.items() if word}
@@ -164,3 +165,21 @@ def agrees(pager: Pager) -> bool:
     """Spaces and frames agree on which page has which frame. (Agreement.antt)"""
     resident = {(s, page): frame for s, space in enumerate(pager.spaces) for page, frame in space.base.items()}
     return resident == pager.frames.used_pages()
+
+
+def keeps_wires(pager: Pager) -> bool:
+    """A used place is wired exactly where its page's region is, or as a pinning says whose call isn't answered yet; and none is both wired and
+    claimed. (Laws.antt: KeepsWires)"""
+    used = pager.frames.used
+    pages = pager.frames.used_pages().items()
+    wired = all(used[frame].wired == is_wired(pager.spaces[s], page) for (s, page), frame in pages)
+    return wired and not any(u.wired and u.claim is not None for u in used.values())
+
+
+def is_wired(space: Space, page: int) -> bool:
+    """The page's region is wired, or is to be by the pinning that has the page. (Laws.antt: is_wired_by)"""
+    begun = space.begun
+    if isinstance(begun, Pin) and begun.first <= page < begun.first + begun.length:
+        return begun.wired
+    region = space.flat.region_at(page)
+    return region is not None and region.wired

@@ -11,8 +11,9 @@ from .flat import Words
 from .legal import Pager
 from .showing import rows_of
 from .spaces import Space, hit_and_size
-from .values import (DONE, NO_MEMORY, WRITTEN, Answer, Call, Claim, Clear, DropHeld, Entry, Evict, Failed, Give, Got, Need, Out, Refused, Reply,
-                     Rest, Store, Sync, Take, Trace, Unclaim, Unmap, UseHeld, What, is_access, page_of_call, setting_of, word_of)
+from .values import (DONE, NO_MEMORY, WRITTEN, Answer, Call, Claim, Clear, Discard, DropHeld, Entry, Evict, Failed, Give, Got, Kept, Need, Out, Pin,
+                     Refused, Reply, Rest, Store, Sync, Take, Trace, Unclaim, Unmap, Unwire, UseHeld, What, Wire, is_access, page_of_call, setting_of,
+                     word_of)
 
 
 class Failing(NamedTuple):
@@ -92,6 +93,7 @@ class Flight:
         self.fault: Tuple[int, int] = (0, 0)
         self.refused: Optional[Refused] = None
         self.cleared: Optional[Clear] = None
+        self.claimed: Tuple[int, int] = (0, 0)
         self.copied: Optional[Reply] = None
         self.frame = 0
         self.evictions = 0
@@ -170,7 +172,7 @@ class Machine:
         return self.pager.spaces[flight.space]
 
     def step_start(self, flight: Flight) -> None:
-        """An answer without a frame; or what the call needs first: a frame, a clearing, or that its page is copied."""
+        """An answer without a frame; or what the call needs first: a frame, a clearing, a pinning, or that its page is copied."""
         space, call = self.own_space(flight), flight.call
         flight.keeps = flight.space
         asked = flats.reply_of(space.flat, call)
@@ -180,13 +182,22 @@ class Machine:
             flight.phase = 'Frame'
         elif is_access(call):
             self.answer(flight, self.served(flight))
-        elif isinstance(call, Unmap):
-            region = space.flat.region_at(call.page)
-            flight.cleared, flight.phase = Clear(region.first, region.length), 'Clear'
+        elif isinstance(call, (Unmap, Discard)):
+            flight.cleared, flight.phase = Clear(*self.range_of(flight)), 'Clear'
+        elif isinstance(call, (Wire, Unwire)):
+            flight.phase = 'Pin'
         elif isinstance(call, (Sync, Evict)):
             self.copy(flight, asked)
         else:
             self.answer(flight, asked)
+
+    def range_of(self, flight: Flight) -> Tuple[int, int]:
+        """What the call is of: a discard's own range, and else the region of its page."""
+        call = flight.call
+        if isinstance(call, Discard):
+            return call.page, call.length
+        region = self.own_space(flight).flat.region_at(call.page)
+        return region.first, region.length
 
     def copy(self, flight: Flight, asked: Reply) -> None:
         """A sync or an evict: the page is written where it was dirty, and then gives its frame up to an evict."""
@@ -209,15 +220,31 @@ class Machine:
         del self.content[flight.space][flight.call.page]
 
     def step_clear(self, flight: Flight) -> None:
-        """The region's pages give their frames up, ascending."""
+        """The range's pages give their frames up, ascending."""
         self.add(flight, flight.space, True, flight.cleared)
         first, end = flight.cleared.first, flight.cleared.first + flight.cleared.length
         self.content[flight.space] = {p: words for p, words in self.content[flight.space].items() if not first <= p < end}
         flight.phase = 'Gone'
 
+    def step_pin(self, flight: Flight) -> None:
+        """The region's used places get the wired flag; or a wire is kept from it by the lowest that is claimed."""
+        extent, wired = self.range_of(flight), isinstance(flight.call, Wire)
+        claimed = fr.lowest_claimed(self.pager.frames, flight.space, *extent)
+        if wired and claimed:
+            flight.claimed, flight.phase = claimed, 'Busy'
+            self.add(flight, flight.space, True, Kept(*extent, *claimed))
+        else:
+            self.add(flight, flight.space, True, Pin(*extent, wired))
+            flight.phase = 'Gone'
+
+    def step_busy(self, flight: Flight) -> None:
+        """The page whose frame is claimed."""
+        self.answer(flight, ('busy', flight.claimed[0]))
+
     def step_gone(self, flight: Flight) -> None:
-        """The unmap is done."""
-        self.stores[flight.space].drop(flight.cleared.first, flight.cleared.length)
+        """The unmap, discard, wire or unwire is done. What was cleared has no copies any more."""
+        if flight.cleared:
+            self.stores[flight.space].drop(flight.cleared.first, flight.cleared.length)
         self.answer(flight, DONE)
 
     def step_frame(self, flight: Flight) -> None:

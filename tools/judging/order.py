@@ -2,8 +2,8 @@
 space's lock belongs to it (Order.antt, Locks.antt)."""
 from typing import Callable, Dict, NamedTuple, Optional, Union
 
-from .values import (DONE, NO_MEMORY, UNMAPPED, Answer, Call, Claim, Clear, DropHeld, Entry, Evict, Failed, Give, Got, Out, Refused, Reply,
-                     Rest, Store, Sync, Take, Unclaim, Unmap, UseHeld, is_access, page_of, value)
+from .values import (DENIED, DONE, NO_MEMORY, UNMAPPED, WANTS, Answer, Call, Claim, Clear, Discard, DropHeld, Entry, Evict, Failed, Give, Got, Kept, Out,
+                     Pin, Refused, Reply, Rest, Store, Sync, Take, Unclaim, Unmap, Unwire, UseHeld, Wire, is_access, page_of, value)
 
 
 @value
@@ -37,10 +37,10 @@ class Place:
     victim: Optional[Victim] = None
     space: int = 0
     page: int = 0
-    length: int = 0
     frame: int = 0
     count: int = 0
     refused: Optional[Refused] = None
+    range: Union[Clear, Pin, Kept, None] = None
 
 
 IDLE = Place('Idle')
@@ -64,14 +64,16 @@ def is_whole(mark: int, p: Progress) -> bool:
 
 def is_plain(reply: Reply) -> bool:
     """The reply needs no other entry of the call before it. (Order.antt)"""
-    return reply[0] not in ('noframes', 'storefault', 'nomemory')
+    return reply[0] not in WANTS
 
 
 def is_answered_alone(call: Call, reply: Reply) -> bool:
-    """One entry answers the call: an unmap only where no region has its page, and want of memory comes only to those that write a copy.
-    (Order.antt)"""
-    if isinstance(call, Unmap):
+    """One entry answers the call: an unmap or a wire only where no region has its page, a discard or an unwire where it is denied too, and want
+    of memory comes only to those that write a copy. (Order.antt)"""
+    if isinstance(call, (Unmap, Wire)):
         return reply == UNMAPPED
+    if isinstance(call, (Discard, Unwire)):
+        return reply in (UNMAPPED, DENIED)
     return is_plain(reply) or (isinstance(call, (Sync, Evict)) and reply == NO_MEMORY)
 
 
@@ -89,14 +91,29 @@ ENDS_ACCESS: Dict[str, Callable[[Place, Reply], bool]] = {
 }
 
 
+# The reply that ends a call whose range was cleared or pinned, or kept from being pinned.
+ENDS_RANGE: Dict[str, Callable[[Place], Reply]] = {
+    'Cleared': lambda place: DONE,
+    'Pinned': lambda place: DONE,
+    'Blocked': lambda place: ('busy', place.range.page),
+}
+
+
+def is_of_range(w: Union[Clear, Pin, Kept], call: Call) -> bool:
+    """What was done to a range is of this call: an unmap's or a wire's range has its page, and a discard's is its own. (Order.antt)"""
+    if isinstance(w, Clear) and isinstance(call, Discard):
+        return (call.page, call.length) == (w.first, w.length)
+    kind = Unmap if isinstance(w, Clear) else Unwire if isinstance(w, Pin) and not w.wired else Wire
+    return isinstance(call, kind) and w.first <= call.page < w.first + w.length
+
+
 def may_answer(place: Place, call: Call, reply: Reply) -> bool:
     """The answer ends the call at its processor's place. (Order.antt)"""
     name = place.name
     if name == 'Idle':
         return is_answered_alone(call, reply)
-    if name == 'Cleared':
-        in_range = isinstance(call, Unmap) and call.space == place.space and place.page <= call.page < place.page + place.length
-        return in_range and reply == DONE
+    if name in ENDS_RANGE:
+        return call.space == place.space and reply == ENDS_RANGE[name](place) and is_of_range(place.range, call)
     if name == 'Uncopied':
         is_copying = isinstance(call, (Sync, Evict)) and (call.space, call.page) == (place.space, place.page)
         return is_copying and reply == ('storefault', place.space, place.count)
@@ -109,8 +126,8 @@ def begun(space: Optional[int], w) -> Optional[Place]:
     """Where the first entry of a call leads, where it isn't the answer. (Order.antt)"""
     if isinstance(w, Take):
         return Place('Filling', Access(space, w.page, None), frame=w.frame)
-    if isinstance(w, Clear):
-        return Place('Cleared', space=space, page=w.first, length=w.length)
+    if isinstance(w, (Clear, Pin, Kept)):
+        return Place({Clear: 'Cleared', Pin: 'Pinned', Kept: 'Blocked'}[type(w)], space=space, range=w)
     if isinstance(w, Failed) and w.writing:
         return Place('Uncopied', space=space, page=w.page, count=w.count)
     if isinstance(w, Refused):

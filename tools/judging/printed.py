@@ -3,7 +3,8 @@ from typing import Callable, Dict, List, Optional, Sequence, Tuple
 
 from .legal import Pager
 from .trace_text import number_of
-from .values import (Answer, Claim, Clear, DropHeld, Entry, Failed, Give, Got, Need, Out, Refused, Rest, Take, Trace, Unclaim, UseHeld, Want, What)
+from .values import (Answer, Claim, Clear, DropHeld, Entry, Failed, Give, Got, Kept, Need, Out, Pin, Refused, Rest, Take, Trace, Unclaim, UseHeld, Want,
+                     What)
 
 
 class BadLine(Exception):
@@ -31,7 +32,9 @@ def what_words(w: What) -> List[object]:
         return ['claim', w.space, w.page, w.frame, *need]
     if isinstance(w, Rest):
         return ['rest', int(w.short)]
-    names = {Give: 'give', Clear: 'clear', DropHeld: 'drop', Got: 'got', Unclaim: 'unclaim', Refused: 'refused'}
+    if isinstance(w, Pin):
+        return ['pin', w.first, w.length, int(w.wired)]
+    names = {Give: 'give', Clear: 'clear', Kept: 'kept', DropHeld: 'drop', Got: 'got', Unclaim: 'unclaim', Refused: 'refused'}
     return [names[type(w)], *vars(w).values()]
 
 
@@ -128,6 +131,8 @@ READERS: Dict[str, Callable[[Words], What]] = {
     'use': lambda words: UseHeld(words.number(), words.number(), read_want(words)),
     'give': lambda words: Give(words.number(), words.number()),
     'clear': lambda words: Clear(words.number(), words.number()),
+    'pin': lambda words: Pin(words.number(), words.number(), read_flag(words)),
+    'kept': lambda words: Kept(words.number(), words.number(), words.number(), words.number()),
     'claim': read_claim,
     'drop': lambda words: DropHeld(words.number()),
     'got': lambda words: Got(words.number()),
@@ -137,7 +142,7 @@ READERS: Dict[str, Callable[[Words], What]] = {
 }
 # The replies, with how many numbers each has.
 REPLIES = {'done': 0, 'value': 1, 'clean': 0, 'written': 0, 'unmapped': 0, 'denied': 0, 'overlap': 0, 'outofspace': 0, 'notgrowing': 0,
-           'regionsfull': 0, 'noframes': 3, 'storefault': 2, 'nomemory': 0}
+           'regionsfull': 0, 'noframes': 3, 'storefault': 2, 'nomemory': 0, 'busy': 1}
 
 
 def read_answer(words: Words, calls: list) -> Answer:

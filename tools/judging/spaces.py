@@ -1,11 +1,12 @@
 """What a space's list of entries leads to, and which entries a space in that state allows (SpaceStates.antt)."""
-from typing import Dict, Optional, Set, Tuple
+from typing import Dict, Optional, Set, Tuple, Union
 
 from . import flat as flats
 from .flat import Flat
 from .tiles import Tiles, tile_of
-from .values import (DONE, LAST_COUNT, NO_MEMORY, WANTS, WRITTEN, Answer, Call, Claim, Clear, Entry, Evict, Failed, Give, Load, Out, Protect, Reply,
-                     Sizes, Store, Sync, Take, Unclaim, Unmap, UseHeld, has_size, is_access, page_of, page_of_call, word_of)
+from .values import (DONE, LAST_COUNT, NO_MEMORY, WANTS, WRITTEN, Answer, Call, Claim, Clear, Discard, Entry, Evict, Failed, Give, Kept, Load, Out, Pin,
+                     Protect, Reply, Sizes, Store, Sync, Take, Unclaim, Unmap, Unwire, UseHeld, Wire, has_size, is_access, page_of, page_of_call,
+                     word_of)
 
 
 class Space:
@@ -15,9 +16,9 @@ class Space:
     def __init__(self, sizes: Sizes, told: bool, faults: int):
         self.flat = Flat()
         self.base: Dict[int, int] = {}
-        # The processor that makes the next entry, where it isn't anyone, and the range that it just cleared.
+        # The processor that makes the next entry, where it isn't anyone, and what it just did to a range, which its answer ends.
         self.only: Optional[int] = None
-        self.cleared: Optional[Clear] = None
+        self.begun: Union[Clear, Pin, None] = None
         self.told = told
         # Of each page, each word: what the latest answer on it said since the page was filled.
         self.tied: Dict[int, Dict[int, int]] = {}
@@ -32,7 +33,7 @@ class Space:
         """The state becomes the one after the entry. (SpaceStates.antt: space_after)"""
         w = e.what
         touched = self.change(e)
-        self.only, self.cleared = next_after(e)
+        self.only, self.begun = next_after(e)
         if isinstance(w, Failed):
             self.highest = max(self.highest, w.count)
         self.tiles.settle(self.flat, self.base, touched)
@@ -62,8 +63,9 @@ class Space:
         return {w.page} if isinstance(w, (Take, UseHeld, Give, Out)) else set()
 
     def answered(self, frames: bool, w: Answer) -> Set[int]:
-        """An answer for want of a frame, of a store or of memory changes nothing, and any other does what its call does; that of an evict
-        which names the frames gives its page's frame up. (SpaceStates.antt: answered_flat, base_after_answer, tied_after)"""
+        """An answer for want of a frame, of a store or of memory changes nothing, nor does one that a frame is claimed, and any other does
+        what its call does; that of an evict which names the frames gives its page's frame up. (SpaceStates.antt: answered_flat,
+        base_after_answer, tied_after)"""
         if w.reply[0] in WANTS:
             return set()
         call = w.call
@@ -78,13 +80,14 @@ class Space:
         return {page_of_call(call)} if isinstance(call, (Store, Sync, Evict)) else set()
 
 
-def next_after(e: Entry) -> Tuple[Optional[int], Optional[Clear]]:
-    """Who makes the next entry of a space: after a taking, a paging out and a failed read the same processor, and after a clearing that
-    processor's unmap of the range; after any other entry anyone. (SpaceStates.antt: next_after)"""
+def next_after(e: Entry) -> Tuple[Optional[int], Union[Clear, Pin, None]]:
+    """Who makes the next entry of a space: after a taking, a paging out, a failed read and a claimed frame that keeps a region from being wired
+    the same processor, after a clearing that processor's unmap or discard of the range, and after a pinning its wire or unwire; after any
+    other entry anyone. (SpaceStates.antt: next_after)"""
     w = e.what
-    if isinstance(w, Clear):
+    if isinstance(w, (Clear, Pin)):
         return e.processor, w
-    goes_on = isinstance(w, (Take, UseHeld, Out)) or (isinstance(w, Failed) and not w.writing)
+    goes_on = isinstance(w, (Take, UseHeld, Out, Kept)) or (isinstance(w, Failed) and not w.writing)
     return (e.processor if goes_on else None), None
 
 
@@ -93,10 +96,16 @@ def may_go_on(space: Space, e: Entry) -> bool:
     w = e.what
     if space.only not in (None, e.processor):
         return False
-    if space.cleared is None:
-        return True
-    is_unmap = isinstance(w, Answer) and isinstance(w.call, Unmap) and w.reply == DONE
-    return is_unmap and space.cleared.first <= w.call.page < space.cleared.first + space.cleared.length
+    return space.begun is None or (isinstance(w, Answer) and w.reply == DONE and is_begun(space.begun, w.call))
+
+
+def is_begun(begun: Union[Clear, Pin], call: Call) -> bool:
+    """The range was cleared for the call, which is an unmap of one of its pages or a discard of the range; or it was pinned for it, which is a
+    wire or an unwire of one of its pages. (SpaceStates.antt: IsClearingOf, IsPinningOf)"""
+    if isinstance(begun, Clear) and isinstance(call, Discard):
+        return begun == Clear(call.page, call.length)
+    kind = Unmap if isinstance(begun, Clear) else Wire if begun.wired else Unwire
+    return isinstance(call, kind) and begun.first <= call.page < begun.first + begun.length
 
 
 def wrong_with(space: Space, e: Entry) -> Optional[str]:
@@ -110,9 +119,8 @@ def wrong_with(space: Space, e: Entry) -> Optional[str]:
         fine = w.page not in base and w.want == flats.wanted(flat, w.page)
     elif isinstance(w, Give):
         fine = base.get(w.page) == w.frame and w.page not in flat.dirty
-    elif isinstance(w, Clear):
-        region = flat.region_at(w.first)
-        fine = region is not None and (region.first, region.length) == (w.first, w.length)
+    elif isinstance(w, (Clear, Pin, Kept)):
+        fine = has_its_range(flat.region_at(w.first), w)
     elif isinstance(w, Out):
         fine = w.page in base and w.written == (w.page in flat.dirty)
     elif isinstance(w, Failed):
@@ -123,6 +131,17 @@ def wrong_with(space: Space, e: Entry) -> Optional[str]:
     else:
         fine = isinstance(w, Claim) and is_needed(space, w)
     return None if fine else 'the space is in no state for it'
+
+
+def has_its_range(region: Optional[flats.Region], w: Union[Clear, Pin, Kept]) -> bool:
+    """What is cleared lies in the region of its first page; what is pinned, or kept from it, is a region, whose kind isn't wired where the flag
+    is taken from it. (SpaceStates.antt: WhatAllowed)"""
+    if region is None:
+        return False
+    if isinstance(w, Clear):
+        return w.first + w.length <= region.end
+    unwired = isinstance(w, Pin) and not w.wired
+    return (region.first, region.length) == (w.first, w.length) and not (unwired and region.kind == 'wired')
 
 
 def is_needed(space: Space, w: Claim) -> bool:
@@ -162,12 +181,15 @@ def hit_and_size(space: Space, processor: int, call: Call, reply: Reply) -> Tupl
 
 def reply_allowed(space: Space, processor: int, call: Call, reply: Reply) -> bool:
     """A space allows: that no frame can be had, where the access is lawful and its page isn't resident; a fault or want of memory, where it
-    may come; and any other reply where the flat memory gives it and the call finds its pages. (SpaceStates.antt: ReplyAllowed)"""
+    may come; that a frame is claimed; and any other reply where the flat memory gives it and the call finds its pages.
+    (SpaceStates.antt: ReplyAllowed)"""
     asked = flats.reply_of(space.flat, call)
     if reply[0] == 'noframes':
         return flats.is_lawful(asked) and is_access(call) and page_of(call.address) not in space.base
     if reply[0] == 'storefault' or reply == NO_MEMORY:
         return is_access(call) or (isinstance(call, (Sync, Evict)) and asked == WRITTEN)
+    if reply[0] == 'busy':
+        return True
     return is_asked(space, call, asked, reply) and (not flats.is_lawful(reply) or has_its_pages(space, processor, call))
 
 
@@ -181,12 +203,16 @@ def is_asked(space: Space, call: Call, asked: Reply, reply: Reply) -> bool:
 
 
 def has_its_pages(space: Space, processor: int, call: Call) -> bool:
-    """The page of an access is resident, and the region of an unmap was cleared just before by its processor.
-    (SpaceStates.antt: HasItsPages)"""
+    """The page of an access is resident, no page of a discarded range is, and the region of an unmap was cleared just before by its processor,
+    as that of a wire or unwire was pinned. (SpaceStates.antt: HasItsPages)"""
     if is_access(call):
         return page_of(call.address) in space.base
-    if not isinstance(call, Unmap):
+    if isinstance(call, Discard):
+        return not space.resident_in(call.page, call.length)
+    if not isinstance(call, (Unmap, Wire, Unwire)):
         return True
     region = space.flat.region_at(call.page)
-    cleared = space.only == processor and space.cleared == Clear(region.first, region.length)
-    return cleared and not space.resident_in(region.first, region.length)
+    extent = region.first, region.length
+    just_before = Clear(*extent) if isinstance(call, Unmap) else Pin(*extent, isinstance(call, Wire))
+    is_absent = not isinstance(call, Unmap) or not space.resident_in(*extent)
+    return space.only == processor and space.begun == just_before and is_absent

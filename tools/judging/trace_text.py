@@ -2,8 +2,8 @@
 crates/trace_lines/specs/Forms.antt)."""
 from typing import Callable, List, Optional, Sequence, Tuple, Union
 
-from .values import (ALL_SIZES, LAST_COUNT, MOST_BYTES, MOST_CALLS, SPACE_PAGES, Call, Daemon, Evict, Grow, Line, Load, Map, Protect, Sizes, Store,
-                     Sync, Trace, Unmap)
+from .values import (ALL_SIZES, LAST_COUNT, MOST_BYTES, MOST_CALLS, SPACE_PAGES, Call, Daemon, Discard, Evict, Grow, Line, Load, Map, Protect, Sizes,
+                     Store, Sync, Trace, Unmap, Unwire, Wire)
 
 # A place of a form is a word, one of some words, or a number with its range.
 Place = Union[bytes, Sequence[bytes], Callable[[int], bool]]
@@ -14,7 +14,8 @@ RIGHTS = (b'none', b'read', b'write')
 # The words of page sizes: the digits of their levels, ascending.
 SIZE_SETS = (b'0', b'01', b'02', b'03', b'012', b'013', b'023', b'0123')
 LAST_ADDRESS = SPACE_PAGES * 8192 - 8
-CALLS = {b'map': Map, b'grow': Grow, b'unmap': Unmap, b'protect': Protect, b'load': Load, b'store': Store, b'sync': Sync, b'evict': Evict}
+CALLS = {b'map': Map, b'grow': Grow, b'unmap': Unmap, b'protect': Protect, b'load': Load, b'store': Store, b'sync': Sync, b'evict': Evict,
+         b'discard': Discard, b'wire': Wire, b'unwire': Unwire}
 
 
 class Refusal(Exception):
@@ -30,18 +31,19 @@ ADDRESS: Place = lambda n: n % 8 == 0 and n <= LAST_ADDRESS
 PAGE: Place = between(0, SPACE_PAGES - 1)
 LENGTH: Place = between(1, SPACE_PAGES)
 SIXTEEN: Place = between(1, 16)
-# Version 1 has all four page sizes, and version 2 names its own.
-FIRSTS: List[Form] = [[b'trace', between(1, 1), FRAMES, SIXTEEN, SIXTEEN], [b'trace', between(2, 2), FRAMES, SIXTEEN, SIXTEEN, SIZE_SETS]]
+# Version 1 has all four page sizes, and versions 2 and 3 name their own.
+FIRSTS: List[Form] = [[b'trace', between(1, 1), FRAMES, SIXTEEN, SIXTEEN], [b'trace', between(2, 3), FRAMES, SIXTEEN, SIXTEEN, SIZE_SETS]]
 DAEMON: Form = [b'daemon', between(1, 64), between(1, 4096)]
 END: Form = [b'end']
 
 
-def call_forms(processors: int, spaces: int) -> List[Form]:
-    """The forms of a call's line. (Forms.antt)"""
+def call_forms(version: int, processors: int, spaces: int) -> List[Form]:
+    """The forms of a call's line in a trace of this version. (Forms.antt)"""
     c, s = between(0, processors - 1), between(0, spaces - 1)
+    later = [[c, b'discard', s, PAGE, LENGTH], [c, b'wire', s, PAGE], [c, b'unwire', s, PAGE]]
     return [[c, b'map', s, PAGE, LENGTH, KINDS, RIGHTS], [c, b'grow', s, PAGE, LENGTH], [c, b'unmap', s, PAGE],
             [c, b'protect', s, PAGE, LENGTH, RIGHTS], [c, b'load', s, ADDRESS], [c, b'store', s, ADDRESS, between(0, LAST_COUNT)],
-            [c, b'sync', s, PAGE], [c, b'evict', s, PAGE]]
+            [c, b'sync', s, PAGE], [c, b'evict', s, PAGE], *(later if version >= 3 else [])]
 
 
 def number_of(word: bytes) -> Optional[int]:
@@ -87,8 +89,8 @@ def trace_of(text: bytes) -> Trace:
     words = lines[0].split(b' ')
     refuse(1, cause_of(words, FIRSTS))
     version, frames, processors, spaces = map(int, words[1:5])
-    sizes = sizes_of(words[5].decode()) if version == 2 else ALL_SIZES
-    forms = call_forms(processors, spaces)
+    sizes = ALL_SIZES if version == 1 else sizes_of(words[5].decode())
+    forms = call_forms(version, processors, spaces)
     daemon, first = daemon_of(lines)
     last = end_behind(lines, first, forms)
     if len(lines) > last + 1 or rest:

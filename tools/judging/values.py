@@ -23,8 +23,8 @@ WRITTEN: Reply = ('written',)
 UNMAPPED: Reply = ('unmapped',)
 DENIED: Reply = ('denied',)
 NO_MEMORY: Reply = ('nomemory',)
-# The replies for want of a frame, of a store or of memory, which change nothing.
-WANTS = ('noframes', 'storefault', 'nomemory')
+# The replies for want of a frame, of a store or of memory, or because a frame is claimed, which change nothing.
+WANTS = ('noframes', 'storefault', 'nomemory', 'busy')
 
 value = dataclass(frozen=True)
 
@@ -94,7 +94,26 @@ class Evict:
     page: int
 
 
-Call = Union[Map, Grow, Unmap, Protect, Load, Store, Sync, Evict]
+@value
+class Discard:
+    space: int
+    page: int
+    length: int
+
+
+@value
+class Wire:
+    space: int
+    page: int
+
+
+@value
+class Unwire:
+    space: int
+    page: int
+
+
+Call = Union[Map, Grow, Unmap, Protect, Load, Store, Sync, Evict, Discard, Wire, Unwire]
 
 
 def page_of(address: int) -> int:
@@ -189,6 +208,21 @@ class Clear:
 
 
 @value
+class Pin:
+    first: int
+    length: int
+    wired: bool
+
+
+@value
+class Kept:
+    first: int
+    length: int
+    page: int
+    frame: int
+
+
+@value
 class Claim:
     space: int
     page: int
@@ -230,7 +264,7 @@ class Rest:
     short: bool
 
 
-What = Union[Answer, Out, Failed, Take, Give, Clear, Claim, UseHeld, DropHeld, Got, Unclaim, Refused, Rest]
+What = Union[Answer, Out, Failed, Take, Give, Clear, Pin, Kept, Claim, UseHeld, DropHeld, Got, Unclaim, Refused, Rest]
 
 
 @value

@@ -24,12 +24,17 @@ SYSTEM_CALL = b'SYSCALL['
 # A message of Valgrind's, and that by which lackey ends: without it the program was still running, or Valgrind was killed.
 MESSAGE = b'=='
 EXIT = re.compile(rb'==[0-9]+== Exit code: +[0-9]+\r?\n')
-CHANGE = re.compile(rb'SYSCALL\[[0-9]+,[0-9]+\]\([^)]*\) sys_(mmap2?|munmap|mprotect|mremap|brk) \( ([0-9a-fx, ]{1,200}) \)'
+CHANGE = re.compile(rb'SYSCALL\[[0-9]+,[0-9]+\]\([^)]*\) sys_(mmap2?|munmap|mprotect|mremap|brk|madvise|mlock2?|munlock) \( ([0-9a-fx, ]{1,200}) \)'
                     rb'(?:\[sync\] -->| --> \[pre-success\]) Success\(0x([0-9a-f]{1,16})\)')
+# A call that may wait is told twice: what its thread asks, and in a later line of the same thread what came of it.
+BEGUN = re.compile(rb'SYSCALL\[([0-9]+,[0-9]+)\]\([^)]*\) sys_(madvise|mlock2?|munlock) \( ([0-9a-fx, ]{1,200}) \) --> \[async\]')
+ENDED = re.compile(rb'SYSCALL\[([0-9]+,[0-9]+)\]\([^)]*\) \.\.\. \[async\] --> (?:Success\(0x([0-9a-f]{1,16})\))?')
 
 # Rights: none, to read, and to write; and those that nothing tells.
 NONE, READ, WRITE, GUESSED = range(4)
-MAP, UNMAP, PROTECT, GROW = range(4)
+MAP, UNMAP, PROTECT, GROW, DISCARD, LOCK, UNLOCK = range(7)
+# The advice by which a program gives up what pages hold.
+DONTNEED = 4
 
 
 class Change(NamedTuple):
@@ -91,6 +96,8 @@ class Changes:
         self.made: List[Change] = []
         # Where the heap ends, at the most; nothing before a call of brk told it.
         self.top: Optional[int] = None
+        # By thread the name and the words of a call that has begun.
+        self.begun: Dict[bytes, Tuple[bytes, bytes]] = {}
 
     def add(self, at: int, kind: int, first: int, end: int, rights: int) -> None:
         """Adds a change, where it is of any page."""
@@ -100,7 +107,7 @@ class Changes:
 
     def rights_at(self, address: int) -> int:
         """The rights that were given last at an address."""
-        gave = (change.rights for change in reversed(self.made) if change.kind != UNMAP and change.first <= address < change.end)
+        gave = (change.rights for change in reversed(self.made) if change.kind in (MAP, PROTECT, GROW) and change.first <= address < change.end)
         return next(gave, WRITE)
 
     def take(self, at: int, name: bytes, words: List[int], result: int) -> None:
@@ -115,6 +122,10 @@ class Changes:
             self.add(at, UNMAP, words[0], words[0] + words[1], NONE)
         elif name == b'mprotect':
             self.add(at, PROTECT, words[0], words[0] + words[1], rights_of(words[2]))
+        elif name in (b'mlock', b'mlock2', b'munlock'):
+            self.add(at, UNLOCK if name == b'munlock' else LOCK, words[0], words[0] + words[1], NONE)
+        elif name == b'madvise':
+            self.advise(at, words[0], words[0] + words[1], words[2])
         else:
             self.move(at, words[0], rounded(words[1]), result, rounded(words[2]))
 
@@ -125,17 +136,31 @@ class Changes:
         self.add(at, UNMAP, old + stays, old + old_length, NONE)
         self.add(at, MAP, new + stays, new + new_length, rights)
 
+    def advise(self, at: int, first: int, end: int, advice: int) -> None:
+        """Takes a call of madvise: a page whose two halves are given up is discarded."""
+        if advice == DONTNEED:
+            self.add(at, DISCARD, -(-first // PAGE) * PAGE, rounded(end) // PAGE * PAGE, NONE)
+
     def read(self, at: int, line: bytes) -> bytes:
         """Takes the calls in a line, and answers what stands behind them: another thread's access may."""
         for name, words, result in CHANGE.findall(line):
-            numbers = numbers_of(words)
-            if numbers is not None and len(numbers) >= WORDS[name]:
-                self.take(at, name, numbers, int(result, 16))
+            self.told(at, name, words, result)
+        for thread, result in ENDED.findall(line):
+            name, words = self.begun.pop(thread, (b'', b''))
+            if name and result:
+                self.told(at, name, words, result)
+        self.begun.update((thread, (name, words)) for thread, name, words in BEGUN.findall(line))
         return line.rpartition(b') ')[2]
+
+    def told(self, at: int, name: bytes, words: bytes, result: bytes) -> None:
+        """Takes a call that was done, where its words are numbers, and enough."""
+        numbers = numbers_of(words)
+        if numbers is not None and len(numbers) >= WORDS[name]:
+            self.take(at, name, numbers, int(result, 16))
 
 
 # How many words of a call are looked at.
-WORDS = {b'brk': 1, b'mmap': 3, b'mmap2': 3, b'munmap': 2, b'mprotect': 3, b'mremap': 3}
+WORDS = {b'brk': 1, b'mmap': 3, b'mmap2': 3, b'munmap': 2, b'mprotect': 3, b'mremap': 3, b'madvise': 3, b'mlock': 2, b'mlock2': 2, b'munlock': 2}
 
 
 def numbers_of(words: bytes) -> Optional[List[int]]:

@@ -1,8 +1,8 @@
 """Follows the changes of regions: when each page is mapped and with which rights, and what accesses need."""
 from bisect import bisect_right
-from typing import Dict, List, NamedTuple, Optional
+from typing import Dict, List, NamedTuple, Optional, Tuple
 
-from lackey.lines import GROW, GUESSED, NONE, PAGE, PROTECT, READ, SMALL, UNMAP, WRITE, Access, Change
+from lackey.lines import DISCARD, GROW, GUESSED, LOCK, NONE, PAGE, PROTECT, READ, SMALL, UNLOCK, UNMAP, WRITE, Access, Change
 
 # The time before the first change; times are the numbers of changes, from 0 on.
 START = -1
@@ -26,6 +26,8 @@ class Life:
         self.grows = grows
         self.touched = False
         self.since = [Since(birth, rights, NONE)]
+        # When its pages are locked in memory (true) or unlocked.
+        self.locks: List[Tuple[int, bool]] = []
 
     def turn(self, time: int, rights: int) -> None:
         """Has these rights from this time on."""
@@ -60,10 +62,18 @@ class Stretch:
         starts = (self.first * PAGE, self.last * PAGE + SMALL)
         changed = [half for half in (0, 1) if change.first <= starts[half] < change.end]
         present = [half for half in (0, 1) if self.halves[half] != ABSENT]
-        if change.kind == PROTECT:
+        if change.kind in (LOCK, UNLOCK):
+            self.lock(time, change.kind == LOCK)
+        elif change.kind == PROTECT:
             self.protect(time, change.rights, changed, present)
-        else:
+        elif change.kind != DISCARD:
             self.replace(time, change, changed, present)
+
+    def lock(self, time: int, locked: bool) -> None:
+        """Locks or unlocks the pages, also where it is told of one half of a page."""
+        life = self.life()
+        if life is not None:
+            life.locks.append((time, locked))
 
     def replace(self, time: int, change: Change, changed: List[int], present: List[int]) -> None:
         """Maps or unmaps these halves. Pages are others when all that was mapped of them is changed, or the first half is mapped anew."""

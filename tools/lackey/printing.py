@@ -1,9 +1,9 @@
 """Lays the pages out in a space and prints the trace."""
-from typing import Dict, Iterator, List, Optional, Tuple
+from typing import Dict, Iterator, List, NamedTuple, Optional, Set, Tuple
 
-from common import Stopped
+from common import SIZE_SETS, Stopped
 
-from lackey.lines import PAGE, Access, Change
+from lackey.lines import DISCARD, LOCK, PAGE, UNLOCK, Access, Change
 from lackey.regions import Pages, Region, runs
 
 # The pages of the space, and of the largest superpage.
@@ -14,7 +14,7 @@ STRETCH = 100
 
 RIGHTS = ('none', 'read', 'write')
 # The order of calls that one change becomes.
-UNMAPS, MAPS, GROWS, PROTECTS = range(4)
+UNMAPS, MAPS, GROWS, PROTECTS, PINS = range(5)
 # A call: the time and the order in it, the first page, and the words behind the processor.
 Call = Tuple[int, int, int, str]
 
@@ -85,20 +85,46 @@ class Calls:
             yield time, PROTECTS, first, 'protect 0 %d %d %s' % (self.places[first], length, RIGHTS[new])
 
 
-def first_line(frames: int, processors: int, sizes: Optional[str]) -> str:
-    """The first line of the trace: of version 2 where it names its page sizes, and else of version 1."""
-    return 'trace 1 %d %d 1' % (frames, processors) if sizes is None else 'trace 2 %d %d 1 %s' % (frames, processors, sizes)
+class Head(NamedTuple):
+    """What the first line tells: the frames, the processors, and the page sizes, where they are named."""
+    frames: int
+    processors: int
+    sizes: Optional[str]
+
+    def line(self, pins: bool) -> str:
+        """The first line: of version 3 where calls discard or wire, of version 2 where it names its page sizes, and else of version 1."""
+        if pins or self.sizes is not None:
+            return 'trace %d %d %d 1 %s' % (3 if pins else 2, self.frames, self.processors, self.sizes or SIZE_SETS[-1])
+        return 'trace 1 %d %d 1' % (self.frames, self.processors)
 
 
-def trace_of(accesses: List[Access], changes: List[Change], regions: List[Region], first: str, processors: int) -> List[str]:
-    """The lines of the trace, behind this first one: each call of a region before the access that its change came before."""
+def pins_of(regions: List[Region], changes: List[Change], places: Dict[int, int]) -> Iterator[Call]:
+    """The discards, wires and unwires. A region is wired while one of its pages is locked, since they are locked together where a call mapped it.
+    Where it was guessed a discard in it is left out then, since it would be denied."""
+    locked: Set[int] = set()
+    for time, change in enumerate(changes):
+        for number, region in enumerate(regions) if change.kind in (DISCARD, LOCK, UNLOCK) else ():
+            pages = region.pages_at(time, change.first // PAGE, (change.end - 1) // PAGE)
+            if pages is None:
+                continue
+            first, last = (places[page] for page in pages)
+            if change.kind == DISCARD and number not in locked:
+                yield time, PINS, pages[0], 'discard 0 %d %d' % (first, last - first + 1)
+            elif change.kind != DISCARD and (number in locked) != (change.kind == LOCK):
+                locked ^= {number}
+                yield time, PINS, pages[0], '%s 0 %d' % ('wire' if change.kind == LOCK else 'unwire', first)
+
+
+def trace_of(accesses: List[Access], changes: List[Change], regions: List[Region], head: Head) -> List[str]:
+    """The lines of the trace: each call of a region before the access that its change came before."""
     edges = {page for region in regions for pages in region.history for page in pages}
     places = lay_out(sorted(edges.union(page for _, page, _ in accesses)))
-    calls = sorted(call for region in regions for call in Calls(region, places))
+    pins = list(pins_of(regions, changes, places))
+    calls = sorted(pins + [call for region in regions for call in Calls(region, places)])
     waiting = [(0 if time < 0 else changes[time].at, words) for time, _, _, words in reversed(calls)]
-    lines = [first]
+    lines = [head.line(bool(pins))]
     for number, (stores, page, offset) in enumerate(accesses):
-        processor = number // STRETCH % processors
+        processor = number // STRETCH % head.processors
         lines += due(waiting, number, processor)
         address = places[page] * PAGE + offset
         if stores:

@@ -36,6 +36,13 @@ class Region:
         """The rights that the trace gives: those that changes told or that are guessed, and at least those that are needed."""
         return max(self.guess if since.rights == GUESSED else since.rights, since.needed)
 
+    def pages_at(self, time: int, first: int, last: int) -> Optional[Pages]:
+        """The first and the last of its pages that are mapped at this time and lie between these two, where there are such."""
+        if time < self.birth or self.death is not None and self.death <= time or last < self.first or self.last < first:
+            return None
+        inside = [pages for pages, since in self.history.items() if first <= pages[0] and pages[1] <= last and since[0].time <= time]
+        return (inside[0][0], inside[-1][1]) if inside else None
+
     def overlaps(self, other: 'Region') -> bool:
         """Whether the two have a page in common at a time at which both are mapped."""
         return self.first <= other.last and other.first <= self.last and \
@@ -59,15 +66,15 @@ def region_of(pieces: List[Piece], grows: Sequence[Tuple[int, int]] = ()) -> Reg
 
 
 def together(before: Piece, piece: Piece) -> bool:
-    """Whether a piece lies behind another and was mapped and unmapped with it."""
+    """Whether a piece lies behind another, and was mapped and unmapped, locked and unlocked with it."""
     (_, last), one = before
     (first, _), other = piece
-    return last + 1 == first and (one.birth, one.death) == (other.birth, other.death)
+    return last + 1 == first and (one.birth, one.death, one.locks) == (other.birth, other.death, other.locks)
 
 
 def grown(before: Piece, piece: Piece) -> bool:
-    """Whether a piece of the heap lies behind another and was mapped with it or later."""
-    return before[0][1] + 1 == piece[0][0] and before[1].birth <= piece[1].birth
+    """Whether a piece of the heap lies behind another, was mapped with it or later, and locked with it."""
+    return before[0][1] + 1 == piece[0][0] and before[1].birth <= piece[1].birth and before[1].locks == piece[1].locks
 
 
 def told_regions(lives: Lives) -> List[Region]:

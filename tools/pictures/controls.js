@@ -63,7 +63,7 @@ function saidOfFrame(_, frame) {
 function saidOfPage(space, page) {
   const text = `page ${page} of space ${space}: `, tile = tileOf(space, page);
   const region = regions[space].find(([first, length]) => page >= first && page < first + length);
-  if (!tile) return text + (region ? `no frame; in the ${region[2]} region of ${runOf("page", region[0], region[1])}` : "unmapped");
+  if (!tile) return text + (region ? `no frame; in the ${region[4] ? "pinned " : ""}${region[2]} region of ${runOf("page", region[0], region[1])}` : "unmapped");
   const [, size, , dirty, rights] = tile;
   return `${text}frame ${frameOf(space, page)}; its translation has ${data.tiles[size][1]}; ${dirty ? "dirty" : "equal to its copy"}; rights: ${rights}`;
 }

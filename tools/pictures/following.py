@@ -101,8 +101,9 @@ class Follower:
         self.answered = [0] * len(run.calls)
         # What follows an entry of each kind.
         self.made: Dict[str, Callable[[int, int, Optional[int], List[str]], None]] = {
-            'answer': self.answer, 'take': self.take, 'use': self.use, 'give': self.give, 'clear': self.clear, 'out': self.out, 'failed': self.failed,
-            'claim': self.claim, 'got': self.got, 'drop': self.drop, 'unclaim': self.unclaim, 'refused': self.refused, 'rest': self.rest}
+            'answer': self.answer, 'take': self.take, 'use': self.use, 'give': self.give, 'clear': self.clear, 'pin': self.pin, 'kept': self.kept,
+            'out': self.out, 'failed': self.failed, 'claim': self.claim, 'got': self.got, 'drop': self.drop, 'unclaim': self.unclaim,
+            'refused': self.refused, 'rest': self.rest}
         self.begin()
 
     def begin(self) -> None:
@@ -195,7 +196,9 @@ class Follower:
             one.set_dirty(page, False)
         elif name == 'evict' and page in one.frames:
             self.lose(space, page)
-        if name in ('map', 'grow', 'unmap'):
+        elif name in ('wire', 'unwire'):
+            one.pin(page, name == 'wire')
+        if name in ('map', 'grow', 'unmap', 'wire', 'unwire'):
             self.regions[space] = list(one.regions)
 
     def lose(self, space: int, page: int) -> None:
@@ -232,8 +235,23 @@ class Follower:
         for page in pages:
             self.spaces[space].remove(page)
             self.frames.give(space, page)
-        self.meaning.append('The region of %s of space %d is unmapped: %s frames up.' % (
-            words.run_of('page', first, length), space, 'no page has to give' if not pages else words.pages(len(pages)) + ' give their'))
+        self.meaning.append(words.CLEARED[self.calls[c][self.answered[c]].split(' ')[0]] % (
+            words.run_of('page', first, length), space, words.given_up(len(pages))))
+
+    def pin(self, _: int, c: int, space: int, rest: List[str]) -> None:
+        first, length, wired = map(int, rest)
+        pages = self.spaces[space].resident(first, length)
+        for page in pages:
+            self.frames.pin(space, page, wired == 1)
+        with_it = ', and no page of it has a frame' if not pages else words.PINNED[wired] % words.pages(len(pages))
+        self.meaning.append('The region of %s of space %d is %s%s.' % (
+            words.run_of('page', first, length), space, 'wired' if wired else 'wired no longer', with_it))
+
+    def kept(self, _: int, c: int, space: int, rest: List[str]) -> None:
+        first, length, page, frame = map(int, rest)
+        self.page = (space, page)
+        self.meaning.append('The region of %s of space %d is not wired: frame %d, of page %d, is claimed.' % (
+            words.run_of('page', first, length), space, frame, page))
 
     def out(self, _: int, c: int, space: int, rest: List[str]) -> None:
         page = int(rest[0])

@@ -292,6 +292,17 @@ class Frames:
         frame = self.claimed.pop(processor)
         self.paint(frame, 1, coded(USED, space))
 
+    def pin(self, space: int, page: int, wired: bool) -> None:
+        """The frame of the page is wired from now on, or isn't."""
+        r = self.has(space, page)
+        if r is None or not r.used[0][page - r.first]:
+            raise Astray('page %d of space %d is pinned, and has no frame' % (page, space))
+        frame = r.frame + page - r.first
+        if frame in self.claimed.values():
+            raise Astray('page %d of space %d is pinned, and its frame is claimed' % (page, space))
+        (self.wired.add if wired else self.wired.discard)(frame)
+        self.paint(frame, 1, coded(WIRED if wired else USED, space))
+
     def drop(self, processor: int) -> None:
         """The frame that the processor holds becomes free."""
         self.fall_free(self.held.pop(processor), 0)

@@ -8,11 +8,12 @@ BLOCK = pages_of(LARGEST)
 
 
 class Region(NamedTuple):
-    """A region: its first page, its length in pages, its kind and the rights that its pages had first."""
+    """A region: its first page, its length in pages, its kind, the rights that its pages had first, and whether a call pinned it."""
     first: int
     length: int
     kind: str
     rights: str
+    pinned: bool = False
 
     @property
     def end(self) -> int:
@@ -105,6 +106,11 @@ class Space:
         self.regions.remove(region)
         self.rights.fill(region.first, region.end, None)
 
+    def pin(self, page: int, pinned: bool) -> None:
+        """The region of the page is pinned, or isn't any more."""
+        region = self.region_of(page)
+        self.regions[self.regions.index(region)] = region._replace(pinned=pinned)
+
     def protect(self, first: int, length: int, rights: str) -> None:
         """The pages of the range have the rights."""
         self.rights.fill(first, first + length, rights)
@@ -123,7 +129,7 @@ class Space:
         self.look(page)
 
     def remove(self, page: int) -> None:
-        """The page has its frame no longer. It isn't dirty then: what was stored to it was written, or its region goes."""
+        """The page has its frame no longer. It isn't dirty then: what was stored to it was written, or is given up."""
         del self.frames[page]
         self.dirty.discard(page)
         self.look(page)

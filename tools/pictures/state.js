@@ -76,7 +76,7 @@ function entryAt(number) {
 }
 
 // What is drawn, after the entries so far: the code of each frame; reservations by first frame as [size, space, first page, entry of the latest
-// taking, yield]; of each space the tiles by first page, as [size, first frame, dirty, rights], and the regions, as [first, length, kind, rights];
+// taking, yield]; of each space the tiles by first page, as [size, first frame, dirty, rights], and the regions, as [first, length, kind, rights, pinned];
 // by processor and space the first pages of the tiles of an image, the last used first; and the counts.
 const codes = new Uint16Array(data.count);
 const outlines = new Map();

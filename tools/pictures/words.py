@@ -15,7 +15,15 @@ CALLS = {
     'store': 'stores to PAGES',
     'sync': 'wants PAGES to be equal to its copy',
     'evict': 'wants PAGES to give its frame up',
+    'discard': 'gives up what PAGES hold',
+    'wire': 'wants the region of PAGES to keep its frames',
+    'unwire': 'lets the region of PAGES give frames up again',
 }
+
+# What a clearing is for, by its call.
+CLEARED = {'unmap': 'The region of %s of space %d is unmapped: %s.', 'discard': 'What stood in %s of space %d is given up: %s.'}
+# What a pinning says of frames: where it unwires a region, and where it wires one.
+PINNED = (', nor are the frames of %s', ', with the frames of %s')
 
 RIGHTS = {'none': 'without any right', 'read': 'for reading', 'write': 'for reading and writing'}
 
@@ -25,11 +33,12 @@ REPLIES = {
     'overlap': 'another region has a page of the range',
     'regionsfull': 'the space has 64 regions',
     'notgrowing': "the region isn't a growing one",
-    'denied': "the page's rights or the region's kind don't allow it",
+    'denied': "the page's rights don't allow it, or that its region is wired",
     'clean': 'the page was equal to its copy',
     'written': 'the page was written to its copy',
     'noframes': 'no frame could be had',
     'storefault': "the backing store failed",
+    'busy': "another processor claims the frame of this page of the region",
     'nomemory': 'there was no memory to write a page to its copy',
 }
 
@@ -55,7 +64,7 @@ def called(words: List[str]) -> str:
     """What a call asks for."""
     name, space, numbers = words[0], words[1], words[2:]
     page = int(numbers[0]) // (PAGE_BYTES if name in ('load', 'store') else 1)
-    count = int(numbers[1]) if name in ('map', 'protect') else 1
+    count = int(numbers[1]) if name in ('map', 'protect', 'discard') else 1
     asks = CALLS[name].replace('PAGES', '%s of space %s' % (run_of('page', page, count), space))
     if name == 'grow':
         return '%s by %s' % (asks, pages(int(numbers[1])))
@@ -66,6 +75,13 @@ def called(words: List[str]) -> str:
 
 def pages(count: int) -> str:
     return '%d page%s' % (count, '' if count == 1 else 's')
+
+
+def given_up(count: int) -> str:
+    """How many pages give their frames up."""
+    if count == 1:
+        return '1 page gives its frame up'
+    return 'no page has a frame to give up' if count == 0 else '%s give their frames up' % pages(count)
 
 
 def answered(answer: Answered) -> str:

@@ -3,7 +3,7 @@ from collections import OrderedDict
 from typing import Dict, List, NamedTuple, Tuple
 
 from judging.flat import after_call, is_lawful, reply_of
-from judging.values import Call, Evict, Load, Map, Protect, Store, Sync, Trace, Unmap, page_of
+from judging.values import Call, Discard, Evict, Load, Map, Protect, Store, Sync, Trace, Unmap, Unwire, Wire, page_of
 from policy.frames import EXTENT, Frames
 from policy.space import Space
 
@@ -76,8 +76,11 @@ class Machine:
         self.frames = Frames(trace.frames)
         self.spaces = [Space(number) for number in range(trace.spaces)]
         self.calls = self.hits = self.misses = self.refused = self.made = self.broken = self.zeroed = self.copied = self.paged_out = 0
-        # The pages that may be paged out, the one that was filled first at the front; and by page, in which fill it came to be resident.
+        # The pages that may be paged out, the one that was filled first at the front; when each resident page was filled or copied; and by page, in
+        # which fill it came to be resident.
         self.queue: 'OrderedDict[Tuple[int, int], None]' = OrderedDict()
+        self.ages: Dict[Tuple[int, int], int] = {}
+        self.clock = 0
         self.fills = self.resident = self.used = self.used_since = 0
         self.untouched: Dict[Tuple[int, int], int] = {}
         # Of pages that went untouched, their fill and the last fill before they went.
@@ -91,16 +94,23 @@ class Machine:
         space.seen.add(page)
         self.fills += 1
         self.untouched[space.number, page] = self.fills
-        if space.flat.region_at(page).kind != 'wired':
+        self.grow_young(space, page)
+        if not space.flat.region_at(page).wired:
             self.queue[space.number, page] = None
         self.resident += 1
         if self.resident > self.used:
             self.used, self.used_since = self.resident, self.fills
 
+    def grow_young(self, space: Space, page: int) -> None:
+        """The page was filled just now."""
+        self.clock += 1
+        self.ages[space.number, page] = self.clock
+
     def move(self, space: Space, page: int, frame: int) -> None:
         """The page is copied to the frame, and was filled just now."""
         self.frames.give(space.frames[page])
         space.frames[page] = frame
+        self.grow_young(space, page)
         if (space.number, page) in self.queue:
             self.queue.move_to_end((space.number, page))
         self.copied += 1
@@ -122,6 +132,7 @@ class Machine:
         space.forget((page, 1))
         space.dirty.discard(page)
         self.queue.pop((space.number, page), None)
+        self.ages.pop((space.number, page), None)
         filled = self.untouched.pop((space.number, page), None)
         if filled is not None:
             self.never_touched.append((filled, self.fills))
@@ -177,10 +188,20 @@ class Machine:
     def unmap(self, space: Space, page: int) -> None:
         """The region of the page goes, and its pages give their frames up."""
         region = space.flat.region_at(page)
-        for each in sorted(page for page in space.frames if region.first <= page < region.end):
-            self.give(space, each)
+        self.clear(space, region.first, region.end)
         self.policy.unmapping(space, region.first, region.end)
-        space.seen = {page for page in space.seen if not region.first <= page < region.end}
+
+    def clear(self, space: Space, first: int, end: int) -> None:
+        """These pages give their frames up, and what they held: they are as if they had never had any."""
+        for each in sorted(page for page in space.frames if first <= page < end):
+            self.give(space, each)
+        space.seen = {page for page in space.seen if not first <= page < end}
+
+    def pin(self, space: Space, page: int, pinned: bool) -> None:
+        """The pages of the region may not be paged out, or may again, by when they were filled."""
+        region = space.flat.region_at(page)
+        pages = {(space.number, page) for page in space.frames if region.first <= page < region.end}
+        self.queue = OrderedDict.fromkeys(sorted(self.queue.keys() - pages if pinned else self.queue.keys() | pages, key=self.ages.__getitem__))
 
     def call(self, processor: int, call: Call) -> None:
         """Makes one call. What is refused changes nothing."""
@@ -197,15 +218,19 @@ class Machine:
         elif isinstance(call, Evict):
             if call.page in space.frames:
                 self.give(space, call.page)
+        elif isinstance(call, Discard):
+            self.clear(space, call.page, call.page + call.length)
         else:
             self.change_regions(space, call)
 
     def change_regions(self, space: Space, call: Call) -> None:
-        """A map, a growth or an unmap."""
+        """A map, a growth, an unmap, a wire or an unwire."""
         if isinstance(call, Map):
             space.mapped_by[call.page] = self.calls
         elif isinstance(call, Unmap):
             self.unmap(space, call.page)
+        elif isinstance(call, (Wire, Unwire)) and space.flat.region_at(call.page).kind != 'wired':
+            self.pin(space, call.page, isinstance(call, Wire))
         after_call(space.flat, call)
 
     def run(self) -> Counts:

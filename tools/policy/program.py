@@ -44,7 +44,7 @@ class Filled:
         self.fills += 1
 
     def clear(self, space: str, first: int, end: int) -> None:
-        """The region of these pages is unmapped."""
+        """These pages are unmapped or discarded."""
         for pages in (self.resident, self.seen):
             pages -= {page for page in pages if page[0] == space and first <= page[1] < end}
 

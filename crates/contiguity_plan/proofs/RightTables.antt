@@ -1,16 +1,17 @@
 -- What each move of the frames does to a table that is right.
 use Rattle.std.proofs.Common.{◌≡◌, ◌≤◌, ◌<◌, ℕ, zero, suc, Bool, true, false, is_some, cond, eqb, ◌&&◌, List, ◌∷◌, length, map, set, get_or, replicate, option_map, Option, Some, None, IsSome, IsSomeAnd, inl, inr, refl, sym, ap, subst, ◌∙◌, arith}
 use Rattle.std.specs.BTreeMap.{BTreeMap}
+use Rattle.std.specs.List.{range_with_len}
 use Rattle.std.proofs.Math.ListN.{get_or-map}
 use Rattle.std.proofs.lemmas.Bool.{cases_Bool, cases_eq, and_parts, and_from, cond-true, cond-false, eq-eqb, eqb-true}
-use Rattle.std.proofs.lemmas.List.{map-set, length-set, get_or-set_other, length-replicate}
+use Rattle.std.proofs.lemmas.List.{same_lists, get_or_default, length-map, map-set, length-set, get_or-set_other, length-replicate}
 use Rattle.std.proofs.lemmas.Grind.{get_or-set_at}
 use Rattle.std.proofs.lemmas.Option.{none-some, same_Some}
 use Rattle.pager_model.specs.declared.call.Call.{Call}
-use Rattle.pager_model.specs.declared.call.Call.TheVariants.{Map, Grow, Unmap, Protect, Load, Store, Sync, Evict}
+use Rattle.pager_model.specs.declared.call.Call.TheVariants.{Map, Grow, Unmap, Protect, Load, Store, Sync, Evict, Discard, Wire, Unwire}
 use Rattle.pager_model.specs.declared.entry.Want.{Want}
 use Rattle.pager_model.specs.declared.reservation.Used.{Used}
-use Rattle.pager_model.specs.FrameStates.{FrameState, Taking, start_frames, layout_of, used_at, held_by, claim_in, frame_of, taken, take_frame, state_taken, held_given, give_page, give_if_used, with_claim, claimed, dropped, dropped_in, counted, give_range, AllowsAnswer, moved_by_answer}
+use Rattle.pager_model.specs.FrameStates.{FrameState, Taking, start_frames, layout_of, used_at, held_by, claim_in, frame_of, taken, take_frame, state_taken, held_given, give_page, give_if_used, with_claim, claimed, dropped, dropped_in, counted, give_range, with_wired, wire_page, pin_range, AllowsAnswer, moved_by_answer}
 use Rattle.pager_model.specs.Layouts.{Placing, placing, frame_in}
 use Rattle.pager_model.specs.Regions.{in_range}
 use Rattle.pager_model.specs.SizeSets.{SizeSet}
@@ -21,12 +22,14 @@ use Rattle.pager_laws.specs.Laid.{IsLaid, IsSound}
 use Rattle.pager_laws.proofs.GivenRanges.{give_if_used-none, give_if_used-some, give_range-lowest}
 use Rattle.pager_laws.proofs.LayoutPlacing.{WasPlaced, WasPlaced-placing}
 use Rattle.pager_laws.proofs.LegalHistories.{frame_of-start}
+use Rattle.pager_laws.proofs.PinnedPlaces.{is_pinned, used_at-pinned, frame_of-pinned, same-places}
+use Rattle.pager_laws.proofs.WiredPlaces.{is_pinned-place}
 use Rattle.pager_laws.proofs.PageMoves.{GivesPage-give_page, frame_of-give_page}
 use Rattle.pager_laws.proofs.StateSoundness.{taking_from, layout_of-taken, layout_of-claimed}
 use Rattle.contiguity_plan.specs.declared.plan.PageOf.{PageOf}
 use Rattle.contiguity_plan.specs.declared.table.Use.{Use}
 use Rattle.contiguity_plan.specs.Places.{place_in}
-use Rattle.contiguity_plan.specs.Tables.{Note, note_of, noted, use_in, use_for, claim_of, reclaimed, evicted, AreRight}
+use Rattle.contiguity_plan.specs.Tables.{Note, note_of, noted, use_in, use_for, claim_of, reclaimed, evicted, AreRight, pinned}
 
 -- Notes.
 
@@ -77,6 +80,36 @@ AreRight-as st uses now_uses held now_held places now_places same also too right
     subst (λ u. AreRight st u now_held now_places) (sym same) (subst (λ h. AreRight st uses h now_places) (sym also)
     (subst (AreRight st uses held) (sym too) right))
 
+-- pinned where the page is one of the range, a use and what is noted of its frame stay alike
+pinned_alike : (space first len : ℕ) (wired here : Bool) (o : Option Use) (v : Option Used) → option_map note_of o ≡ option_map noted v
+    → ((u : Use) → o ≡ Some u → here ≡ (eqb u.page.space space && in_range first len u.page.page))
+    → option_map note_of (pinned space first len wired o) ≡ option_map noted (cond here (with_wired wired v) v)
+pinned_alike space first len wired here None None same at = by_here here
+  where
+    by_here : (b : Bool) → None ≡ option_map noted (cond b (with_wired wired None) None)
+    by_here true = refl
+    by_here false = refl
+pinned_alike space first len wired here None (Some v) same at = absurd (none-some _ same)
+pinned_alike space first len wired here (Some u) None same at = absurd (none-some _ (sym same))
+pinned_alike space first len wired here (Some u) (Some v) same at =
+    by_test (eqb u.page.space space && in_range first len u.page.page) ∙ ap (λ b. option_map noted (cond b (with_wired wired (Some v)) (Some v)))
+    (sym (at u refl))
+  where
+    by_test : (b : Bool) → Some (note_of (cond b (record u { wired = wired }) u)) ≡ option_map noted (cond b (with_wired wired (Some v)) (Some v))
+    by_test true = ap (λ (n : Note). Some (record { wired = wired; claim = n.claim })) (same_Some _ _ same)
+    by_test false = same
+
+-- a pinned use is of the same page
+pinned_before : (space first len : ℕ) (wired : Bool) (o : Option Use) (u : Use) → pinned space first len wired o ≡ Some u
+    → (v : Use) × (o ≡ Some v) × (v.page ≡ u.page)
+pinned_before space first len wired None u is = absurd (none-some u is)
+pinned_before space first len wired (Some v) u is =
+    (v, refl, by_test (eqb v.page.space space && in_range first len v.page.page) (same_Some _ u is))
+  where
+    by_test : (b : Bool) → cond b (record v { wired = wired }) v ≡ u → v.page ≡ u.page
+    by_test true same = ap (λ (w : Use). w.page) same
+    by_test false same = ap (λ (w : Use). w.page) same
+
 -- Moves.
 
 module _ (st : FrameState) (uses : List (Option Use)) (held : List (Option ℕ)) (places : List (BTreeMap ℕ ℕ))
@@ -104,6 +137,37 @@ module _ (st : FrameState) (uses : List (Option Use)) (held : List (Option ℕ))
     hands = right.hands;
     room = right.room;
   }
+
+  -- the places of a range are wired, or are no longer
+  pub AreRight-pinned : IsLaid (layout_of st) → (space first len : ℕ) (wired : Bool) (new : List (Option Use)) → length new ≡ length uses
+      → ((f : ℕ) → use_in new f ≡ pinned space first len wired (use_in uses f))
+      → AreRight (pin_range st space first len wired) new held places
+  AreRight-pinned laid space first len wired new long each =
+      let after = pin_range st space first len wired in
+      let alike : (f : ℕ) → option_map note_of (use_in new f) ≡ option_map noted (used_at after f) = λ f.
+      ap (option_map note_of) (each f)
+      ∙ pinned_alike space first len wired (is_pinned st space first len f) (use_in uses f) (used_at st f) (note_at uses st.used right.notes f)
+      (λ u is. is_pinned-place st space first len laid u.page.space u.page.page f (right.pages f u is))
+      ∙ sym (ap (option_map noted) (used_at-pinned st space first len wired f)) in
+      let same_long : length after.used ≡ length st.used =
+      sym (length-map after.used is_some) ∙ ap length (same-places st space wired (range_with_len first len) st.used)
+      ∙ length-map st.used is_some in
+      let longs : length (map (option_map note_of) new) ≡ length (map (option_map noted) after.used) =
+      length-map new (option_map note_of) ∙ long ∙ sym (length-map uses (option_map note_of)) ∙ ap length right.notes
+      ∙ length-map st.used (option_map noted) ∙ sym same_long ∙ sym (length-map after.used (option_map noted)) in
+      record {
+        notes = same_lists _ _ longs (λ k d below.
+            get_or_default (map (option_map note_of) new) k d None below
+            ∙ get_or-map (option_map note_of) new k None ∙ alike k ∙ sym (get_or-map (option_map noted) after.used k None)
+            ∙ get_or_default (map (option_map noted) after.used) k None d (subst (λ n. k < n) longs below));
+        pages = λ f u is.
+            let before = pinned_before space first len wired (use_in uses f) u (sym (each f) ∙ is) in
+            frame_of-pinned st space first len wired u.page.space u.page.page
+            ∙ ap (λ (q : PageOf). frame_of st q.space q.page) (sym before.2) ∙ right.pages f before.0 before.1;
+        places_are = λ s p. right.places_are s p ∙ sym (frame_of-pinned st space first len wired s p);
+        hands = right.hands;
+        room = right.room;
+      }
 
   -- a processor lets its frame go
   pub AreRight-dropped : (c : ℕ) → AreRight (dropped st c) uses (set held c None) places
@@ -286,6 +350,9 @@ answer-some st space (Protect s p len rights) page is allowed = absurd allowed
 answer-some st space (Load s address) page is allowed = absurd allowed
 answer-some st space (Store s address word) page is allowed = absurd allowed
 answer-some st space (Sync s p) page is allowed = absurd allowed
+answer-some st space (Discard s p len) page is allowed = absurd allowed
+answer-some st space (Wire s p) page is allowed = absurd allowed
+answer-some st space (Unwire s p) page is allowed = absurd allowed
 
 pub answer-none : (st : FrameState) (space : ℕ) (call : Call) → None ≡ evicted call → AllowsAnswer st space call → ⊥
 answer-none st space (Evict s p) is allowed = none-some p is
@@ -296,6 +363,9 @@ answer-none st space (Protect s p len rights) is allowed = allowed
 answer-none st space (Load s address) is allowed = allowed
 answer-none st space (Store s address word) is allowed = allowed
 answer-none st space (Sync s p) is allowed = allowed
+answer-none st space (Discard s p len) is allowed = allowed
+answer-none st space (Wire s p) is allowed = allowed
+answer-none st space (Unwire s p) is allowed = allowed
 
 none_either : (b : Bool) (o : Option ℕ) → o ≡ None → cond b None o ≡ None
 none_either true o none = refl

@@ -1,11 +1,12 @@
 -- When a table of the uses of frames is right.
-use Rattle.std.specs.Prelude.{ℕ, ◌≡◌, ◌≤◌, Bool, List, length, map, slice_index_or, option_map, Option, Some, None}
+use Rattle.std.specs.Prelude.{ℕ, ◌≡◌, ◌≤◌, ◌&&◌, ◌==◌, if◌then◌else◌, Bool, List, length, map, slice_index_or, option_map, Option, Some, None}
 use Rattle.std.specs.BTreeMap.{BTreeMap}
 use Rattle.pager_model.specs.declared.call.Call.{Call}
 use Rattle.pager_model.specs.declared.call.Call.TheVariants.{Evict}
 use Rattle.pager_model.specs.declared.entry.Want.{Want}
 use Rattle.pager_model.specs.declared.reservation.Used.{Used}
 use Rattle.pager_model.specs.FrameStates.{FrameState, frame_of, held_by}
+use Rattle.pager_model.specs.Regions.{in_range}
 use Rattle.contiguity_plan.specs.declared.plan.PageOf.{PageOf}
 use Rattle.contiguity_plan.specs.declared.table.Table.{Table}
 use Rattle.contiguity_plan.specs.declared.table.Use.{Use}
@@ -36,6 +37,12 @@ claim_of (Some u) = u.claim
 abbrev pub reclaimed : Option ℕ → Option Use → Option Use
 reclaimed claim None = None
 reclaimed claim (Some u) = Some (record u { claim = claim })
+
+-- a use whose page is one of a range of a space is wired, or is no longer
+abbrev pub pinned : ℕ → ℕ → ℕ → Bool → Option Use → Option Use
+pinned space first len wired None = None
+pinned space first len wired (Some u) =
+    Some (if (u.page.space == space) && in_range first len u.page.page then record u { wired = wired } else u)
 
 -- the page that an evict is of
 abbrev pub evicted : Call → Option ℕ

@@ -54,7 +54,7 @@ pub(crate) fn remove(places: &mut Vec<Places>, space: u32, page: u32) -> Option<
 }
 
 /// Whether the page is one of the `count` pages from `first` on.
-fn lies_in(page: u32, first: u32, count: u32) -> bool
+pub(crate) fn lies_in(page: u32, first: u32, count: u32) -> bool
     ensures { result ≡ in_range first count page }
 {
     first <= page && page - first < count

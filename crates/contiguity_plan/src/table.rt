@@ -5,17 +5,17 @@ ghost use Rattle.std.specs.List.{All};
 ghost use Rattle.pager_model.specs.Bounds.{most_spaces, most_actors};
 ghost use Rattle.pager_model.specs.declared.entry.Entry.{Entry as Item};
 ghost use Rattle.pager_model.specs.declared.entry.Numbered.{Numbered as NumberedItem};
-ghost use Rattle.pager_model.specs.FrameStates.{FrameState, start_frames, frame_of, take_frame, state_taken, held_given, give_if_used, give_range, claimed, dropped, moved_by_answer, moved, AllowsAnswer, FramesAllow, named_space};
+ghost use Rattle.pager_model.specs.FrameStates.{FrameState, start_frames, frame_of, take_frame, state_taken, held_given, give_if_used, give_range, pin_range, claimed, dropped, moved_by_answer, moved, AllowsAnswer, FramesAllow, named_space};
 ghost use Rattle.pager_model.specs.Legal.{IsLegal, MayFollow, frames_at, entries_in};
 ghost use Rattle.pager_model.specs.Settings.{Given};
 ghost use Rattle.pager_model.specs.SizeSets.{SizeSet};
 ghost use Rattle.pager_laws.specs.Laid.{IsSound};
 ghost use Rattle.contiguity_plan.specs.Emptying.{IsPlanned};
 ghost use Rattle.contiguity_plan.specs.Places.{place_in, place_count};
-ghost use Rattle.contiguity_plan.specs.Tables.{use_in, claim_of, reclaimed, evicted, IsRight};
+ghost use Rattle.contiguity_plan.specs.Tables.{use_in, claim_of, reclaimed, pinned, evicted, IsRight};
 
 use crate::cheapest::{cheapest, pages_of};
-use crate::places::{self, Places};
+use crate::places::{self, Places, lies_in};
 use crate::plan::{PageOf, Plan};
 use pager_model::{Call, Entry, Extent, MOST_ACTORS, MOST_SPACES, NoMemory, Size, Want, What};
 use run_history::History;
@@ -90,6 +90,28 @@ fn reclaimed(used: Option<Use>, claim: Option<u32>) -> Option<Use>
     match used {
         Some(used) => Some(Use { claim, ..used }),
         None => None,
+    }
+}
+
+/// The use, wired or no longer where its page is one of the range.
+fn pinned(used: Option<Use>, space: u32, first: u32, count: u32, wired: bool) -> Option<Use>
+    ensures { result ≡ pinned space first count wired used }
+{
+    match used {
+        Some(used) if used.page.space == space && lies_in(used.page.page, first, count) => {
+            Some(Use { wired, ..used })
+        }
+        used => used,
+    }
+}
+
+/// The uses of the pages of a range are wired, or are no longer.
+fn pin_uses(uses: &mut Vec<Option<Use>>, space: u32, first: u32, count: u32, wired: bool)
+    ensures long { length uses.new.items ≡ length uses.old.items }
+    ensures each { (frame : ℕ) → use_in uses.new.items frame ≡ pinned space first count wired (use_in uses.old.items frame) }
+{
+    for frame in 0..uses.len() {
+        uses[frame] = pinned(uses[frame], space, first, count, wired);
     }
 }
 
@@ -188,6 +210,15 @@ impl Table {
         }
     }
 
+    /// The used frames of a range of pages are wired, or are no longer.
+    fn pin(&mut self, space: u32, first: u32, count: u32, wired: bool)
+        ensures places { self.new.places.items ≡ self.old.places.items }
+        ensures right { (frames processors : ℕ) (st : FrameState) → IsSound frames processors st → IsRight st self.old
+            → IsRight (pin_range st space first count wired) self.new }
+    {
+        pin_uses(&mut self.uses, space, first, count, wired);
+    }
+
     /// This processor claims the used frame, or none does.
     fn claim(&mut self, frame: u32, claim: Option<u32>)
         ensures places { self.new.places.items ≡ self.old.places.items }
@@ -278,10 +309,19 @@ impl Table {
                 self.claim(frame, None);
                 Ok(())
             }
+            What::Pin {
+                first,
+                length,
+                wired,
+            } => {
+                self.pin(space, first, length, wired);
+                Ok(())
+            }
             What::Out { .. }
             | What::Failed { .. }
             | What::Got { .. }
             | What::Refused { .. }
+            | What::Kept { .. }
             | What::Rest { .. } => Ok(()),
         }
     }

@@ -1,29 +1,27 @@
 -- Steps that answer a flight's call.
-use Rattle.std.proofs.Common.{◌≡◌, ◌≢◌, ℕ, ◌+◌, ◌<◌, Bool, true, false, ◌&&◌, is_some, List, [], ◌∷◌, None, Some, refl, ap, sym, subst, ◌∙◌, inl, inr, arith}
-use Rattle.std.specs.List.{find}
-use Rattle.std.proofs.lemmas.Bool.{cases_Bool, cond-true, cond-false, and_from, eq-eqb, false≢true}
+use Rattle.std.proofs.Common.{◌≡◌, ◌≢◌, ℕ, ◌+◌, ◌<◌, Bool, true, false, ◌&&◌, is_some, None, Some, refl, ap, sym, subst, ◌∙◌, inl, inr, arith}
+use Rattle.std.proofs.lemmas.Bool.{and_from, eq-eqb, false≢true}
 use Rattle.std.proofs.lemmas.Option.{same_Some}
 use Rattle.pager_model.specs.declared.call.Call.{Call}
-use Rattle.pager_model.specs.declared.call.Call.TheVariants.{Unmap, Load, Store}
+use Rattle.pager_model.specs.declared.call.Call.TheVariants.{Load, Store}
 use Rattle.pager_model.specs.declared.entry.Entry.{Entry}
 use Rattle.pager_model.specs.declared.entry.What.TheVariants.{Answer}
-use Rattle.pager_model.specs.declared.region.Region.{Region}
 use Rattle.pager_model.specs.declared.reply.Answered.{Answered}
 use Rattle.pager_model.specs.declared.reply.Reply.{Reply}
 use Rattle.pager_model.specs.declared.reply.Reply.TheVariants.{NoMemory}
 use Rattle.pager_model.specs.Flat.{space_of_call, page_of, can_read, can_write}
 use Rattle.pager_model.specs.FrameStates.{FrameState, FramesAllow}
-use Rattle.pager_model.specs.Order.{Progress, may_answer, is_access, is_access_at, is_answered_alone, is_done, is_plain, leads, Idle, Cleared}
-use Rattle.pager_model.specs.Regions.{in_range, has_page, region_at}
-use Rattle.pager_model.specs.SpaceStates.{SpaceState, space_after, MayGoOn, WhatAllowed, IsUnmapOf, AfterClear, access_page}
+use Rattle.pager_model.specs.Order.{Progress, may_answer, is_access, is_access_at, is_answered_alone, is_plain, leads, Idle}
+use Rattle.pager_model.specs.Regions.{region_at}
+use Rattle.pager_model.specs.SpaceStates.{SpaceState, space_after, MayGoOn, WhatAllowed, access_page}
 use Rattle.space_core.specs.declared.space.Begun.TheVariants.{Answered as HasAnswered}
-use Rattle.space_core.specs.Beginning.{BeginsAnswered, ReadsIn, Finishes, SameRegions, Unmapped}
+use Rattle.space_core.specs.Beginning.{BeginsAnswered, ReadsIn, Finishes, SameRegions}
 use Rattle.space_core.specs.Standing.{Kept, StandsFor, IsResting, copied_page, is_allowed, rights_at}
 use Rattle.space_core.proofs.CopyCalls.{had_memory}
 use Rattle.pager_model.specs.CallEntries.{answer_entry}
 use Rattle.flight_core.specs.declared.flight.Flight.{Flight}
 use Rattle.flight_core.specs.declared.flight.Phase.{Phase}
-use Rattle.flight_core.specs.declared.flight.Phase.TheVariants.{Start, Gone, Fill, Late, Ended}
+use Rattle.flight_core.specs.declared.flight.Phase.TheVariants.{Start, Fill, Late, Ended}
 use Rattle.flight_core.specs.Flights.{IsReady, PhaseFits}
 use Rattle.flight_core.specs.Rows.{call_in, claimed_in, row_of, access_of}
 use Rattle.flight_core.specs.Steps.{Makes, SameSpace, after_frames}
@@ -118,70 +116,6 @@ start_answered f a was now phase begins =
       record { goes_on = tt; made = refl; may = begins.alone; some = omega arith },
       IsAnswered-begun f a was now st (same_Some _ _ ready.under) ready.stands begins,
     ))
-
--- the first element that does does
-find_does : {X : Type 0} (p : X → Bool) (xs : List X) (x : X) → find p xs ≡ Some x → p x ≡ true
-find_does p [] x is = cc
-find_does p (y ∷ xs) x is = elim (cases_Bool (p y)) [
-  | inl does ↦ ap p (same_Some x y (sym is ∙ cond-true (p y) (Some y) (find p xs) does)) ∙ does
-  | inr fails ↦ find_does p xs x (sym (cond-false (p y) (Some y) (find p xs) fails) ∙ is)
-]
-
--- the region that has a page has it
-pub region_at-has : (regions : List Region) (page : ℕ) (r : Region) → region_at regions page ≡ Some r
-    → in_range r.first r.length page ≡ true
-region_at-has regions page r is = find_does (has_page page) regions r is
-
--- the call unmaps the region of a page, which is taken away so
-pub record Unmaps (was now : Kept) (call : Call) (a : Answered) : Type 0 where
-  pub space : ℕ
-  pub page : ℕ
-  pub is : call ≡ Unmap space page
-  pub unmapped : Unmapped was now page a
-
--- Gone: the region is taken away
-ends_unmap : (f : Flight) (first len : ℕ) (a : Answered) (was now : Kept) (st : SpaceState) → IsReady (in_phase f (Gone first len)) was st
-    → Unmaps was now (call_in f.purpose) a → MayEnd f (Gone first len) a × IsAnswered f a false was now st
-ends_unmap f first len a was now st ready unmaps =
-    let is = ready.found.unmapping in
-    let r = is.region in
-    let page = unmaps.page in
-    let unmapped = unmaps.unmapped in
-    let same : page ≡ is.page = (let both : Unmap unmaps.space page ≡ Unmap is.space is.page = sym unmaps.is ∙ is.is_unmap in cc) in
-    let at : region_at was.regions page ≡ Some r = ap (region_at was.regions) same ∙ is.at in
-    let own : call_in f.purpose ≡ Unmap was.number page =
-    unmaps.is ∙ ap (λ n. Unmap n page) (sym (ap space_of_call unmaps.is) ∙ same_Some _ _ ready.under) in
-    let within : in_range first len page ≡ true = sym (ap (λ n. in_range n r.length page) is.first_is
-    ∙ ap (λ n. in_range first n page) is.length_is) ∙ region_at-has was.regions page r at in
-    let next : st.next ≡ AfterClear f.processor r.first r.length = ready.next
-    ∙ sym (ap (λ n. AfterClear f.processor n r.length) is.first_is ∙ ap (AfterClear f.processor first) is.length_is) in (
-      record {
-        goes_on = (
-          refl,
-          subst (λ k. IsUnmapOf first len k a.reply) (sym own)
-              (subst (IsUnmapOf first len (Unmap was.number page)) (sym unmapped.done) within),
-        );
-        made = refl;
-        may = subst (λ k. may_answer (Cleared (space_of_call k) first len) k a.reply ≡ true) (sym own)
-            (and_from _ _ (and_from _ _ (eq-eqb was.number was.number refl) within) (ap is_done unmapped.done));
-        some = omega arith;
-      },
-      record {
-        on = same_Some _ _ ready.under;
-        same_space = record { number = unmapped.same_number; frames = unmapped.same_frames; processors = unmapped.same_processors };
-        resting = unmapped.resting;
-        allowed = subst (λ k. WhatAllowed st false f.processor (Answer f.number k a)) (sym own)
-            (unmapped.allowed st ready.stands f.processor f.number r at next);
-        stands = subst (λ k. StandsFor now (space_after st (answer_entry f.processor f.number k a))) (sym own)
-            (unmapped.stands st ready.stands f.processor f.number);
-      },
-    )
-
-pub unmap_answered : (f : Flight) (first len : ℕ) (a : Answered) (was now : Kept) → f.phase ≡ Gone first len
-    → Unmaps was now (call_in f.purpose) a → (st : SpaceState) (frames : FrameState) → IsReady f was st
-    → Makes f (with_phase f (Ended a.reply)) was now st frames frames (answer_entry f.processor f.number (call_in f.purpose) a)
-unmap_answered f first len a was now phase unmaps =
-    answered_in f (Gone first len) a was now refl phase (λ st ready. ends_unmap f first len a was now st ready unmaps)
 
 -- a load or a store is the access that it makes
 pub is_access_of : (call : Call) (claimed : Bool) → is_access call ≡ true → is_access_at (access_of call claimed) call ≡ true

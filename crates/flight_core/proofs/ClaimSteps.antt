@@ -5,7 +5,7 @@ use Rattle.std.proofs.lemmas.Option.{same_Some}
 use Rattle.pager_model.specs.declared.entry.Victim.{Victim}
 use Rattle.pager_model.specs.Agreement.{ClaimsOrHolds, OwnsBy}
 use Rattle.pager_model.specs.declared.call.Call.{Call}
-use Rattle.pager_model.specs.declared.call.Call.TheVariants.{Map, Grow, Unmap, Protect, Load, Store, Sync, Evict}
+use Rattle.pager_model.specs.declared.call.Call.TheVariants.{Map, Grow, Unmap, Protect, Load, Store, Sync, Evict, Discard, Wire, Unwire}
 use Rattle.pager_model.specs.declared.entry.Entry.{Entry}
 use Rattle.pager_model.specs.declared.entry.Want.{Want}
 use Rattle.pager_model.specs.declared.entry.What.TheVariants.{Claim, Unclaim as UnclaimEntry}
@@ -53,6 +53,9 @@ needed kept st call page stands page_is allowed absent =
     allowed_at (Protect space p len rights) is may = absurd (false≢true may)
     allowed_at (Sync space p) is may = absurd (false≢true may)
     allowed_at (Evict space p) is may = absurd (false≢true may)
+    allowed_at (Discard space p len) is may = absurd (false≢true may)
+    allowed_at (Wire space p) is may = absurd (false≢true may)
+    allowed_at (Unwire space p) is may = absurd (false≢true may)
 
 -- a call that isn't a store is none
 pub is_no_store : (call : Call) → ((space address word : ℕ) → call ≡ Store space address word → ⊥) → is_store call ≡ false
@@ -64,6 +67,9 @@ is_no_store (Unmap space page) other = refl
 is_no_store (Protect space page len rights) other = refl
 is_no_store (Sync space page) other = refl
 is_no_store (Evict space page) other = refl
+is_no_store (Discard space page len) other = refl
+is_no_store (Wire space page) other = refl
+is_no_store (Unwire space page) other = refl
 
 -- the flight, for which a frame is claimed now
 abbrev pub claiming : Flight → Flight

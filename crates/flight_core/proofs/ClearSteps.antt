@@ -1,25 +1,28 @@
 -- A range's pages give their frames up, the lowest first, until none is resident.
-use Rattle.std.proofs.Common.{◌≡◌, ℕ, ◌+◌, ◌<◌, ◌≤◌, true, false, cond, eqb, leb, ltb, ◌&&◌, is_some, Some, None, refl, ap, sym, subst, ◌∙◌, inl, inr, arith}
+use Rattle.std.proofs.Common.{◌≡◌, ℕ, ◌+◌, ◌<◌, ◌≤◌, Bool, Option, true, false, cond, eqb, leb, ltb, ◌&&◌, is_some, Some, None, refl, ap, sym, subst, ◌∙◌, inl, inr, arith}
 use Rattle.std.specs.List.{range_with_len, count_by}
 use Rattle.std.proofs.lemmas.Bool.{cases_eq, cond-true, cond-false, and_parts, and_from, and_right, eq-eqb, ne_eqb, le-leb, leb-true, lt-ltb, ltb-true, false≢true}
 use Rattle.std.proofs.lemmas.Option.{same_Some}
 use Rattle.pager_model.specs.Flat.{space_of_call}
 use Rattle.pager_model.specs.FrameStates.{FrameState, frame_of, counted, give_page, give_range}
 use Rattle.pager_model.specs.Layouts.{covering}
-use Rattle.pager_model.specs.Regions.{region_at}
-use Rattle.pager_model.specs.SpaceStates.{SpaceState, IsRegionOf}
+use Rattle.pager_model.specs.Regions.{range_in, region_at}
+use Rattle.pager_model.specs.Order.{Progress}
+use Rattle.pager_model.specs.SpaceStates.{SpaceState}
 use Rattle.pager_model.proofs.CountLemmas.{count-one_more}
 use Rattle.pager_model.proofs.FrameEntries.{given_in-entries}
-use Rattle.space_core.specs.Beginning.{IsUnmapping, ClearsOne, ClearsNone, SameStore}
+use Rattle.space_core.specs.Beginning.{ClearsFor, IsToClear, ClearsOne, ClearsNone, SameStore}
 use Rattle.space_core.specs.Standing.{Kept, IsResting, StandsBeside, StandsFor, StandsBut, frame_at, is_in, is_clearing}
 use Rattle.pager_model.specs.CallEntries.{clear_entry}
 use Rattle.flight_core.specs.declared.flight.Flight.{Flight}
 use Rattle.flight_core.specs.declared.flight.Phase.TheVariants.{Clear, Gone}
-use Rattle.flight_core.specs.Flights.{IsReady}
-use Rattle.flight_core.specs.Rows.{call_in}
+use Rattle.flight_core.specs.Flights.{IsReadied, IsReady}
+use Rattle.flight_core.specs.Rows.{call_in, next_readied, pins, readied}
 use Rattle.flight_core.specs.Steps.{Makes, SameSpace}
 use Rattle.flight_core.proofs.EntrySteps.{Leaves-on, SpaceAndFrames, same_space, same_space-on, same_store-on}
 use Rattle.flight_core.proofs.MadeEntries.{made_on_frames}
+use Rattle.flight_core.proofs.NextFlights.{keeps_readied}
+use Rattle.flight_core.proofs.PinSteps.{pins-none}
 use Rattle.pager_laws.proofs.GivenRanges.{give_range-none, give_range-lowest}
 use Rattle.flight_core.proofs.Purposes.{in_phase, with_phase, same_work, by_ready}
 
@@ -145,7 +148,7 @@ pub on_clear : (f : Flight) (first len : ℕ) (was : Kept) (st : SpaceState) →
 on_clear f first len was st phase = by_ready f (Clear first len) was st refl phase (λ g to. space_of_call (call_in f.purpose) ≡ was.number)
     (λ ready. same_Some _ _ ready.under)
 
--- Clear: the pages of the region gave their frames up, and none is left
+-- Clear: the pages of the range gave their frames up, and none is left
 module _ (f : Flight) (first len : ℕ) (was mid : SpaceAndFrames) (now : Kept) where
   Makes-clear :
       (st : SpaceState) → IsReady (in_phase f (Clear first len)) was.space st → IsClearing was mid first len
@@ -155,7 +158,10 @@ module _ (f : Flight) (first len : ℕ) (was mid : SpaceAndFrames) (now : Kept) 
   Makes-clear st ready so_far clears = record {
     entry = made_on_frames (record {
       same_work = same_work f (Clear first len) (Gone first len);
-      in_order = refl;
+      in_order = ap (λ (o : Option Bool). Some (let p : Progress = record {
+        made = f.number;
+        doing = readied (space_of_call (call_in f.purpose)) first len o;
+      } in p)) (sym pins_none);
       fewer = omega arith;
       on_way = refl;
       no_answer = refl;
@@ -169,20 +175,24 @@ module _ (f : Flight) (first len : ℕ) (was mid : SpaceAndFrames) (now : Kept) 
         ∙ ap (λ s. give_range was.frames s first len) (sym on)));
     space = Leaves-on (clear_entry f.processor (space_of_call (call_in f.purpose)) first len) (ap Some on)
         (same_space-on so_far.same_space (same_space clears.same.same)) ready.next tt
-        (subst (λ o. IsRegionOf o first len) (sym (ap (λ rs. region_at rs first) ready.stands.beside.regions ∙ is.at_first))
-        (is.first_is, is.length_is))
+        (ap (λ rs. range_in first len (region_at rs first)) ready.stands.beside.regions ∙ is.within)
         (record {
           fits = record { kind = refl; can = ready.fits.can; phase = tt };
           stands = clears.stands st f.processor (so_far.stands st (StandsBut-rest was.space st first len ready.found.resting ready.stands));
-          next = refl;
-          found = record {
-            unmapping = unmapping;
+          next = ap (next_readied f.processor first len) (sym pins_none);
+          found = subst (IsReadied (call_in f.purpose) now first len) (sym pins_none) (record {
+            clears = record {
+              in_space = is.in_space;
+              within = ap (λ rs. range_in first len (region_at rs first)) same_regions ∙ is.within;
+              is_for = subst (λ rs. ClearsFor rs (call_in f.purpose) first len) (sym same_regions) is.is_for;
+            };
             none_pending = clears.same_pending ∙ so_far.same_pending ∙ ready.found.resting.none_pending;
             none_paged = clears.same_paged ∙ so_far.same_paged ∙ ready.found.resting.none_paged;
             clearing = clears.clearing;
             none = clears.none;
-          };
-          keeps = inl (ap Some (on ∙ sym (clears.same.same.number ∙ so_far.same_space.number)));
+          });
+          keeps = inl (keeps_readied (Some (space_of_call (call_in f.purpose))) (space_of_call (call_in f.purpose)) first len
+              (pins (call_in f.purpose)) ∙ ap Some (on ∙ sym (clears.same.same.number ∙ so_far.same_space.number)));
         });
   }
     where
@@ -192,21 +202,11 @@ module _ (f : Flight) (first len : ℕ) (was mid : SpaceAndFrames) (now : Kept) 
       same_regions : now.regions ≡ was.space.regions
       same_regions = clears.same.same.regions ∙ so_far.same_regions
 
-      is : IsUnmapping was.space (call_in f.purpose) first len
-      is = ready.found.unmapping
+      is : IsToClear was.space (call_in f.purpose) first len
+      is = ready.found.clears
 
-      unmapping : IsUnmapping now (call_in f.purpose) first len
-      unmapping = record {
-        space = is.space;
-        page = is.page;
-        is_unmap = is.is_unmap;
-        region = is.region;
-        at = ap (λ rs. region_at rs is.page) same_regions ∙ is.at;
-        at_first = ap (λ rs. region_at rs first) same_regions ∙ is.at_first;
-        first_is = is.first_is;
-        length_is = is.length_is;
-        in_space = is.in_space;
-      }
+      pins_none : pins (call_in f.purpose) ≡ None
+      pins_none = pins-none was.space.regions (call_in f.purpose) first len is.is_for
 
 pub range_cleared : (f : Flight) (first len : ℕ) (was mid : SpaceAndFrames) (now : Kept) → f.phase ≡ Clear first len
     → IsClearing was mid first len → ClearsNone mid.space now first len → (st : SpaceState) → IsReady f was.space st

@@ -5,7 +5,9 @@ pub mod EntrySteps
 pub mod MadeEntries
 pub mod FaultSteps
 pub mod EvictSteps
+pub mod PinSteps
 pub mod RefusedCalls
+pub mod ConcludedCalls
 pub mod ClearSteps
 pub mod TakenFrames
 pub mod ClaimSteps

@@ -13,13 +13,13 @@ use Rattle.pager_model.specs.SpaceStates.{Anyone}
 use Rattle.space_core.specs.Standing.{Kept, IsResting, copied_page}
 use Rattle.flight_core.specs.declared.flight.Flight.{Flight}
 use Rattle.flight_core.specs.declared.flight.Phase.{Phase}
-use Rattle.flight_core.specs.declared.flight.Phase.TheVariants.{Start, Evict, Clear, Frame, Out, Write, Hand, Unclaim, Back, Drop, Use, Fault, Lack, Look, Rested, Ended}
+use Rattle.flight_core.specs.declared.flight.Phase.TheVariants.{Start, Evict, Clear, Pin, Gone, Frame, Out, Write, Hand, Unclaim, Back, Drop, Use, Fault, Lack, Look, Rested, Ended}
 use Rattle.flight_core.specs.declared.flight.Needs.{Needs}
 use Rattle.flight_core.specs.declared.flight.Needs.TheVariants.{Space, Both, Frames, Ended as NoneNeeded}
 use Rattle.flight_core.specs.declared.flight.Purpose.{Purpose}
 use Rattle.flight_core.specs.declared.flight.Purpose.TheVariants.{Call as OfCall, Turn as OfTurn}
 use Rattle.flight_core.specs.Flights.{Fits, IsFor, PhaseFits, PhaseStands, TurnFits, is_of_turns}
-use Rattle.flight_core.specs.Rows.{Going, TurnEnded, Answered, access_in, alone, call_in, faulted, is_between, is_of_call, own_space, reply_in, row_of, row_in, space_under}
+use Rattle.flight_core.specs.Rows.{Going, TurnEnded, Answered, access_in, alone, call_in, faulted, is_between, is_of_call, own_space, pins, readied, reply_in, row_of, row_in, space_under}
 use Rattle.flight_core.proofs.Purposes.{of_call-is}
 
 -- Of a row.
@@ -77,6 +77,19 @@ pub under_fault : (own : Option ℕ) (a : Access) (space count : ℕ) (o : Optio
     → space_under (alone (under_in own (faulted a space count o))) ≡ own
 under_fault own a space count o = ap (λ u. space_under (alone u)) (under_faulted own a space count o) ∙ under_alone own
 
+-- whether a range was cleared or pinned
+pub under_readied : (own : Option ℕ) (space first len : ℕ) (o : Option Bool) → under_in own (readied space first len o) ≡ own
+under_readied own space first len None = refl
+under_readied own space first len (Some wired) = refl
+
+pub keeps_readied : (own : Option ℕ) (space first len : ℕ) (o : Option Bool) → keeps_in own (readied space first len o) ≡ own
+keeps_readied own space first len None = refl
+keeps_readied own space first len (Some wired) = refl
+
+pub under_gone : (own : Option ℕ) (space first len : ℕ) (o : Option Bool)
+    → space_under (alone (under_in own (readied space first len o))) ≡ own
+under_gone own space first len o = ap (λ u. space_under (alone u)) (under_readied own space first len o) ∙ under_alone own
+
 -- The space of a step is its call's, or one that the flight keeps, or that of its victim.
 under_cases_in : (c n : ℕ) (own : Option ℕ) (t : ℕ) (purpose : Purpose) (p : Phase) → space_under (row_in c n own purpose p).needs ≡ Some t
     → (own ≡ Some t) ⊎ (((row_in c n own purpose p).keeps ≡ Some t) ⊎ ((v : Victim) × (p ≡ Out v) × (t ≡ v.space)))
@@ -89,6 +102,8 @@ under_cases_in c n own t purpose (Unclaim v None) is = inr (inl is)
 under_cases_in c n own t purpose (Unclaim v (Some count)) is = inr (inl is)
 under_cases_in c n own t purpose (Fault space count) is = inl
     (sym (under_fault own (access_in purpose) space count (copied_page (call_in purpose))) ∙ is)
+under_cases_in c n own t purpose (Gone first len) is = inl
+    (sym (under_gone own (space_of_call (call_in purpose)) first len (pins (call_in purpose))) ∙ is)
 under_cases_in c n None t purpose p is = inl is
 under_cases_in c n (Some s) t purpose p is = inl is
 
@@ -137,6 +152,10 @@ keeps_under_in c n own t purpose (Fault space count) is =
     let o = copied_page (call_in purpose) in
     under_fault own a space count o ∙ (own_if-some own space t (sym (keeps_faulted own a space count o) ∙ is)).0
 keeps_under_in c n own t purpose (Lack space) is = under_alone own ∙ (own_if-some own space t is).0
+keeps_under_in c n own t purpose (Gone first len) is =
+    let s = space_of_call (call_in purpose) in
+    let o = pins (call_in purpose) in
+    under_gone own s first len o ∙ sym (keeps_readied own s first len o) ∙ is
 keeps_under_in c n None t purpose p is = is
 keeps_under_in c n (Some s) t purpose p is = is
 
@@ -145,6 +164,7 @@ keeps_by_place_in : (c n : ℕ) (own : Option ℕ) (purpose : Purpose) (p : Phas
     → (row_in c n own purpose p).keeps ≡ keeps_in own (row_in c n own purpose p).progress.doing
 keeps_by_place_in c n own purpose (Evict page) between = absurd (false≢true between)
 keeps_by_place_in c n own purpose (Clear first len) between = absurd (false≢true between)
+keeps_by_place_in c n own purpose (Pin first len wired) between = absurd (false≢true between)
 keeps_by_place_in c n own purpose (Frame page want) between = absurd (false≢true between)
 keeps_by_place_in c n own purpose (Write v) between = absurd (false≢true between)
 keeps_by_place_in c n own purpose (Unclaim v None) between = absurd (false≢true between)
@@ -167,6 +187,8 @@ under_by_place_in c n own purpose (Unclaim v None) between is = refl
 under_by_place_in c n own purpose (Unclaim v (Some count)) between is = refl
 under_by_place_in c n own purpose (Fault space count) between is = under_alone
     (under_in own (faulted (access_in purpose) space count (copied_page (call_in purpose))))
+under_by_place_in c n own purpose (Gone first len) between is = under_alone
+    (under_in own (readied (space_of_call (call_in purpose)) first len (pins (call_in purpose))))
 under_by_place_in c n None purpose p between is = refl
 under_by_place_in c n (Some s) purpose p between is = refl
 
@@ -200,6 +222,8 @@ anywhere_in c n s purpose (Fault space count) kept calls own is none fits rest =
     ];
   },
 )
+anywhere_in c n s purpose (Gone first len) kept calls own is none fits rest = absurd
+    (none-some _ (sym none ∙ keeps_readied (Some s) (space_of_call (call_in purpose)) first len (pins (call_in purpose))))
 anywhere_in c n s purpose (Unclaim v None) kept calls own is none fits rest = absurd (none-some _ (sym none))
 anywhere_in c n s purpose (Unclaim v (Some count)) kept calls own is none fits rest = absurd (none-some _ (sym none))
 anywhere_in c n s purpose p kept calls own is none fits rest = absurd (none-some _ (sym none))
@@ -289,6 +313,8 @@ goes_in c n own purpose (Unclaim v None) is = refl
 goes_in c n own purpose (Unclaim v (Some count)) is = refl
 goes_in c n own purpose (Fault space count) is =
     ap (λ u. is_over (alone u)) (under_faulted own (access_in purpose) space count (copied_page (call_in purpose))) ∙ alone_goes own
+goes_in c n own purpose (Gone first len) is =
+    ap (λ u. is_over (alone u)) (under_readied own (space_of_call (call_in purpose)) first len (pins (call_in purpose))) ∙ alone_goes own
 goes_in c n None purpose p is = refl
 goes_in c n (Some s) purpose p is = refl
 

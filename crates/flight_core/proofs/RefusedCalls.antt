@@ -1,4 +1,5 @@
--- A call that can't be served is answered so: no frame could be had, a store failed, or there was no memory.
+-- A call that can't be served is answered so: no frame could be had, a store failed, there was no memory, or a frame that it is to wire
+-- is claimed.
 use Rattle.std.proofs.Common.{◌≡◌, ℕ, Bool, true, false, is_some, Option, Some, None, option_map, refl, ap, sym, subst, ◌∙◌, inl, inr, arith}
 use Rattle.std.specs.Option.{IsSome}
 use Rattle.std.proofs.lemmas.Bool.{cond-true, cond-false, and_from, and_parts, eq-eqb, not-true, false≢true}
@@ -9,7 +10,7 @@ use Rattle.pager_model.specs.declared.entry.What.TheVariants.{Answer}
 use Rattle.pager_model.specs.declared.region.Region.{Region}
 use Rattle.pager_model.specs.declared.reply.Answered.{Answered}
 use Rattle.pager_model.specs.declared.reply.Reply.{Reply}
-use Rattle.pager_model.specs.declared.reply.Reply.TheVariants.{Done, Value, Written, NoFrames, StoreFault, NoMemory}
+use Rattle.pager_model.specs.declared.reply.Reply.TheVariants.{Done, Value, Written, NoFrames, StoreFault, NoMemory, Busy as SaysBusy}
 use Rattle.pager_model.specs.declared.tile.Tile.{Tile}
 use Rattle.pager_model.specs.Flat.{access_reply, evict_reply, sync_reply, can_read, can_write, is_lawful, page_of, reply_of, space_of_call, word_of}
 use Rattle.pager_model.specs.FrameStates.{FrameState}
@@ -22,13 +23,14 @@ use Rattle.space_core.specs.Standing.{Kept, IsResting, MustWrite, StandsFor, cop
 use Rattle.pager_model.specs.CallEntries.{answer_entry}
 use Rattle.flight_core.specs.declared.flight.Flight.{Flight}
 use Rattle.flight_core.specs.declared.flight.Phase.{Phase}
-use Rattle.flight_core.specs.declared.flight.Phase.TheVariants.{Short, Fault, Lack, Ended}
+use Rattle.flight_core.specs.declared.flight.Phase.TheVariants.{Short, Fault, Lack, Busy, Ended}
 use Rattle.flight_core.specs.Flights.{IsReady}
 use Rattle.flight_core.specs.Rows.{access_in, access_of, call_in, claimed_in, faulted}
 use Rattle.flight_core.specs.Steps.{Makes, Refuses}
 use Rattle.flight_core.proofs.AnswerSteps.{MayEnd, IsAnswered, answered_in, is_access_by_page, is_access_of}
 use Rattle.flight_core.proofs.EntrySteps.{unchanged}
 use Rattle.flight_core.proofs.NextFlights.{under_fault}
+use Rattle.flight_core.proofs.PinSteps.{is_pinning-for}
 use Rattle.flight_core.proofs.Purposes.{in_phase, with_phase}
 use Rattle.flight_core.proofs.UnchangedSpaces.{unchanged_stands}
 
@@ -201,6 +203,19 @@ ends_no_memory f space kept st ready = (
       (MayFail-access st (call_in f.purpose) ready.fits.phase),
 )
 
+-- A frame that the call is to wire is claimed.
+ends_busy : (f : Flight) (first len page : ℕ) (kept : Kept) (st : SpaceState) → IsReady (in_phase f (Busy first len page)) kept st
+    → IsRefused f (Busy first len page) (SaysBusy page) kept st
+ends_busy f first len page kept st ready = (
+  record {
+    goes_on = refl;
+    made = refl;
+    may = and_from _ _ (is_pinning-for kept.regions (call_in f.purpose) first len true ready.found.pinning.is_for) (eq-eqb page page refl);
+    some = omega arith;
+  },
+  IsAnswered-refusal f (SaysBusy page) kept st ready.stands (same_Some _ _ ready.under) ready.found.resting refl refl tt,
+)
+
 -- A flight that can't be served answers so.
 pub refused : (f : Flight) (reply : Reply) → Refuses f reply → (kept : Kept) (st : SpaceState) (frames : FrameState) → IsReady f kept st
     → Makes f (with_phase f (Ended reply)) kept kept st frames frames
@@ -212,4 +227,7 @@ refused f (StoreFault space count) phase = λ kept.
     answered_in f (Fault space count) (refusal (StoreFault space count)) kept kept refl phase (ends_fault f space count kept)
 refused f NoMemory phase = λ kept.
     answered_in f (Lack phase.0) (refusal NoMemory) kept kept refl phase.1 (ends_no_memory f phase.0 kept)
+refused f (SaysBusy page) phase = λ kept.
+    answered_in f (Busy phase.0 phase.1 page) (refusal (SaysBusy page)) kept kept refl phase.2
+    (ends_busy f phase.0 phase.1 page kept)
 refused f reply phase = absurd phase

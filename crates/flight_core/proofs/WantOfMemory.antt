@@ -6,13 +6,13 @@ use Rattle.std.proofs.lemmas.Option.{none-some, same_Some}
 use Rattle.pager_model.specs.declared.entry.Entry.{Entry}
 use Rattle.pager_model.specs.declared.entry.Victim.{Victim}
 use Rattle.pager_model.specs.declared.entry.What.{What}
-use Rattle.pager_model.specs.declared.entry.What.TheVariants.{Answer, Failed, Take, Give, Clear as Cleared, Claim, UseHeld, DropHeld, Got, Unclaim as Unclaimed, Refused, Rest}
+use Rattle.pager_model.specs.declared.entry.What.TheVariants.{Answer, Failed, Take, Give, Clear as Cleared, Pin as Pinned, Kept as Blocked, Claim, UseHeld, DropHeld, Got, Unclaim as Unclaimed, Refused, Rest}
 use Rattle.pager_model.specs.declared.reply.Reply.{Reply}
 use Rattle.pager_model.specs.declared.reply.Reply.TheVariants.{NoMemory}
 use Rattle.pager_model.specs.Order.{is_served}
 use Rattle.space_core.specs.Beginning.{copied_reply}
 use Rattle.flight_core.specs.declared.flight.Phase.{Phase}
-use Rattle.flight_core.specs.declared.flight.Phase.TheVariants.{Start, Evict, Clear, Gone, Frame, Short, Fill, Unfill, Out, Write, Hand, Unclaim, Back, Drop, Late, Use, Fault, Lack, Look, Rested, Ended}
+use Rattle.flight_core.specs.declared.flight.Phase.TheVariants.{Start, Evict, Clear, Pin, Busy, Gone, Frame, Short, Fill, Unfill, Out, Write, Hand, Unclaim, Back, Drop, Late, Use, Fault, Lack, Look, Rested, Ended}
 use Rattle.flight_core.specs.declared.flight.Flight.{Flight}
 use Rattle.flight_core.specs.declared.flight.Purpose.{Purpose}
 use Rattle.flight_core.specs.declared.flight.Purpose.TheVariants.{Call as OfCall, Turn as OfTurn}
@@ -55,6 +55,9 @@ NeverLacks-made purpose (Write v) what new none row has = cc
 NeverLacks-made purpose (Evict page) (Answer number call a) new none row has =
     ap is_lacking row.1 ∙ ap is_no_memory row.0.1 ∙ copied_lacks row.0.0
 NeverLacks-made purpose (Clear first len) (Cleared from size) new none row has = ap is_lacking row.2
+NeverLacks-made purpose (Pin first len wired) (Pinned from size flag) new none row has = ap is_lacking row.3
+NeverLacks-made purpose (Pin first len wired) (Blocked from size page frame) new none row has = ap is_lacking row.3
+NeverLacks-made purpose (Busy first len page) (Answer number call a) new none row has = ap is_lacking row.1 ∙ ap is_no_memory row.0
 NeverLacks-made purpose (Gone first len) (Answer number call a) new none row has = ap is_lacking row.1 ∙ ap is_no_memory row.0
 NeverLacks-made purpose (Frame page want) (Take p frame w) new none row has = ap is_lacking row.2
 NeverLacks-made purpose (Frame page want) (Claim space p frame need) new none row has = ap is_lacking row

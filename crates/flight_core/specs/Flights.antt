@@ -9,14 +9,14 @@ use Rattle.pager_model.specs.Order.{is_access}
 use Rattle.pager_model.specs.PreferredSize.{IsWanted}
 use Rattle.pager_model.specs.Regions.{wanted}
 use Rattle.pager_model.specs.SpaceStates.{SpaceState, Anyone, access_page}
-use Rattle.space_core.specs.Beginning.{IsUnmapping, IsEvicting, NoneResident, NeedsNoFrame}
+use Rattle.space_core.specs.Beginning.{AreAbsent, IsToClear, IsToPin, IsEvicting, NeedsNoFrame}
 use Rattle.space_core.specs.Standing.{Kept, StandsFor, IsResting, MustWrite, range_of, frame_at, dirty_at, is_allowed, copied_page, CanBegin}
 use Rattle.flight_core.specs.declared.flight.Flight.{Flight}
 use Rattle.flight_core.specs.declared.flight.Phase.{Phase}
-use Rattle.flight_core.specs.declared.flight.Phase.TheVariants.{Start, Evict, Clear, Gone, Frame, Short, Fill, Unfill, Out, Write, Hand, Unclaim, Back, Drop, Late, Use, Fault, Lack, Look, Rested, Ended}
+use Rattle.flight_core.specs.declared.flight.Phase.TheVariants.{Start, Evict, Clear, Pin, Busy, Gone, Frame, Short, Fill, Unfill, Out, Write, Hand, Unclaim, Back, Drop, Late, Use, Fault, Lack, Look, Rested, Ended}
 use Rattle.flight_core.specs.declared.flight.Purpose.{Purpose}
 use Rattle.flight_core.specs.declared.flight.Purpose.TheVariants.{Call as OfCall, Turn as OfTurn}
-use Rattle.flight_core.specs.Rows.{call_in, claimed_in, row_of, space_under}
+use Rattle.flight_core.specs.Rows.{call_in, claimed_in, pins, row_of, space_under}
 use Rattle.pager_model.specs.Bounds.{space_pages}
 
 -- a load or a store at this page, which the rights of the page allow
@@ -50,18 +50,29 @@ pub record CannotFill (call : Call) (kept : Kept) (page frame : ℕ) : Type 0 wh
   pub has : HasFrame call kept page frame
   pub clean : dirty_at kept page ≡ false
 
--- it unmaps this region, whose pages are to give their frames up
+-- it needs this range cleared, whose pages are to give their frames up
 pub record WillClear (call : Call) (kept : Kept) (first len : ℕ) : Type 0 where
-  pub unmapping : IsUnmapping kept call first len
+  pub clears : IsToClear kept call first len
   pub resting : IsResting kept
 
--- it unmaps the region of this range, which was cleared
+-- it needed this range cleared, and so it is
 pub record HasCleared (call : Call) (kept : Kept) (first len : ℕ) : Type 0 where
-  pub unmapping : IsUnmapping kept call first len
+  pub clears : IsToClear kept call first len
   pub none_pending : kept.pending ≡ None
   pub none_paged : kept.paged ≡ None
   pub clearing : kept.clearing ≡ Some (range_of first len)
-  pub none : NoneResident kept first len
+  pub none : AreAbsent kept first len
+
+-- It pins the region of this range, or leaves it pinned no longer. Before the range's frames are wired, or are no longer, and after it the
+-- space is the same: the region changes with the answer.
+pub record WillPin (call : Call) (kept : Kept) (first len : ℕ) (wired : Bool) : Type 0 where
+  pub pinning : IsToPin kept call first len wired
+  pub resting : IsResting kept
+
+-- what its range was needed for was done: it is pinned, or is no longer, or is cleared
+abbrev pub IsReadied : Call → Kept → ℕ → ℕ → Option Bool → Type 0
+IsReadied call kept first len None = HasCleared call kept first len
+IsReadied call kept first len (Some wired) = WillPin call kept first len wired
 
 -- it evicts this page, which gives its frame up next
 pub record WillEvict (call : Call) (kept : Kept) (page : ℕ) : Type 0 where
@@ -102,7 +113,9 @@ abbrev pub PhaseStands : Call → Kept → Phase → Type 0
 PhaseStands call kept Start = IsResting kept
 PhaseStands call kept (Evict page) = WillEvict call kept page
 PhaseStands call kept (Clear first len) = WillClear call kept first len
-PhaseStands call kept (Gone first len) = HasCleared call kept first len
+PhaseStands call kept (Pin first len wired) = WillPin call kept first len wired
+PhaseStands call kept (Busy first len page) = WillPin call kept first len true
+PhaseStands call kept (Gone first len) = IsReadied call kept first len (pins call)
 PhaseStands call kept (Frame page want) = WantsFrame call kept page want
 PhaseStands call kept (Short wired claimed held) = LacksItsFrame call kept
 PhaseStands call kept (Fill page frame) = HasFrame call kept page frame

@@ -3,16 +3,16 @@
 -- the one table of locks, by the place in the order and by whether an entry led to the phase.
 use Rattle.std.specs.Prelude.{ℕ, ◌+◌, ◌-◌, ◌*◌, Bool, true, false, not, if◌then◌else◌, Option, Some, None}
 use Rattle.pager_model.specs.declared.call.Call.{Call}
-use Rattle.pager_model.specs.declared.call.Call.TheVariants.{Load, Store}
+use Rattle.pager_model.specs.declared.call.Call.TheVariants.{Load, Store, Wire, Unwire}
 use Rattle.pager_model.specs.declared.entry.Victim.{Victim}
 use Rattle.pager_model.specs.declared.reply.Reply.{Reply}
 use Rattle.pager_model.specs.Flat.{space_of_call}
 use Rattle.pager_model.specs.Locks.{under_in, keeps_in}
-use Rattle.pager_model.specs.Order.{Access, Purpose as Claims, ForAccess, ForTurn, Doing, Idle, Looking, Cleared, Uncopied, Filling, Unfilling, Claiming, Emptied, Unwritten, Holding, Late as AnswersLate, Faulted, Lacking, Refusing, Progress}
-use Rattle.pager_model.specs.SpaceStates.{Next, Anyone, Only, AfterClear, access_page}
+use Rattle.pager_model.specs.Order.{Access, Purpose as Claims, ForAccess, ForTurn, Doing, Idle, Looking, Cleared, Pinned, Blocked, Uncopied, Filling, Unfilling, Claiming, Emptied, Unwritten, Holding, Late as AnswersLate, Faulted, Lacking, Refusing, Progress}
+use Rattle.pager_model.specs.SpaceStates.{Next, Anyone, Only, AfterClear, AfterPin, access_page}
 use Rattle.flight_core.specs.declared.flight.Flight.{Flight}
 use Rattle.flight_core.specs.declared.flight.Phase.{Phase}
-use Rattle.flight_core.specs.declared.flight.Phase.TheVariants.{Start, Evict, Clear, Gone, Frame, Short, Fill, Unfill, Out, Write, Hand, Unclaim, Back, Drop, Late, Use, Fault, Lack, Look, Rested, Ended}
+use Rattle.flight_core.specs.declared.flight.Phase.TheVariants.{Start, Evict, Clear, Pin, Busy, Gone, Frame, Short, Fill, Unfill, Out, Write, Hand, Unclaim, Back, Drop, Late, Use, Fault, Lack, Look, Rested, Ended}
 use Rattle.flight_core.specs.declared.flight.Needs.{Needs}
 use Rattle.flight_core.specs.declared.flight.Needs.TheVariants.{Space, Both, Frames, Ended as NoneNeeded}
 use Rattle.flight_core.specs.declared.flight.Purpose.{Purpose}
@@ -66,6 +66,12 @@ access_of call claimed =
 
 abbrev pub access_in : Purpose → Access
 access_in purpose = access_of (call_in purpose) (claimed_in purpose)
+
+-- whether a call pins its region or leaves it pinned no longer, where it does either
+abbrev pub pins : Call → Option Bool
+pins (Wire space page) = Some true
+pins (Unwire space page) = Some false
+pins call = None
 
 -- what it claims a frame for
 abbrev pub claims_for : Purpose → Claims
@@ -178,6 +184,16 @@ abbrev pub faulted : Access → ℕ → ℕ → Option ℕ → Doing
 faulted access space count None = Faulted access space count
 faulted access space count (Some page) = Uncopied space page count
 
+-- Where a processor is whose call is done next: the range that it was for is cleared, or it is pinned, or is no longer.
+abbrev pub readied : ℕ → ℕ → ℕ → Option Bool → Doing
+readied space first len None = Cleared space first len
+readied space first len (Some wired) = Pinned space first len wired
+
+-- and who makes the next entry of the space then: that call's answer alone
+abbrev pub next_readied : ℕ → ℕ → ℕ → Option Bool → Next
+next_readied c first len None = AfterClear c first len
+next_readied c first len (Some wired) = AfterPin c first len wired
+
 -- the row of a victim's page that can't be paged out, which an entry led to where the write failed
 abbrev pub unclaiming : Option ℕ → ℕ → Purpose → Victim → Option ℕ → Row
 unclaiming own n purpose v None = found both own (at n (Claiming (claims_for purpose) v)) Anyone (left_by purpose 2 2 5)
@@ -208,8 +224,11 @@ abbrev pub row_in : ℕ → ℕ → Option ℕ → Purpose → Phase → Row
 row_in c n own purpose Start = placed alone own (at n Idle) Anyone 10 8
 row_in c n own purpose (Evict page) = found both own (at n Idle) Anyone 1 8
 row_in c n own purpose (Clear first len) = found both own (at n Idle) Anyone 2 8
-row_in c n own purpose (Gone first len) = placed alone own (at n (Cleared (space_of_call (call_in purpose)) first len))
-    (AfterClear c first len) 1 7
+row_in c n own purpose (Pin first len wired) = found both own (at n Idle) Anyone 2 8
+row_in c n own purpose (Busy first len page) = placed alone own (at n (Blocked (space_of_call (call_in purpose)) first len page)) (Only c) 1 7
+row_in c n own purpose (Gone first len) =
+    placed alone own (at n (readied (space_of_call (call_in purpose)) first len (pins (call_in purpose))))
+    (next_readied c first len (pins (call_in purpose))) 1 7
 row_in c n own purpose (Frame page want) = found both own (at n Idle) Anyone 9 8
 row_in c n own purpose (Short wired claims held) = placed alone own (at n (Refusing wired claims held)) Anyone 1 7
 row_in c n own purpose (Out v) = placed both own (at n (Claiming (claims_for purpose) v)) Anyone (left_by purpose 8 4 5)
@@ -267,6 +286,7 @@ row_of f = row_in f.processor f.number (own_space f.purpose) f.purpose f.phase
 abbrev pub is_between : Purpose → Phase → Bool
 is_between purpose (Evict page) = false
 is_between purpose (Clear first len) = false
+is_between purpose (Pin first len wired) = false
 is_between purpose (Frame page want) = false
 is_between purpose (Write v) = false
 is_between purpose (Unclaim v None) = false

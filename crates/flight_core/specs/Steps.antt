@@ -3,9 +3,9 @@ use Rattle.std.specs.Prelude.{ℕ, ◌≡◌, ◌≢◌, ◌<◌, ◌≤◌, Boo
 use Rattle.pager_model.specs.declared.call.Call.{Call}
 use Rattle.pager_model.specs.declared.entry.Entry.{Entry}
 use Rattle.pager_model.specs.declared.entry.What.{What}
-use Rattle.pager_model.specs.declared.entry.What.TheVariants.{Answer, Out as PagedOut, Failed, Take, Give, Clear as Cleared, Claim, UseHeld, DropHeld, Got, Unclaim as Unclaimed, Refused, Rest}
+use Rattle.pager_model.specs.declared.entry.What.TheVariants.{Answer, Out as PagedOut, Failed, Take, Give, Clear as Cleared, Pin as Pinned, Kept as Blocked, Claim, UseHeld, DropHeld, Got, Unclaim as Unclaimed, Refused, Rest}
 use Rattle.pager_model.specs.declared.reply.Reply.{Reply}
-use Rattle.pager_model.specs.declared.reply.Reply.TheVariants.{Done, NoFrames, StoreFault, NoMemory}
+use Rattle.pager_model.specs.declared.reply.Reply.TheVariants.{Done, NoFrames, StoreFault, NoMemory, Busy as SaysBusy}
 use Rattle.pager_model.specs.Entries.{NamesItsParts, names_space}
 use Rattle.pager_model.specs.FrameStates.{FrameState, frames_after, frame_of, FramesAllow}
 use Rattle.pager_model.specs.Flat.{space_of_call}
@@ -17,7 +17,7 @@ use Rattle.space_core.specs.Standing.{Kept, dirty_at, frame_at, must_write}
 use Rattle.pager_laws.specs.Laid.{IsSound}
 use Rattle.flight_core.specs.declared.flight.Flight.{Flight}
 use Rattle.flight_core.specs.declared.flight.Phase.{Phase}
-use Rattle.flight_core.specs.declared.flight.Phase.TheVariants.{Start, Evict, Clear, Gone, Frame, Short, Fill, Unfill, Out, Write, Hand, Unclaim, Back, Drop, Late, Use, Fault, Lack, Look, Rested, Ended}
+use Rattle.flight_core.specs.declared.flight.Phase.TheVariants.{Start, Evict, Clear, Pin, Busy, Gone, Frame, Short, Fill, Unfill, Out, Write, Hand, Unclaim, Back, Drop, Late, Use, Fault, Lack, Look, Rested, Ended}
 use Rattle.flight_core.specs.declared.flight.Purpose.{Purpose}
 use Rattle.flight_core.specs.Rows.{call_in, is_of_call, mark_in, row_of, is_between, Going, reply_in, won, given_up, let_go}
 use Rattle.flight_core.specs.Flights.{Fits, IsReady, LeftBy}
@@ -41,6 +41,7 @@ abbrev pub Refuses : Flight → Reply → Type 0
 Refuses f (NoFrames wired claimed held) = f.phase ≡ Short wired claimed held
 Refuses f (StoreFault space count) = f.phase ≡ Fault space count
 Refuses f NoMemory = (space : ℕ) × (f.phase ≡ Lack space)
+Refuses f (SaysBusy page) = (first : ℕ) × (len : ℕ) × (f.phase ≡ Busy first len page)
 Refuses f reply = ⊥
 
 -- it is the same call, or the same turn of a daemon
@@ -126,6 +127,10 @@ RowMakes purpose Start (Answer number call a) new = new ≡ Ended a.reply
 RowMakes purpose Start (Failed page writing count) new = (writing ≡ true) × (new ≡ Fault (space_of_call (call_in purpose)) count)
 RowMakes purpose (Evict page) (Answer number call a) new = ((written : Bool) × (a.reply ≡ copied_reply written)) × (new ≡ Ended a.reply)
 RowMakes purpose (Clear first len) (Cleared from size) new = (from ≡ first) × (size ≡ len) × (new ≡ Gone first len)
+RowMakes purpose (Pin first len wired) (Pinned from size flag) new = (from ≡ first) × (size ≡ len) × (flag ≡ wired) × (new ≡ Gone first len)
+RowMakes purpose (Pin first len wired) (Blocked from size page frame) new =
+    (from ≡ first) × (size ≡ len) × (wired ≡ true) × (new ≡ Busy first len page)
+RowMakes purpose (Busy first len page) (Answer number call a) new = (a.reply ≡ SaysBusy page) × (new ≡ Ended a.reply)
 RowMakes purpose (Gone first len) (Answer number call a) new = (a.reply ≡ Done) × (new ≡ Ended a.reply)
 RowMakes purpose (Frame page want) (Take p frame w) new = (p ≡ page) × (w ≡ want) × (new ≡ Fill page frame)
 RowMakes purpose (Frame page want) (Claim space p frame need) new = new ≡ Out (record { space = space; page = p; frame = frame })
@@ -152,6 +157,7 @@ RowMakes purpose phase what new = ⊥
 abbrev pub RowPasses : Phase → Phase → Type 0
 RowPasses Start (Frame page want) = Unit {0}
 RowPasses Start (Clear first len) = Unit {0}
+RowPasses Start (Pin first len wired) = Unit {0}
 RowPasses Start (Evict page) = Unit {0}
 RowPasses (Out v) new = new ≡ Write v
 RowPasses (Write v) new = new ≡ Unclaim v None

@@ -33,12 +33,24 @@ pub enum Phase {
     Evict {
         page: u32,
     },
-    /// The call unmaps this region, whose pages have to give their frames up.
+    /// The call unmaps the region of this range, or discards the range, whose pages have to give their frames up.
     Clear {
         first: u32,
         length: u32,
     },
-    /// No page of the region that the call unmaps is resident.
+    /// The call wires the region of this range, or unwires it: its frames have to be wired, or to be so no longer.
+    Pin {
+        first: u32,
+        length: u32,
+        wired: bool,
+    },
+    /// The call wires the region of this range, and the frame of this page of it is claimed.
+    Busy {
+        first: u32,
+        length: u32,
+        page: u32,
+    },
+    /// No page of the range that the call needed cleared is resident, or the frames of its region are wired, or are so no longer, as it says.
     Gone {
         first: u32,
         length: u32,
@@ -217,6 +229,7 @@ impl Flight {
             }
             Phase::Evict { .. }
             | Phase::Clear { .. }
+            | Phase::Pin { .. }
             | Phase::Frame { .. }
             | Phase::Unfill { .. }
             | Phase::Drop { .. }
@@ -291,7 +304,7 @@ impl Flight {
             Phase::Start => self.start(space),
             Phase::Write { victim } => self.write(space, victim),
             Phase::Back { victim } => self.look_again(space, victim),
-            Phase::Gone { .. } => Some(self.unmap(space)),
+            Phase::Gone { .. } => Some(self.conclude(space)),
             Phase::Fill { page, frame } => Some(self.fill(space, page, frame)),
             Phase::Late => Some(self.answer_late(space)),
             Phase::Short {
@@ -305,6 +318,7 @@ impl Flight {
             })),
             Phase::Fault { space, count } => Some(self.refuse(Reply::StoreFault { space, count })),
             Phase::Lack { .. } => Some(self.refuse(Reply::NoMemory)),
+            Phase::Busy { page, .. } => Some(self.refuse(Reply::Busy { page })),
             _ => unreachable!(),
         }
     }
@@ -335,6 +349,11 @@ impl Flight {
             Phase::Out { victim } => self.collect(pool, victim),
             Phase::Evict { page } => Some(self.evict(space, pool, page)),
             Phase::Clear { first, length } => Some(self.clear(space, pool, first, length)),
+            Phase::Pin {
+                first,
+                length,
+                wired,
+            } => Some(self.pin(space, pool, first, length, wired)),
             Phase::Frame { page, want } => Some(self.take(space, pool, page, want)),
             Phase::Unfill { page, count, .. } => Some(self.unfill(space, pool, page, count)),
             Phase::Hand { victim } => Some(self.hand(space, pool, victim)),

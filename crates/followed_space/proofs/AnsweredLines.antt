@@ -11,13 +11,13 @@ use Rattle.pager_model.specs.declared.entry.Entry.{Entry}
 use Rattle.pager_model.specs.declared.entry.Need.{Need}
 use Rattle.pager_model.specs.declared.entry.Victim.{Victim}
 use Rattle.pager_model.specs.declared.entry.What.{What}
-use Rattle.pager_model.specs.declared.entry.What.TheVariants.{Answer, Out, Failed, Take, Give, Clear, Claim, UseHeld, DropHeld, Got, Unclaim, Refused, Rest}
+use Rattle.pager_model.specs.declared.entry.What.TheVariants.{Answer, Out, Failed, Take, Give, Clear, Claim, UseHeld, DropHeld, Got, Unclaim, Refused, Pin, Kept, Rest}
 use Rattle.pager_model.specs.declared.reply.Answered.{Answered}
 use Rattle.pager_model.specs.declared.reply.Reply.{Reply}
 use Rattle.pager_model.specs.declared.trace.Daemon.{Daemon}
 use Rattle.pager_model.specs.Entries.{entries_of, is_of}
 use Rattle.pager_model.specs.Legal.{IsLegal, MayFollow, progress_in}
-use Rattle.pager_model.specs.Order.{Doing, Idle, Looking, Claiming, Emptied, Unwritten, Holding, Filling, Unfilling, Progress, Purpose, ForAccess, ForTurn, after_answer, after_claim, after_clear, after_drop, after_failure, after_give, after_got, after_out, after_refusal, after_rest, after_take, after_unclaim, after_use, at_rest, leads, may_answer, progress_after, progress_from, progress_of}
+use Rattle.pager_model.specs.Order.{Doing, Idle, Looking, Claiming, Emptied, Unwritten, Holding, Filling, Unfilling, Progress, Purpose, ForAccess, ForTurn, after_answer, after_claim, after_clear, after_drop, after_failure, after_give, after_got, after_kept, after_out, after_pin, after_refusal, after_rest, after_take, after_unclaim, after_use, at_rest, leads, may_answer, progress_after, progress_from, progress_of}
 use Rattle.pager_model.specs.Plans.{Plan}
 use Rattle.pager_model.specs.Settings.{Given, mark_of}
 use Rattle.pager_model.specs.Showing.{Shows, answer_in, answers_in, calls_of, daemon_marks, marks_of}
@@ -91,6 +91,15 @@ turn_clear : (made : ℕ) (doing : Doing) (s first len : ℕ) → in_turn doing 
 turn_clear made Idle s first len t = absurd (true≢false (sym t))
 turn_clear made doing s first len t = stays_none
 
+turn_pin : (made : ℕ) (doing : Doing) (s first len : ℕ) (wired : Bool) → in_turn doing ≡ true
+    → Stays (after_pin made doing s first len wired)
+turn_pin made Idle s first len wired t = absurd (true≢false (sym t))
+turn_pin made doing s first len wired t = stays_none
+
+turn_kept : (made : ℕ) (doing : Doing) (s first len page : ℕ) → in_turn doing ≡ true → Stays (after_kept made doing s first len page)
+turn_kept made Idle s first len page t = absurd (true≢false (sym t))
+turn_kept made doing s first len page t = stays_none
+
 turn_claim : (made : ℕ) (doing : Doing) (space : Option ℕ) (v : Victim) (need : Option Need) → in_turn doing ≡ true
     → Stays (after_claim made doing space v need)
 turn_claim made Idle space v need t = absurd (true≢false (sym t))
@@ -157,6 +166,8 @@ turn_step p space (DropHeld frame) t = turn_drop p.made p.doing frame t
 turn_step p space (Got frame) t = turn_got p.made p.doing frame t
 turn_step p space (Unclaim frame) t = stays_in _ space (λ s. turn_unclaim p.made p.doing s frame t)
 turn_step p space (Refused wired claimed held) t = turn_refused p.made p.doing wired claimed held t
+turn_step p space (Pin first len wired) t = stays_in _ space (λ s. turn_pin p.made p.doing s first len wired t)
+turn_step p space (Kept first len page frame) t = stays_in _ space (λ s. turn_kept p.made p.doing s first len page t)
 turn_step p space (Rest short) t = turn_rest p.made p.doing short t
 
 from_none : (es : List Entry) → progress_from None es ≡ None
@@ -188,21 +199,21 @@ daemon_mark (suc n) d (suc c) is low high = daemon_mark n d c is (omega arith) (
 abbrev OfLine : ℕ → ℕ × Call → Type 0
 OfLine spaces answer = IsCall spaces answer.1
 
-lines_of : (processors spaces n c : ℕ) (lines : List Line) → AllByRecursion (IsLine processors spaces) lines
+lines_of : (version processors spaces n c : ℕ) (lines : List Line) → AllByRecursion (IsLine version processors spaces) lines
     → AllByRecursion (OfLine spaces) (enumerate_from n (calls_of c lines))
-lines_of processors spaces n c [] all = tt
-lines_of processors spaces n c (l ∷ lines) all =
+lines_of version processors spaces n c [] all = tt
+lines_of version processors spaces n c (l ∷ lines) all =
     elim (cases_Bool (l.processor == c)) [
       | inl is ↦
           subst (λ ls. AllByRecursion (OfLine spaces) (enumerate_from n (map (λ (x : Line). x.call) ls)))
           (sym (cond-true (l.processor == c) (l ∷ filter (λ (x : Line). x.processor == c) lines)
           (filter (λ (x : Line). x.processor == c) lines) is))
-          (all.0.1, lines_of processors spaces (n + 1) c lines all.1)
+          (all.0.1, lines_of version processors spaces (n + 1) c lines all.1)
       | inr isnt ↦
           subst (λ ls. AllByRecursion (OfLine spaces) (enumerate_from n (map (λ (x : Line). x.call) ls)))
           (sym (cond-false (l.processor == c) (l ∷ filter (λ (x : Line). x.processor == c) lines)
           (filter (λ (x : Line). x.processor == c) lines) isnt))
-          (lines_of processors spaces n c lines all.1)
+          (lines_of version processors spaces n c lines all.1)
     ]
 
 all_behind : {A : Type 0} (P : A → Type 0) (xs ys : List A) → AllByRecursion P (xs ++ ys) → AllByRecursion P ys
@@ -255,7 +266,7 @@ module _ (plan : Plan) (g : Given) (before after : List Entry) (e : Entry) (trac
   answers_line : (what : What) → e.what ≡ what → AnswersLine what
   answers_line (Answer number call answered) is =
       let shown = (trace.shows.calls e.processor (among_processors number call answered is)).0 in
-      let lines = lines_of plan.processors plan.spaces 0 e.processor plan.calls (recursion_from_All _ _ trace.text.lines) in (
+      let lines = lines_of plan.version plan.processors plan.spaces 0 e.processor plan.calls (recursion_from_All _ _ trace.text.lines) in (
         plan.spaces,
         answer_among (OfLine plan.spaces) e.processor before after e (number, call) (ap answer_in is)
             (eq-eqb e.processor e.processor refl) (subst (AllByRecursion (OfLine plan.spaces)) (sym shown) lines),
@@ -271,6 +282,8 @@ module _ (plan : Plan) (g : Given) (before after : List Entry) (e : Entry) (trac
   answers_line (Got frame) is = tt
   answers_line (Unclaim frame) is = tt
   answers_line (Refused wired claimed held) is = tt
+  answers_line (Pin first len wired) is = tt
+  answers_line (Kept first len page frame) is = tt
   answers_line (Rest short) is = tt
 
 pub AnswersLine-run : (plan : Plan) (g : Given) (before after : List Entry) (e : Entry) → HasText plan → g.marks ≡ marks_of plan

@@ -7,8 +7,8 @@ use Rattle.pager_model.specs.declared.page_range.PageRange.{PageRange}
 use Rattle.pager_model.specs.declared.region.Region.{Region}
 use Rattle.pager_model.specs.declared.tile.Mapping.{Mapping}
 use Rattle.pager_model.specs.Bounds.{space_pages}
-use Rattle.pager_model.specs.Regions.{in_range, region_at}
-use Rattle.pager_model.specs.SpaceStates.{SpaceState, IsRegionOf, space_after}
+use Rattle.pager_model.specs.Regions.{in_range, range_in, region_at}
+use Rattle.pager_model.specs.SpaceStates.{SpaceState, space_after}
 use Rattle.pager_model.specs.Tiles.{mapping_with, is_that_tile}
 use Rattle.region_table.specs.Table.{IsTable}
 use Rattle.followed_space.specs.declared.changed.Changed.TheVariants.{Range}
@@ -16,7 +16,7 @@ use Rattle.followed_space.specs.Changed.{IsChange}
 use Rattle.followed_space.specs.Follows.{Followed, Follows, IsNext}
 use Rattle.followed_space.proofs.Keeping.{frame_in}
 use Rattle.pager_model.proofs.Ranges.{in_bounds, bounds_in}
-use Rattle.region_table.proofs.RegionSearch.{found_from}
+use Rattle.region_table.proofs.RegionRights.{lies_from, lies_in_space}
 use Rattle.tiles.specs.Cleared.{Clears}
 use Rattle.tiles.specs.Resident.{Maps, Resident, IsNextResident, NoneResident, mapping_at}
 use Rattle.tiles.specs.Touched.{is_touched}
@@ -94,16 +94,7 @@ clears_all first from len old new so_far low none p =
           ] ∙ sym (cond-false _ _ _ out)
     ]
 
--- a region's range lies in the space
-pub region_in_space : (regions : List Region) (first len : ℕ) → IsTable regions → IsRegionOf (region_at regions first) first len
-    → first + len ≤ space_pages
-region_in_space regions first len ordered is = at_region (region_at regions first) refl is
-  where
-    at_region : (o : Option Region) → region_at regions first ≡ o → IsRegionOf o first len → first + len ≤ space_pages
-    at_region None at h = absurd h
-    at_region (Some r) at h = omega (arith, h.0, h.1, (found_from 0 regions ordered.in_order first r at).in_space)
-
--- the pages of a region gave their frames up
+-- the pages of a range gave their frames up
 pub follows_cleared : (old : Followed) (new : Resident) (first len : ℕ) → Clears first len (mapping_at old.pages) (mapping_at new)
     → (st : SpaceState) (e : Entry) → e.what ≡ Clear first len → IsNext old st e → Follows (record old { pages = new }) (space_after st e)
 follows_cleared old new first len clears st e is next =
@@ -130,4 +121,5 @@ pub clear_next : (old : Followed) (first len : ℕ) → IsTable old.regions
     → (st : SpaceState) (e : Entry) → e.what ≡ Clear first len → IsNext old st e → first + len ≤ space_pages
 clear_next old first len ordered st e is next =
     let allowed = rw is at next.allowed.1 in
-    region_in_space old.regions first len ordered (subst (λ rs. IsRegionOf (region_at rs first) first len) next.follows.regions allowed)
+    lies_in_space old.regions first len ordered
+    (lies_from old.regions first len (subst (λ rs. range_in first len (region_at rs first) ≡ true) next.follows.regions allowed))

@@ -12,8 +12,8 @@ use Rattle.pager_model.specs.declared.tile.Mapping.{Mapping}
 use Rattle.pager_model.specs.Flat.{Flat, out}
 use Rattle.pager_model.specs.Laws.{KeepsCopies, WasCleared}
 use Rattle.pager_model.specs.Regions.{region_at, wanted_at, rights_by}
-use Rattle.pager_model.specs.SpaceStates.{SpaceState, Next, IsUnmapAnswer, MayGoOn, WhatAllowed, base_after, flat_after, space_after}
-use Rattle.pager_model.specs.SpaceStates.Next.{Anyone, Only, AfterClear}
+use Rattle.pager_model.specs.SpaceStates.{SpaceState, Next, IsClearingAnswer, MayGoOn, WhatAllowed, base_after, flat_after, space_after}
+use Rattle.pager_model.specs.SpaceStates.Next.{Anyone, Only, AfterClear, AfterPin}
 use Rattle.pager_model.specs.Tiles.{mapping_with}
 use Rattle.followed_space.specs.Follows.{Followed, Follows, FillsUnused, IsNext, IsUnused, Keeps, MapsOne, filled}
 use Rattle.followed_space.proofs.Keeping.{keeps_one, keeps_flag}
@@ -30,14 +30,15 @@ pub record Fills (frames : ℕ) (st : SpaceState) (b : Bool) (what : What) (page
   pub flat : flat_after st.flat what ≡ st.flat
   pub base : (p : ℕ) → base_after st.base b what p ≡ (if p == page then Some frame else st.base p)
 
--- no entry but an unmap's answer comes where a page was just cleared
-not_cleared : (n : Next) (c page : ℕ) (what : What) → ((first len : ℕ) → IsUnmapAnswer first len what → ⊥) → MayGoOn n c what
+-- no entry but the answer of an unmap or a discard comes where a page was just cleared
+not_cleared : (n : Next) (c page : ℕ) (what : What) → ((first len : ℕ) → IsClearingAnswer first len what → ⊥) → MayGoOn n c what
     → WasCleared n page → ⊥
 not_cleared Anyone c page what other go was = was
 not_cleared (Only d) c page what other go was = was
 not_cleared (AfterClear d first len) c page what other go was = other first len go.1
+not_cleared (AfterPin d first len wired) c page what other go was = was
 
-clean_absent : (st : SpaceState) (c page : ℕ) (what : What) → ((first len : ℕ) → IsUnmapAnswer first len what → ⊥) → MayGoOn st.next c what
+clean_absent : (st : SpaceState) (c page : ℕ) (what : What) → ((first len : ℕ) → IsClearingAnswer first len what → ⊥) → MayGoOn st.next c what
     → KeepsCopies st → st.base page ≡ None → st.flat.dirty page ≡ false
 clean_absent st c page what other go copies absent =
     elim (cases_Bool (st.flat.dirty page)) [

@@ -1,16 +1,17 @@
--- What is followed after a region is mapped, grows, goes, or gets other rights.
+-- What is followed after a region is mapped, grows, is pinned, goes, or gets other rights, and after a range is discarded.
 use Rattle.std.proofs.Common.{◌≡◌, ℕ, ◌⊎◌, Bool, true, false, ◌&&◌, if◌then◌else◌, List, Option, Some, None, option_map, refl, sym, ap, inl, inr, ◌∙◌, subst}
 use Rattle.std.proofs.lemmas.Bool.{cases_Bool, cond-true, cond-false}
 use Rattle.std.proofs.lemmas.Option.{none-some, same_Some}
-use Rattle.pager_model.specs.declared.call.Call.TheVariants.{Map, Grow, Unmap, Protect}
+use Rattle.pager_model.specs.declared.call.Call.TheVariants.{Map, Grow, Unmap, Protect, Discard, Wire, Unwire}
 use Rattle.pager_model.specs.declared.entry.Entry.{Entry}
 use Rattle.pager_model.specs.declared.region.Kind.{Kind}
 use Rattle.pager_model.specs.declared.region.Region.{Region}
 use Rattle.pager_model.specs.declared.region.Rights.{Rights}
+use Rattle.pager_model.specs.declared.region.Rights.TheVariants.{NoAccess}
 use Rattle.pager_model.specs.declared.reply.Reply.TheVariants.{Done, Unmapped}
 use Rattle.pager_model.specs.declared.tile.Mapping.{Mapping}
 use Rattle.pager_model.specs.Flat.{Flat, after_call, is_lawful}
-use Rattle.pager_model.specs.Regions.{end_of, has_page, in_range, meets_range, region_at, with_region, without_region, grown_regions, range_in}
+use Rattle.pager_model.specs.Regions.{end_of, has_page, in_range, meets_range, region_at, with_region, without_region, grown_regions, pinned_regions, range_in}
 use Rattle.pager_model.specs.SpaceStates.{SpaceState, IsCleared, IsClearedAt, base_after, space_after}
 use Rattle.pager_model.specs.Tiles.{mapping_with, mappings}
 use Rattle.region_table.specs.Table.{IsTable, region_of}
@@ -18,7 +19,7 @@ use Rattle.page_rights.specs.Rights.{RightsTree, rights_of}
 use Rattle.pager_laws.proofs.RegionReplies.{Grows}
 use Rattle.followed_space.specs.Follows.{Followed, Follows, IsNext, Keeps, Serves}
 use Rattle.followed_space.proofs.Keeping.{absent_base, absent_mapping, frame_in}
-use Rattle.region_table.proofs.RegionRights.{AreRights, Gains, GivesOwn, LiesInRegion, LosesRights, OwnRightsIn, gains_rights, grow_gains, lies_from, map_gains, protect_rights, start_of, unmap_rights}
+use Rattle.region_table.proofs.RegionRights.{AreRights, Gains, GivesOwn, LiesInRegion, LosesRights, OwnRightsIn, gains_rights, grow_gains, lies_from, map_gains, none_in_empty, pin_gains, protect_rights, start_of, unmap_rights}
 use Rattle.region_table.proofs.RegionSearch.{found_without}
 use Rattle.followed_space.proofs.ServedCalls.{served}
 use Rattle.std.specs.List.{list_any}
@@ -122,7 +123,43 @@ follows_grown old page by ordered grows owned st e space by_it next =
       base = s.base;
     }))
 
--- Unmaps.
+-- a region was pinned
+pub follows_wired : (old : Followed) (page : ℕ) → OwnRightsIn old.regions (rights_of old.own)
+    → (st : SpaceState) (e : Entry) (space : ℕ) → Serves e (Wire space page) → IsNext old st e
+    → Follows (record old { regions = pinned_regions page true old.regions }) (space_after st e)
+follows_wired old page owned st e space by next =
+    let s = served old st e (Wire space page) by next in
+    let g = after_call st.flat (Wire space page) in
+    let changed = pinned_regions page true old.regions in
+    let after = base_after st.base e.frames e.what in
+    subst (λ (x : Flat). Keeps (record old { regions = changed }) x after) (sym s.flat)
+    (keeps_gained old changed 0 0 NoAccess (pin_gains old.regions page true) owned st.flat g st.base after next.follows
+    (record {
+      regions_are = ap (pinned_regions page true) next.follows.regions;
+      rights_then = λ p. sym (cond-false _ _ _ (none_in_empty p));
+      dirty = λ p. refl;
+      base = s.base;
+    }))
+
+-- a region is pinned no longer
+pub follows_unwired : (old : Followed) (page : ℕ) → OwnRightsIn old.regions (rights_of old.own)
+    → (st : SpaceState) (e : Entry) (space : ℕ) → Serves e (Unwire space page) → IsNext old st e
+    → Follows (record old { regions = pinned_regions page false old.regions }) (space_after st e)
+follows_unwired old page owned st e space by next =
+    let s = served old st e (Unwire space page) by next in
+    let g = after_call st.flat (Unwire space page) in
+    let changed = pinned_regions page false old.regions in
+    let after = base_after st.base e.frames e.what in
+    subst (λ (x : Flat). Keeps (record old { regions = changed }) x after) (sym s.flat)
+    (keeps_gained old changed 0 0 NoAccess (pin_gains old.regions page false) owned st.flat g st.base after next.follows
+    (record {
+      regions_are = cond-true _ _ _ s.asked ∙ ap (pinned_regions page false) next.follows.regions;
+      rights_then = λ p. sym (cond-false _ _ _ (none_in_empty p));
+      dirty = λ p. refl;
+      base = s.base;
+    }))
+
+-- Unmaps and discards.
 
 -- a region went
 pub follows_unmapped : (old : Followed) (page : ℕ) (r : Region) (forgotten : RightsTree)
@@ -150,6 +187,23 @@ follows_unmapped old page r forgotten loses st e space by next =
           ∙ sym (ap (λ rs. region_at rs p) k.regions) in
           let clean : g.dirty p ≡ f.dirty p = rw found (cond-false _ _ _ stays) in
           inr (rw (same, clean) refl)
+    ]))
+
+-- the pages of a range, which gave their frames up before, are new but for their rights
+pub follows_discarded : (kept : Followed) (space page len : ℕ) → (st : SpaceState) (e : Entry) → Serves e (Discard space page len)
+    → IsNext kept st e → Follows kept (space_after st e)
+follows_discarded kept space page len st e by next =
+    let s = served kept st e (Discard space page len) by next in
+    let k = next.follows in
+    let f = st.flat in
+    let g = after_call f (Discard space page len) in
+    subst (λ (x : Flat). Keeps kept x (base_after st.base e.frames e.what)) (sym s.flat)
+    (keeps_regions kept kept.regions kept.own f g st.base (base_after st.base e.frames e.what) k k.regions k.rights s.base
+    (λ p. elim (cases_Bool (in_range page len p)) [
+      | inl gone ↦ inl (s.pages p gone)
+      | inr stays ↦
+          let clean : g.dirty p ≡ f.dirty p = rw (s.asked, stays) refl in
+          inr (ap (mapping_with (st.base p) (region_at f.regions p) (f.rights p)) clean)
     ]))
 
 -- Protects.

@@ -1,7 +1,7 @@
 //! A space whose entries are followed.
 
 ghost use Rattle.std.specs.Prelude.{◌≡◌, ℕ, ◌+◌, ◌/◌, ◌<◌, ◌≤◌, Bool, true, false, Some, None, IfOk, option_map};
-ghost use Rattle.pager_model.specs.declared.call.Call.TheVariants.{Map, Grow, Unmap, Protect, Store, Sync, Evict};
+ghost use Rattle.pager_model.specs.declared.call.Call.TheVariants.{Map, Grow, Unmap, Protect, Store, Sync, Evict, Discard, Wire, Unwire};
 ghost use Rattle.pager_model.specs.declared.entry.Entry.{Entry as Item};
 ghost use Rattle.pager_model.specs.declared.entry.What.TheVariants.{Out, Give, Clear};
 ghost use Rattle.pager_model.specs.Bounds.{most_frames, space_bytes, space_pages};
@@ -221,6 +221,30 @@ impl FollowedSpace {
         self.own.set(region.first, region.length, None);
     }
 
+    /// A region was pinned: its pages are as they were.
+    fn wire(&mut self, page: u32)
+        requires next { (st : SpaceState) × (e : Item) × (space : ℕ) × Serves e (Wire space page) × IsNext self.old st e }
+        ensures pages { self.new.pages ≡ self.old.pages }
+        ensures follows { (st : SpaceState) (e : Item) (space : ℕ) → Serves e (Wire space page) → IsNext self.old st e
+            → Follows self.new (space_after st e) }
+    {
+        let Ok(_) = self.regions.pin(page, true) else {
+            unreachable!()
+        };
+    }
+
+    /// A region is pinned no longer.
+    fn unwire(&mut self, page: u32)
+        requires next { (st : SpaceState) × (e : Item) × (space : ℕ) × Serves e (Unwire space page) × IsNext self.old st e }
+        ensures pages { self.new.pages ≡ self.old.pages }
+        ensures follows { (st : SpaceState) (e : Item) (space : ℕ) → Serves e (Unwire space page) → IsNext self.old st e
+            → Follows self.new (space_after st e) }
+    {
+        let Ok(_) = self.regions.pin(page, false) else {
+            unreachable!()
+        };
+    }
+
     /// The pages of a range got these rights.
     fn protect(&mut self, page: u32, length: u32, rights: Rights) -> Changed
         requires next { (st : SpaceState) × (e : Item) × (space : ℕ) × Serves e (Protect space page length rights) × IsNext self.old st e }
@@ -241,7 +265,7 @@ impl FollowedSpace {
         Changed::Range(blocks_round(page, length))
     }
 
-    /// The pages of a region gave their frames up.
+    /// The pages of a range gave their frames up.
     fn clear(&mut self, first: u32, length: u32) -> Changed
         requires next { (st : SpaceState) × (e : Item) × (e.what ≡ Clear first length) × IsNext self.old st e }
         ensures frames { frames_in self.new.pages ≡ frames_in self.old.pages }
@@ -288,6 +312,16 @@ impl FollowedSpace {
             Call::Store { address, .. } => self.store(address),
             Call::Sync { page, .. } => self.sync(page),
             Call::Evict { page, .. } => self.evict(page),
+            // the range's pages gave their frames up before
+            Call::Discard { .. } => Changed::Nothing,
+            Call::Wire { page, .. } => {
+                self.wire(page);
+                Changed::Nothing
+            }
+            Call::Unwire { page, .. } => {
+                self.unwire(page);
+                Changed::Nothing
+            }
         }
     }
 
@@ -325,7 +359,9 @@ impl FollowedSpace {
             | What::Got { .. }
             | What::Unclaim { .. }
             | What::Refused { .. }
-            | What::Rest { .. } => Changed::Nothing,
+            | What::Rest { .. }
+            | What::Pin { .. }
+            | What::Kept { .. } => Changed::Nothing,
         }
     }
 }

@@ -14,3 +14,5 @@ pub mod MappedRecords
 pub mod MappedParts
 pub mod MappedLooks
 pub mod LayoutMapped
+pub mod PinnedRanges
+pub mod PlacelessPages

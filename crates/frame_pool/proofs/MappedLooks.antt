@@ -84,6 +84,18 @@ module _ (space : ℕ) (e : Extent) where
             (record { space_is = eqb-true _ _ parts.0; low = omega arith; high = omega arith }),
       )
 
+-- no page of an extent that no reservation meets is in one
+pub covering-apart : (records : List (Option Reservation)) (space : ℕ) (e : Extent) → meets_any space records e.size e.first ≡ false
+    → (page : ℕ) → e.first ≤ page → page < e.first + 8 ^ e.size → covering space page records ≡ None
+covering-apart records space e apart page low high = at (covering space page records) refl
+  where
+    at : (o : Option Reservation) → covering space page records ≡ o → covering space page records ≡ None
+    at None is = is
+    at (Some r) is =
+        let w = covering-found space page records r is in
+        absurd (false≢true (sym apart ∙ list_any_at (meets space e.size e.first) records w.0 None w.1
+        (ap (meets space e.size e.first) w.2 ∙ meets_by space e page r low high w.3)))
+
 -- it is an extent, and begins in the space
 pub record IsOfSpace (e : Extent) : Type 0 where
   pub aligned : IsExtent e.size e.first

@@ -1,5 +1,5 @@
 -- What each move keeps true of a pool's fields.
-use Rattle.std.proofs.Common.{◌≡◌, ◌≢◌, ℕ, ◌+◌, ◌<◌, ◌≤◌, true, false, cond, List, length, get_or, set, map, Option, Some, None, option_map, replicate, refl, sym, ap, subst, ◌∙◌, inl, inr, arith}
+use Rattle.std.proofs.Common.{◌≡◌, ◌≢◌, ℕ, ◌+◌, ◌<◌, ◌≤◌, Bool, true, false, cond, List, length, get_or, set, map, Option, Some, None, option_map, replicate, refl, sym, ap, subst, ◌∙◌, inl, inr, arith}
 use Rattle.std.specs.List.{range_with_len}
 use Rattle.std.specs.Option.{is_some, IsSome, IfSome}
 use Rattle.std.proofs.Math.ListN.{get_or-map}
@@ -14,8 +14,8 @@ use Rattle.pager_model.specs.declared.entry.Want.{Want}
 use Rattle.pager_model.specs.declared.reservation.Reservation.{Reservation}
 use Rattle.pager_model.specs.declared.reservation.Used.{Used}
 use Rattle.pager_model.specs.Agreement.{has_frame}
-use Rattle.pager_model.specs.FrameStates.{FrameState, start_frames, layout_of, used_at, held_by, claim_in, frame_of, HasNothing, taking, Taking, take_frame, counted, layout_given, held_given, given, give_page, given_in, with_claim, claimed, dropped_in, is_evictable}
-use Rattle.pager_model.specs.Layouts.{Layout, start_layout, placing, put_back, record_at}
+use Rattle.pager_model.specs.FrameStates.{FrameState, start_frames, layout_of, used_at, held_by, claim_in, frame_of, HasNothing, taking, Taking, take_frame, counted, layout_given, held_given, given, give_page, given_in, with_claim, claimed, pin_range, lowest_claimed, dropped_in, is_evictable}
+use Rattle.pager_model.specs.Layouts.{Layout, start_layout, frame_in, placing, put_back, record_at}
 use Rattle.pager_model.specs.Records.{is_used}
 use Rattle.pager_model.proofs.Lists.{get_or-alike}
 use Rattle.pager_model.proofs.Options.{none_from_is_some}
@@ -29,7 +29,8 @@ use Rattle.frame_pool.proofs.PlacingResult.{Asked}
 use Rattle.pager_laws.proofs.PagePlaces.{covers-CoversPageOf, has_frame_for, HasPlace, frame_in-from, frame_in-found, covering-is}
 use Rattle.pager_laws.proofs.LayoutRelease.{Gives-vacate, Gives-carve}
 use Rattle.pager_laws.proofs.LayoutPlacing.{WasPlaced-placing}
-use Rattle.pager_laws.proofs.StateSoundness.{is_used-layout_of, used_if_noted, IsSound-take, IsSound-counted, IsSound-give_page, IsSound-claimed, IsSound-unclaimed, IsSound-dropped}
+use Rattle.pager_laws.proofs.StateSoundness.{is_used-layout_of, used_if_noted, IsSound-take, IsSound-counted, IsSound-give_page, IsSound-claimed, IsSound-unclaimed, IsSound-pinned, IsSound-dropped}
+use Rattle.pager_laws.proofs.PinnedPlaces.{same-places}
 use Rattle.pager_laws.proofs.StartStates.{IsSound-start, nothing_used}
 
 -- The frames that are there.
@@ -123,6 +124,23 @@ IsPool-claimed frames l claimers st at c pool known nothing may =
 pub IsPool-unclaimed : (frames : List (Option Framed)) (l : Layout) (claimers : ℕ) (st : FrameState) (at : ℕ) → IsPool frames l claimers st
     → IsPool frames l claimers (counted (claimed st at None))
 IsPool-unclaimed frames l claimers st at pool = IsPool-reclaimed frames l claimers st at None pool (IsSound-unclaimed _ _ st at pool.sound)
+
+-- the places of a range are wired, or are no longer
+pub IsPool-pinned : (frames : List (Option Framed)) (l : Layout) (claimers : ℕ) (st : FrameState) (space first len : ℕ) (wired : Bool)
+    → IsPool frames l claimers st → (wired ≡ true → lowest_claimed st space first len ≡ None)
+    → IsPool frames l claimers (counted (pin_range st space first len wired))
+IsPool-pinned frames l claimers st space first len wired pool may =
+    let after = pin_range st space first len wired in
+    let still = same-places st space wired (range_with_len first len) st.used in
+    IsPool-after frames l claimers st frames l (counted after) pool
+    (IsSound-counted _ _ after (IsSound-pinned _ _ st space first len wired pool.sound may))
+    (pool.same_used ∙ sym still) refl (AreHere-same frames st.used after.used pool.here still) (omega (arith, pool.few_broken))
+
+-- what is a page's place is noted
+pub place_noted : (frames : List (Option Framed)) (l : Layout) (claimers : ℕ) (st : FrameState) → IsPool frames l claimers st
+    → (space page frame : ℕ) → frame_in l space page ≡ Some frame → is_some (used_at st frame) ≡ true
+place_noted frames l claimers st pool space page frame is =
+    sym (is_used-layout_of st frame) ∙ sym (ap (λ used. is_used used frame) pool.same_used) ∙ (frame_in-found l space page frame is).used
 
 -- a processor that holds a frame is one of those that there are
 pub held_known : (st : FrameState) (c : ℕ) → IsSome (held_by st c) → c < length st.held

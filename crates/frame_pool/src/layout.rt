@@ -1,4 +1,4 @@
-ghost use Rattle.std.specs.Prelude.{◌≡◌, ℕ, Bool, ◌+◌, ◌-◌, ◌%◌, ◌<◌, ◌≤◌, Some, true, false, length, slice_index_or, count_by, IfOk, IfSome, IfNone, IsSomeAnd, None};
+ghost use Rattle.std.specs.Prelude.{◌≡◌, ℕ, Bool, ◌+◌, ◌-◌, ◌%◌, ◌<◌, ◌≤◌, Some, true, false, length, slice_index_or, count_by, IfOk, IfSome, IfNone, IsSomeAnd, None, is_some};
 ghost use Rattle.std.specs.Option.{option_and_then};
 ghost use Rattle.pager_model.specs.Agreement.{has_frame};
 ghost use Rattle.pager_model.specs.Layouts.{start_layout, frame_for, frame_in, parted, parted_free, split_layout, broken_at, to_break, record_at};
@@ -90,6 +90,17 @@ impl Layout {
         let reservation = self.reserved.covering(space, page)?;
         let frame = frame_for(&reservation, page);
         self.reserved.used(frame).then_some(frame)
+    }
+
+    /// How many pages of the space from this one on surely have no place, and none where this one has one: up to the end of the largest extent round
+    /// it without a reservation or, in its reservation, without a used place. At most twenty looks tell.
+    pub(crate) fn placeless_from(&self, space: u32, page: u32) -> u32
+        requires few { space < most_spaces }
+        requires page { page < space_pages }
+        ensures placed { result ≡ 0 → is_some (frame_in self.now space page) ≡ true }
+        ensures none { (other : ℕ) → page ≤ other → other < page + result → frame_in self.now space other ≡ None }
+    {
+        self.reserved.placeless_from(space, page)
     }
 
     /// How many frames are free.

@@ -10,8 +10,10 @@ mod free;
 mod layout;
 mod lists;
 mod mapped;
+mod pins;
 mod pool;
 mod records;
 mod reserved;
 
+pub use pins::Kept;
 pub use pool::{Collected, Counts, Full, NoneLeft, Pool};

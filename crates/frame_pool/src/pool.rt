@@ -1,13 +1,14 @@
-ghost use Rattle.std.specs.Prelude.{◌≡◌, ℕ, ◌+◌, ◌%◌, ◌^◌, ◌<◌, ◌≤◌, ◌⊎◌, ◌↔◌, ◌==◌, ◌&&◌, if◌then◌else◌, false, Some, None, IsTrue, IfOk, IfErr, IsErr, IfSome, IfNone, IsSome, is_some, length, map, count_by};
+ghost use Rattle.std.specs.Prelude.{◌≡◌, ℕ, ◌+◌, ◌%◌, ◌^◌, ◌<◌, ◌≤◌, ◌⊎◌, ◌↔◌, ◌==◌, ◌&&◌, if◌then◌else◌, false, true, Some, None, IsTrue, IfOk, IfErr, IsErr, IfSome, IfNone, IsSome, is_some, length, map, count_by};
 ghost use Rattle.std.specs.List.{range_with_len};
 ghost use Rattle.pager_model.specs.Frame.{zero_frame};
 ghost use Rattle.pager_model.specs.FrameStates.{FrameState, Taking, start_frames, used_at, held_by, frame_of, claim_in, HasNothing};
-ghost use Rattle.pager_model.specs.FrameStates.{take_frame, counted, give_page, claimed, dropped, IsFull, IsVictim, has_evictable, is_short};
+ghost use Rattle.pager_model.specs.FrameStates.{take_frame, counted, give_page, claimed, pin_range, lowest_claimed, dropped, IsFull, IsVictim, has_evictable, is_short};
 ghost use Rattle.pager_model.specs.FrameStates.{free_count, used_count, reserved_count, wired_count, claimed_count, held_count};
 ghost use Rattle.pager_model.specs.PreferredSize.{IsWanted};
 ghost use Rattle.pager_model.specs.Bounds.{most_frames, space_pages, most_spaces, most_actors};
 
 use crate::layout::Layout;
+use crate::pins::{Kept, lowest_claimed, wire_range};
 use crate::records::page_at;
 use pager_model::{Frame, NoMemory, Sizes, Victim, Want, frames_of};
 use std::alloc::Global;
@@ -274,6 +275,29 @@ impl Pool {
         let frame = self.used.unclaim(processor);
         self.entries += 1;
         frame
+    }
+
+    /// The used places of a range of pages of a space are wired, or are no longer. Where they are to be wired and one of them is claimed, no
+    /// place changes, and the lowest such page is answered with its frame. One entry is counted either way.
+    pub fn pin(&mut self, space: u32, first: u32, length: u32, wired: bool) -> Option<Kept>
+        requires room { self.old.entries < 2 ^ 45 }
+        requires few { space < most_spaces }
+        requires within { first + length ≤ space_pages }
+        ensures kept { IfSome result (λ k. (wired ≡ true) × (lowest_claimed self.old space first length ≡ Some k.page)
+            × (frame_of self.old space k.page ≡ Some k.frame) × (self.new ≡ counted self.old)) }
+        ensures pinned { IfNone result ((wired ≡ true → lowest_claimed self.old space first length ≡ None)
+            × (self.new ≡ counted (pin_range self.old space first length wired))) }
+    {
+        if wired {
+            let kept = lowest_claimed(&self.layout, &self.used, space, first, length);
+            if kept.is_some() {
+                self.entries += 1;
+                return kept;
+            }
+        }
+        wire_range(&self.layout, &mut self.used, space, first, length, wired);
+        self.entries += 1;
+        None
     }
 
     /// How many frames are in each role.

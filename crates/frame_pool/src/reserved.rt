@@ -1,7 +1,7 @@
-ghost use Rattle.std.specs.Prelude.{◌≡◌, ℕ, ◌-◌, ◌<◌, ◌≤◌, Bool, List, Some, true, false, length, option_map, IfOk, IfSome, IfNone, IsSome, IsSomeAnd};
+ghost use Rattle.std.specs.Prelude.{◌≡◌, ℕ, ◌+◌, ◌-◌, ◌^◌, ◌<◌, ◌≤◌, Bool, List, Some, None, is_some, true, false, length, option_map, IfOk, IfSome, IfNone, IsSome, IsSomeAnd};
 ghost use Rattle.pager_model.specs.Agreement.{has_frame};
 ghost use Rattle.pager_model.specs.Extents.{IsExtent};
-ghost use Rattle.pager_model.specs.Layouts.{frame_for, populated, record_at, covering, meets_any, preferred_in, to_break};
+ghost use Rattle.pager_model.specs.Layouts.{frame_for, frame_in, populated, record_at, covering, meets_any, preferred_in, to_break};
 ghost use Rattle.pager_model.specs.PreferredSize.{IsWanted};
 ghost use Rattle.pager_model.specs.Records.{is_used, yield_in, part_at, part_count, parted_records, lowest_as_wide};
 ghost use Rattle.pager_model.specs.RecordPlaces.{IsPlaced};
@@ -19,6 +19,7 @@ use pager_model::{Extent, MOST_SPACES, NoMemory, Reservation, Size, Sizes, Want}
 use population_map::PopulationMap;
 use reservation_lists::Lists;
 use reservations::{Part, Reservations, frame_for};
+use size_policy::extent_round;
 use std::alloc::Global;
 use std::marker::{Brand, Model};
 use std::sync::ledger::Blank;
@@ -101,6 +102,64 @@ impl Reserved {
     {
         let id = mapped::find::<Brand>(&self.map, space, page, Blank::new(1))?;
         self.reservations.get(id)
+    }
+
+    /// How many pages of the space from this one on surely have no used place, and none where this one has one: up to the end of the largest extent
+    /// round it without a reservation or, in its reservation, without a used place.
+    ///
+    /// At most four looks find the reservation, and twelve tell which extents meet one.
+    pub(crate) fn placeless_from(&self, space: u32, page: u32) -> u32
+        requires few { space < most_spaces }
+        requires page { page < space_pages }
+        ensures placed { result ≡ 0 → is_some (frame_in self.now space page) ≡ true }
+        ensures none { (other : ℕ) → page ≤ other → other < page + result → frame_in self.now space other ≡ None }
+    {
+        match self.covering(space, page) {
+            Some(reservation) => self.unused_from(space, &reservation, page),
+            None => self.unreserved_from(space, page),
+        }
+    }
+
+    /// How many pages of its reservation from this one on surely have no used place.
+    fn unused_from(&self, space: u32, reservation: &Reservation, page: u32) -> u32
+        requires { covering space page self.now.records ≡ Some reservation.now }
+        ensures placed { result ≡ 0 → is_some (frame_in self.now space page) ≡ true }
+        ensures none { (other : ℕ) → page ≤ other → other < page + result → frame_in self.now space other ≡ None }
+    {
+        let reservations = &self.reservations;
+        let frame = frame_for(reservation, page);
+        let unused = reservations.unused_from(frame);
+        unused.min(left_in(reservation.size, reservation.first, page))
+    }
+
+    /// How many pages from this one on, which is in no reservation, surely have no used place.
+    fn unreserved_from(&self, space: u32, page: u32) -> u32
+        requires few { space < most_spaces }
+        requires page { page < space_pages }
+        requires none { covering space page self.now.records ≡ None }
+        ensures some { 0 < result }
+        ensures none { (other : ℕ) → page ≤ other → other < page + result → frame_in self.now space other ≡ None }
+    {
+        for level in (1..4).rev() {
+            let pages = self.unmet_from(space, Size::at_level(level), page);
+            if pages > 0 {
+                return pages;
+            }
+        }
+        1
+    }
+
+    /// How many pages the extent of a size round the page has from this one on, where no reservation meets it, and else none.
+    fn unmet_from(&self, space: u32, size: Size, page: u32) -> u32
+        requires few { space < most_spaces }
+        requires page { page < space_pages }
+        ensures { (other : ℕ) → page ≤ other → other < page + result → frame_in self.now space other ≡ None }
+    {
+        let extent = extent_round(size, page);
+        if self.meets_any(space, &extent) {
+            return 0;
+        }
+        left_in(extent.size, extent.first, page)
     }
 
     /// Whether a reservation has a page of the extent of the space's pages: by at most four looks at the map, however many reservations
@@ -232,4 +291,12 @@ impl Reserved {
         mapped::split(&mut self.map, &whole, &parts);
         parts
     }
+}
+
+/// How many pages an extent has from this one of them on.
+fn left_in(size: Size, first: u32, page: u32) -> u32
+    requires { (first ≤ page) × (page < first + 8 ^ size) }
+    ensures { page + result ≡ first + 8 ^ size }
+{
+    size.pages() - (page - first)
 }

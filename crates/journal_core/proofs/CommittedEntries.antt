@@ -6,7 +6,7 @@ use Rattle.pager_model.specs.declared.entry.Numbered.{Numbered}
 use Rattle.std.specs.Prelude.{Option, Some, None, IfSome}
 use Rattle.pager_model.specs.declared.entry.Entry.{Entry}
 use Rattle.pager_model.specs.declared.entry.What.{What}
-use Rattle.pager_model.specs.declared.entry.What.TheVariants.{Answer, Out, Failed, Take, Give, Clear, Claim, UseHeld, DropHeld, Got, Unclaim, Refused, Rest}
+use Rattle.pager_model.specs.declared.entry.What.TheVariants.{Answer, Out, Failed, Take, Give, Clear, Claim, UseHeld, DropHeld, Got, Unclaim, Refused, Pin, Kept, Rest}
 use Rattle.pager_model.specs.Entries.{IsOn, NamesItsParts, space_part, frames_part, entries_of}
 use Rattle.pager_model.specs.Legal.{SpaceJudges, FramesJudge, KeepsOrder, entries_in}
 use Rattle.pager_model.specs.Settings.{Given}
@@ -33,6 +33,8 @@ on_something space frames (DropHeld frame) on none = on.1
 on_something space frames (Got frame) on none = on.1
 on_something space frames (Unclaim frame) on none = on.1
 on_something space frames (Refused wired claimed held) on none = on.1
+on_something space frames (Pin first len wired) on none = on.1
+on_something space frames (Kept first len page frame) on none = on.1
 on_something space frames (Rest short) on none = on.1
 
 -- whether the space and the frames that an entry names are the part

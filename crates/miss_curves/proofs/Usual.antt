@@ -9,7 +9,7 @@ use Rattle.std.proofs.Math.Seq.{get_or-append_seam}
 use Rattle.std.proofs.lemmas.Option.{none-some}
 use Rattle.pager_model.specs.declared.entry.Entry.{Entry}
 use Rattle.pager_model.specs.declared.entry.What.{What}
-use Rattle.pager_model.specs.declared.entry.What.TheVariants.{Answer, Out, Failed, Take, Give, Clear, Claim, UseHeld, DropHeld, Got, Unclaim, Refused, Rest}
+use Rattle.pager_model.specs.declared.entry.What.TheVariants.{Answer, Out, Failed, Take, Give, Clear, Claim, UseHeld, DropHeld, Got, Unclaim, Refused, Pin, Kept, Rest}
 use Rattle.pager_model.specs.declared.reply.Answered.{Answered}
 use Rattle.pager_model.specs.declared.tile.Mapping.{Mapping}
 use Rattle.pager_model.specs.declared.tile.Tile.{Tile}
@@ -101,6 +101,8 @@ step_what st e (DropHeld frame) own allowed = silent st e (DropHeld frame) refl 
 step_what st e (Got frame) own allowed = silent st e (Got frame) refl refl refl
 step_what st e (Unclaim frame) own allowed = silent st e (Unclaim frame) refl refl refl
 step_what st e (Refused wired claimed held) own allowed = silent st e (Refused wired claimed held) refl refl refl
+step_what st e (Pin first len wired) own allowed = silent st e (Pin first len wired) refl refl refl
+step_what st e (Kept first len page frame) own allowed = silent st e (Kept first len page frame) refl refl refl
 step_what st e (Rest short) own allowed = silent st e (Rest short) refl refl refl
 
 -- a follower with the room of an image has processor 0's image, and this many misses
@@ -196,6 +198,8 @@ miss-named space frames (DropHeld frame) on none = refl
 miss-named space frames (Got frame) on none = refl
 miss-named space frames (Unclaim frame) on none = refl
 miss-named space frames (Refused wired claimed held) on none = refl
+miss-named space frames (Pin first len wired) on none = refl
+miss-named space frames (Kept first len page frame) on none = refl
 miss-named space frames (Rest short) on none = refl
 
 module _ (g : Given) (history : List Entry) (e : Entry) (may : MayFollow g history e) (own : is_answer e.what ≡ true → e.processor ≡ 0)

@@ -56,7 +56,8 @@ pub fn run<T: Source, K: Sink, S: Store + Send + Drop, R: Threads + Wait + Sync>
 
     // Words of a form, the text of a trace that its report is for, and stores enough give a run, unless there is no memory or a read or a write
     // fails: by `runs` one that answers every call, and in which no access is refused for frames while one could be had, nor while wired pages and
-    // processors are no more than these (`refusals`, `never_short` of `IsReplay`).
+    // processors are no more than these, and no wire is left undone but for a page whose frame is claimed (`refusals`, `never_short`, `kept` of
+    // `IsReplay`).
     ensures complete { (form : Asked) → AreWords words.now form
         → IsSomeAnd (T.left source.old) (IsRunnable form.report (length stores.items))
         → (Rose (T.faults source.old) (T.faults source.new) → ⊥)

@@ -11,7 +11,7 @@ use Rattle.std.proofs.lemmas.Nat.{mul-le}
 use Rattle.std.proofs.lemmas.Option.{none-some, same_Some}
 use Rattle.std.proofs.Math.ListN.{length-map}
 use Rattle.pager_model.specs.declared.call.Call.{Call}
-use Rattle.pager_model.specs.declared.call.Call.TheVariants.{Map, Grow, Unmap, Protect, Load, Store, Sync, Evict}
+use Rattle.pager_model.specs.declared.call.Call.TheVariants.{Map, Grow, Unmap, Protect, Load, Store, Sync, Evict, Discard, Wire, Unwire}
 use Rattle.pager_model.specs.declared.call.Line.{Line}
 use Rattle.pager_model.specs.declared.trace.Daemon.{Daemon}
 use Rattle.pager_model.specs.declared.trace.Job.{Job}
@@ -48,6 +48,9 @@ call_on spaces (Load s address) is = is.0
 call_on spaces (Store s address word) is = is.0
 call_on spaces (Sync s page) is = is.0
 call_on spaces (Evict s page) is = is.0
+call_on spaces (Discard s page len) is = is.0
+call_on spaces (Wire s page) is = is.0
+call_on spaces (Unwire s page) is = is.0
 
 first_call : (Q : Call → Type 0) (c : ℕ) (line : Line) (lines : List Line) (call : Call) → Q line.call
     → ((n : ℕ) → slice_get (calls_of c lines) n ≡ Some call → Q call) → (b : Bool) (n : ℕ)

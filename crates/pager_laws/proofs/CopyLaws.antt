@@ -1,23 +1,23 @@
 -- What the entries that a space allows do to copies, dirty flags and frames.
 use Rattle.std.proofs.Common.{◌≡◌, ◌≢◌, ℕ, ◌⊎◌, inl, inr, Bool, true, false, ◌&&◌, ◌==◌, if◌then◌else◌, is_some, List, Option, Some, None, refl, ap, sym, subst, ◌∙◌}
 use Rattle.std.specs.Option.{IfSome}
-use Rattle.std.proofs.lemmas.Bool.{cases_Bool, cond-true, cond-false, and_parts, eq-eqb, eqb-true, false≢true, true≢false}
+use Rattle.std.proofs.lemmas.Bool.{cases_Bool, cond-true, cond-false, and_parts, and_from, eq-eqb, eqb-true, false≢true, true≢false}
 use Rattle.pager_model.specs.Options.{is_that}
 use Rattle.pager_model.specs.declared.call.Call.{Call}
-use Rattle.pager_model.specs.declared.call.Call.TheVariants.{Map, Grow, Unmap, Protect, Load, Store, Sync, Evict}
+use Rattle.pager_model.specs.declared.call.Call.TheVariants.{Map, Grow, Unmap, Protect, Load, Store, Sync, Evict, Discard, Wire, Unwire}
 use Rattle.pager_model.specs.declared.entry.Entry.{Entry}
 use Rattle.pager_model.specs.declared.entry.What.{What}
-use Rattle.pager_model.specs.declared.entry.What.TheVariants.{Answer, Out, Failed, Take, Give, Clear, Claim, UseHeld, Unclaim}
+use Rattle.pager_model.specs.declared.entry.What.TheVariants.{Answer, Out, Failed, Take, Give, Clear, Claim, UseHeld, Unclaim, Pin, Kept}
 use Rattle.pager_model.specs.declared.region.Region.{Region}
 use Rattle.pager_model.specs.declared.reply.Answered.{Answered}
 use Rattle.pager_model.specs.declared.reply.Reply.{Reply}
-use Rattle.pager_model.specs.declared.reply.Reply.TheVariants.{Done, Value, NoFrames, StoreFault, NoMemory}
+use Rattle.pager_model.specs.declared.reply.Reply.TheVariants.{Done, Value, NoFrames, StoreFault, NoMemory, Busy}
 use Rattle.pager_model.specs.Entries.{names_space}
-use Rattle.pager_model.specs.Flat.{Flat, reply_of, is_lawful, page_of, word_of, goes, after_call, out, lost}
+use Rattle.pager_model.specs.Flat.{Flat, reply_of, is_lawful, page_of, word_of, goes, is_discarded, after_call, out, lost}
 use Rattle.pager_model.specs.Legal.{IsLegal, space_at}
 use Rattle.pager_model.specs.Regions.{in_range, region_at}
 use Rattle.pager_model.specs.Settings.{Given}
-use Rattle.pager_model.specs.SpaceStates.{SpaceState, Next, Anyone, Only, AfterClear, IsResident, IsUnmapOf, IsUnmapAnswer, MayGoOn, IsWord, HasItsPages, IsClearedAt, ReplyAllowed, AnswerAllowed, WhatAllowed, SpaceAllows, answered_flat, flat_after, base_after_answer, base_after, frees_its_page, space_after}
+use Rattle.pager_model.specs.SpaceStates.{SpaceState, Next, Anyone, Only, AfterClear, AfterPin, IsResident, IsClearingOf, IsClearingAnswer, MayGoOn, IsWord, HasItsPages, IsClearedAt, ReplyAllowed, AnswerAllowed, WhatAllowed, SpaceAllows, answered_flat, flat_after, base_after_answer, base_after, frees_its_page, space_after}
 use Rattle.pager_model.proofs.Histories.{space_at-named, space_at-other, IsLegal-keeps}
 use Rattle.pager_model.proofs.SpaceEntries.{base-unnamed, frees-unlawful}
 use Rattle.pager_model.specs.Laws.{EqualsItsCopy, WasCleared, KeepsCopies}
@@ -40,7 +40,7 @@ written : (f g : Flat) (p : ℕ) (here : Bool) → (f.dirty p ≡ false → Equa
 written f g p true was words copies dirty clean = record { copy = f.words p; known = copies; equal = λ i. sym (words i) }
 written f g p false was words copies dirty clean = equal_again f g p copies words (was (sym dirty ∙ clean))
 
--- a page that may have gone with its region
+-- a page that may have gone with its region, or was discarded
 gone : (f g : Flat) (p : ℕ) (went : Bool) → (f.dirty p ≡ false → EqualsItsCopy f p)
     → ((i : ℕ) → g.words p i ≡ (if went then 0 else f.words p i)) → g.copies p ≡ (if went then Some (λ i. 0) else f.copies p)
     → g.dirty p ≡ (if went then false else f.dirty p) → g.dirty p ≡ false → EqualsItsCopy g p
@@ -71,40 +71,63 @@ copied_after f (Sync space page) are p clean =
 copied_after f (Evict space page) are p clean =
     written f (after_call f (Evict space page)) p (is_lawful (reply_of f (Evict space page)) && (p == page)) (are p)
     (λ i. refl) refl refl clean
+copied_after f (Discard space page len) are p clean = gone f (after_call f (Discard space page len)) p (is_discarded f page len p) (are p)
+    (λ i. refl) refl refl clean
+copied_after f (Wire space page) are p clean = equal_again f _ p refl (λ i. refl) (are p clean)
+copied_after f (Unwire space page) are p clean = equal_again f _ p refl (λ i. refl) (are p clean)
 
 -- whatever the call is answered
 copied_answered : (f : Flat) (call : Call) (reply : Reply) → AreCopied f → AreCopied (answered_flat f call reply)
 copied_answered f call (NoFrames wired claimed held) are = are
 copied_answered f call (StoreFault space count) are = are
 copied_answered f call NoMemory are = are
+copied_answered f call (Busy page) are = are
 copied_answered f call reply are = copied_after f call are
 
 -- Who came before.
 
--- a page is resident where any entry but the unmap of its range comes next
+-- a page is resident where any entry but the unmap or discard of its range comes next
 resident : (next : Next) (c p : ℕ) (what : What) (base : ℕ → Option ℕ) → MayGoOn next c what
-    → ((first len : ℕ) → IsUnmapAnswer first len what → ⊥) → IsResident base p ⊎ WasCleared next p → IsResident base p
+    → ((first len : ℕ) → IsClearingAnswer first len what → ⊥) → IsResident base p ⊎ WasCleared next p → IsResident base p
 resident next c p what base may other (inl is) = is
 resident Anyone c p what base may other (inr was) = absurd was
 resident (Only d) c p what base may other (inr was) = absurd was
 resident (AfterClear d first len) c p what base may other (inr was) = absurd (other first len may.1)
+resident (AfterPin d first len wired) c p what base may other (inr was) = absurd was
 
 -- and so is each dirty page
 was_there : (st : SpaceState) (c : ℕ) (what : What) → KeepsCopies st → MayGoOn st.next c what
-    → ((first len : ℕ) → IsUnmapAnswer first len what → ⊥) → (p : ℕ) → st.flat.dirty p ≡ true → IsResident st.base p
+    → ((first len : ℕ) → IsClearingAnswer first len what → ⊥) → (p : ℕ) → st.flat.dirty p ≡ true → IsResident st.base p
 was_there st c what keeps may other p is = resident st.next c p what st.base may other (keeps.dirty p is)
 
--- the unmap of a range is lawful
-unmap_lawful : (first len : ℕ) (call : Call) (reply : Reply) → IsUnmapOf first len call reply → is_lawful reply ≡ true
-unmap_lawful first len (Unmap space page) Done is = refl
-unmap_lawful first len call reply is = absurd is
+-- the unmap or discard of a range is lawful
+clearing_lawful : (first len : ℕ) (call : Call) (reply : Reply) → IsClearingOf first len call reply → is_lawful reply ≡ true
+clearing_lawful first len (Unmap space page) Done is = refl
+clearing_lawful first len (Discard space page n) Done is = refl
+clearing_lawful first len call reply is = absurd is
 
 -- after a clearing only a lawful answer comes
 lawful_next : (next : Next) (c p number : ℕ) (call : Call) (answered : Answered) → MayGoOn next c (Answer number call answered)
     → WasCleared next p → is_lawful answered.reply ≡ true
 lawful_next Anyone c p number call answered may was = absurd was
 lawful_next (Only d) c p number call answered may was = absurd was
-lawful_next (AfterClear d first len) c p number call answered may was = unmap_lawful first len call answered.reply may.1
+lawful_next (AfterClear d first len) c p number call answered may was = clearing_lawful first len call answered.reply may.1
+lawful_next (AfterPin d first len wired) c p number call answered may was = absurd was
+
+-- a discard is of the range that was cleared
+discards_cleared : (first len page n p : ℕ) (space : ℕ) (reply : Reply) → IsClearingOf first len (Discard space page n) reply
+    → in_range first len p ≡ true → in_range page n p ≡ true
+discards_cleared first len page n p space Done is was =
+    subst (λ k. in_range page k p ≡ true) (sym is.1) (subst (λ k. in_range k len p ≡ true) (sym is.0) was)
+discards_cleared first len page n p space reply is was = absurd is
+
+discard_next : (next : Next) (c p number space page n : ℕ) (answered : Answered)
+    → MayGoOn next c (Answer number (Discard space page n) answered) → WasCleared next p → in_range page n p ≡ true
+discard_next Anyone c p number space page n answered may was = absurd was
+discard_next (Only d) c p number space page n answered may was = absurd was
+discard_next (AfterClear d first len) c p number space page n answered may was =
+    discards_cleared first len page n p space answered.reply may.1 was
+discard_next (AfterPin d first len wired) c p number space page n answered may was = absurd was
 
 -- and the pages of the range go with the region
 goes_cleared : (st : SpaceState) (c p : ℕ) (region : Option Region) → IsClearedAt st c region → WasCleared st.next p → goes region p ≡ true
@@ -118,12 +141,14 @@ pub unlawful : (reply : Reply) → IsWithoutService reply → is_lawful reply �
 unlawful (NoFrames wired claimed held) is = refl
 unlawful (StoreFault space count) is = refl
 unlawful NoMemory is = refl
+unlawful (Busy page) is = refl
 unlawful reply is = absurd is
 
 pub answered_same : (f : Flat) (call : Call) (reply : Reply) → IsWithoutService reply → answered_flat f call reply ≡ f
 answered_same f call (NoFrames wired claimed held) is = refl
 answered_same f call (StoreFault space count) is = refl
 answered_same f call NoMemory is = refl
+answered_same f call (Busy page) is = refl
 answered_same f call reply is = absurd is
 
 -- and every page its frame
@@ -147,6 +172,7 @@ pub answer_is : (st : SpaceState) (c : ℕ) (call : Call) (reply : Reply) → Re
 answer_is st c call (NoFrames wired claimed held) allowed = inl tt
 answer_is st c call (StoreFault space count) allowed = inl tt
 answer_is st c call NoMemory allowed = inl tt
+answer_is st c call (Busy page) allowed = inl tt
 answer_is st c call (Value word) allowed = inr (record { does = refl; lawful = word_lawful _ _ _ word allowed.0; pages = allowed.1 })
 answer_is st c call reply allowed = inr (record { does = refl; lawful = sym (ap is_lawful allowed.0); pages = allowed.1 })
 
@@ -197,6 +223,16 @@ module _ (st : SpaceState) (keeps : KeepsCopies st) (frames : Bool) (c number : 
       evicted frames (is_lawful (reply_of st.flat (Evict space page))) (p == page) (st.flat.dirty p) (st.base p)
       (λ frees. sym served.lawful ∙ (and_parts (is_lawful answered.reply) (is_some (st.base page)) (sym parts ∙ frees)).0) is
       (λ before. was_there st c _ keeps may (λ first len un. un) p before)
+  dirty_served (Discard space page n) answered may served parts p is =
+      let before = still_dirty _ _ is in
+      elim (keeps.dirty p before.0) [
+        | inl there ↦ there
+        | inr was ↦ absurd (true≢false (sym (and_from _ _
+            (sym served.lawful ∙ lawful_next st.next c p number _ answered may was)
+            (discard_next st.next c p number space page n answered may was)) ∙ before.1))
+      ]
+  dirty_served (Wire space page) answered may served parts p is = was_there st c _ keeps may (λ first len un. un) p is
+  dirty_served (Unwire space page) answered may served parts p is = was_there st c _ keeps may (λ first len un. un) p is
 
   -- after one without service
   dirty_unserved : (call : Call) (answered : Answered) → MayGoOn st.next c (Answer number call answered) → IsWithoutService answered.reply
@@ -300,6 +336,10 @@ module _ (st : SpaceState) (e : Entry) (keeps : KeepsCopies st) where
             (was_there st e.processor _ keeps may (λ first len un. un) p is));
       }
   KeepsCopies-after (Unclaim frame) may allowed =
+      record { clean = keeps.clean; dirty = λ p is. inl (was_there st e.processor _ keeps may (λ first len un. un) p is) }
+  KeepsCopies-after (Pin first len wired) may allowed =
+      record { clean = keeps.clean; dirty = λ p is. inl (was_there st e.processor _ keeps may (λ first len un. un) p is) }
+  KeepsCopies-after (Kept first len page frame) may allowed =
       record { clean = keeps.clean; dirty = λ p is. inl (was_there st e.processor _ keeps may (λ first len un. un) p is) }
   KeepsCopies-after what may allowed = absurd allowed
 

@@ -7,19 +7,19 @@ use Rattle.std.proofs.lemmas.Option.{cond_some}
 use Rattle.std.specs.Option.{IfSome}
 use Rattle.pager_model.specs.declared.entry.Victim.{Victim}
 use Rattle.pager_model.specs.declared.call.Call.{Call}
-use Rattle.pager_model.specs.declared.call.Call.TheVariants.{Unmap, Sync, Evict}
+use Rattle.pager_model.specs.declared.call.Call.TheVariants.{Unmap, Sync, Evict, Discard, Wire, Unwire}
 use Rattle.pager_model.specs.declared.entry.Entry.{Entry}
 use Rattle.pager_model.specs.declared.entry.Need.{Need}
 use Rattle.pager_model.specs.declared.entry.What.{What}
-use Rattle.pager_model.specs.declared.entry.What.TheVariants.{Answer, Out, Failed, Take, Give, Clear, Claim, UseHeld, DropHeld, Got, Unclaim, Refused, Rest}
+use Rattle.pager_model.specs.declared.entry.What.TheVariants.{Answer, Out, Failed, Take, Give, Clear, Claim, UseHeld, DropHeld, Got, Unclaim, Refused, Pin, Kept, Rest}
 use Rattle.pager_model.specs.declared.reply.Answered.{Answered}
 use Rattle.pager_model.specs.declared.reply.Reply.{Reply}
-use Rattle.pager_model.specs.declared.reply.Reply.TheVariants.{NoFrames, StoreFault, NoMemory}
+use Rattle.pager_model.specs.declared.reply.Reply.TheVariants.{NoFrames, StoreFault, NoMemory, Busy}
 use Rattle.pager_model.specs.Entries.{names_space, space_part, is_of, IsOn}
 use Rattle.pager_model.specs.Flat.{space_of_call}
 use Rattle.pager_model.specs.Headline.{AllAnswered, AllServed, IsAnswered, IsServed}
 use Rattle.pager_model.specs.Legal.{IsLegal, MayFollow, SpaceJudges, state_of_space, space_at, progress_at}
-use Rattle.pager_model.specs.Order.{ForAccess, ForTurn, Doing, Idle, Looking, Cleared, Uncopied, Filling, Unfilling, Claiming, Emptied, Unwritten, Holding, Late, Faulted, Lacking, Refusing, Progress, leads, may_answer, is_answered_alone, is_unmap_in, is_copying, is_access, is_access_at, is_victim, between, after_answer, after_take, after_use, after_clear, after_out, after_failure, after_give, after_claim, after_got, after_unclaim, lacking_for, faulted_for, after_drop, dropped_for, after_refusal, after_rest, progress_after, progress_by}
+use Rattle.pager_model.specs.Order.{ForAccess, ForTurn, Doing, Idle, Looking, Cleared, Pinned, Blocked, Uncopied, Filling, Unfilling, Claiming, Emptied, Unwritten, Holding, Late, Faulted, Lacking, Refusing, Progress, leads, may_answer, is_answered_alone, is_clearing, is_pinning, is_copying, is_access, is_access_at, is_victim, between, after_answer, after_take, after_use, after_clear, after_pin, after_kept, after_out, after_failure, after_give, after_claim, after_got, after_unclaim, lacking_for, faulted_for, after_drop, dropped_for, after_refusal, after_rest, progress_after, progress_by}
 use Rattle.pager_model.specs.Settings.{Given, mark_of, is_told, faults_at_entry}
 use Rattle.pager_model.specs.SpaceStates.{SpaceState, ReplyAllowed, AnswerAllowed, SpaceAllows, WhatAllowed, empty_state, highest_after, space_after}
 use Rattle.pager_model.proofs.Histories.{space_at-named, progress_at-own, progress_at-other, IsLegal-keeps}
@@ -109,6 +109,14 @@ module _ (P : ℕ → ℕ → Type 0) where
   tells-clear made Idle space first len = tt
   tells-clear made doing space first len = tt
 
+  tells-pin : (made : ℕ) (doing : Doing) (space first len : ℕ) (wired : Bool) → TellsAt P (after_pin made doing space first len wired)
+  tells-pin made Idle space first len wired = tt
+  tells-pin made doing space first len wired = tt
+
+  tells-kept : (made : ℕ) (doing : Doing) (space first len page : ℕ) → TellsAt P (after_kept made doing space first len page)
+  tells-kept made Idle space first len page = tt
+  tells-kept made doing space first len page = tt
+
   tells-out : (made : ℕ) (doing : Doing) (space page : ℕ) → TellsAt P (after_out made doing space page)
   tells-out made (Claiming purpose victim) space page = tells-leads (is_victim victim space page) made (Emptied purpose victim) (λ _. tt)
   tells-out made doing space page = tt
@@ -195,6 +203,8 @@ module _ (P : ℕ → ℕ → Type 0) where
   tells-after p space (Got frame) tells fails = tells-got p.made p.doing frame
   tells-after p (Some s) (Unclaim frame) tells fails = tells-unclaim p.made p.doing s frame tells
   tells-after p space (Refused wired claimed held) tells fails = tells-refusal p.made p.doing wired claimed held
+  tells-after p (Some s) (Pin first len wired) tells fails = tells-pin p.made p.doing s first len wired
+  tells-after p (Some s) (Kept first len page frame) tells fails = tells-kept p.made p.doing s first len page
   tells-after p space (Rest short) tells fails = tells-rest p.made p.doing short
   tells-after p None what tells fails = tt
 
@@ -262,6 +272,9 @@ not_alone : (call : Call) (space count : ℕ) → is_answered_alone call (StoreF
 not_alone (Unmap s page) space count is = false≢true is
 not_alone (Sync s page) space count is = false≢true is
 not_alone (Evict s page) space count is = false≢true is
+not_alone (Discard s page len) space count is = false≢true is
+not_alone (Wire s page) space count is = false≢true is
+not_alone (Unwire s page) space count is = false≢true is
 not_alone call space count is = false≢true is
 
 same_told : (P : ℕ → ℕ → Type 0) (s n space count : ℕ) → (space == s) && (count == n) ≡ true → P s n → P space count
@@ -273,7 +286,11 @@ same_told P s n space count test tells =
 told_there : (P : ℕ → ℕ → Type 0) (doing : Doing) (call : Call) (space count : ℕ) → may_answer doing call (StoreFault space count) ≡ true
     → Tells P doing → P space count
 told_there P Idle call space count may tells = absurd (not_alone call space count may)
-told_there P (Cleared s first len) call space count may tells = absurd (false≢true (and_parts (is_unmap_in s first len call) false may).1)
+told_there P (Cleared s first len) call space count may tells = absurd (false≢true (and_parts (is_clearing s first len call) false may).1)
+told_there P (Pinned s first len wired) call space count may tells =
+    absurd (false≢true (and_parts (is_pinning s first len wired call) false may).1)
+told_there P (Blocked s first len page) call space count may tells =
+    absurd (false≢true (and_parts (is_pinning s first len true call) false may).1)
 told_there P (Uncopied s page n) call space count may tells = same_told P s n space count
     (and_parts (is_copying s page call) ((space == s) && (count == n)) may).1 tells
 told_there P (Filling a frame) call space count may tells = absurd (false≢true (and_parts (is_access_at a call) false may).1)
@@ -315,6 +332,7 @@ answered_by : (st : SpaceState) (c : ℕ) (call : Call) (reply : Reply) → Repl
 answered_by st c call (NoFrames wired claimed held) allowed = tt
 answered_by st c call (StoreFault space count) allowed = tt
 answered_by st c call NoMemory allowed = tt
+answered_by st c call (Busy page) allowed = tt
 answered_by st c call reply allowed = allowed.0
 
 -- whatever stores did each answer is the flat memory's, or says why it is not
@@ -330,6 +348,7 @@ served_by : (st : SpaceState) (call : Call) (reply : Reply) → IsAnswered st ca
 served_by st call (NoFrames wired claimed held) is none = tt
 served_by st call (StoreFault space count) is none = none space count refl
 served_by st call NoMemory is none = tt
+served_by st call (Busy page) is none = tt
 served_by st call reply is none = is
 
 -- so where no store failed each answer is the flat memory's, or says that no frame or no memory could be had

@@ -9,6 +9,7 @@ use Rattle.pager_laws.proofs.KeptFrames.{KeepsFrames-legal}
 use Rattle.pager_laws.proofs.LegalHistories.{Agrees-legal, OwnsBy-legal, NothingHeld-legal}
 use Rattle.pager_laws.proofs.LegalPrefixes.{IsLegal-at}
 use Rattle.pager_laws.proofs.CopyLaws.{KeepsCopies-legal}
+use Rattle.pager_laws.proofs.WiredPlaces.{KeepsWires-legal}
 
 pub KeepsLaws-legal : (g : Given) (history : List Entry) → IsLegal g history → KeepsLaws g history
 KeepsLaws-legal g history legal =
@@ -17,6 +18,7 @@ KeepsLaws-legal g history legal =
       frames = KeepsFrames-legal g history legal;
       owns = OwnsBy-legal g history legal;
       agrees = Agrees-legal g history legal;
+      wires = KeepsWires-legal g history legal;
       rest = NothingHeld-legal g history legal;
     }
 

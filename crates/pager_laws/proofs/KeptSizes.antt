@@ -11,7 +11,7 @@ use Rattle.pager_model.specs.declared.call.Call.TheVariants.{Evict}
 use Rattle.pager_model.specs.declared.entry.Entry.{Entry}
 use Rattle.pager_model.specs.declared.entry.Want.{Want}
 use Rattle.pager_model.specs.declared.entry.What.{What}
-use Rattle.pager_model.specs.declared.entry.What.TheVariants.{Answer, Take, Give, Clear, Claim, UseHeld, DropHeld, Unclaim}
+use Rattle.pager_model.specs.declared.entry.What.TheVariants.{Answer, Take, Give, Clear, Claim, UseHeld, DropHeld, Unclaim, Pin}
 use Rattle.pager_model.specs.declared.reservation.Reservation.{Reservation}
 use Rattle.pager_model.specs.Entries.{frames_part}
 use Rattle.pager_model.specs.FrameStates.{FrameState, start_frames, layout_of, used_at, claim_in, frame_of, held_by, taking, take_frame, state_taken, layout_given, given_in, give_page, give_if_used, claimed, dropped, dropped_in, named_space, moved, moved_by_answer, frames_after}
@@ -218,6 +218,7 @@ module _ (z : SizeSet) where
   moved_keeps st c space (UseHeld page frame want) keeps = take_keeps (dropped st c) (named_space space) page want (drop_keeps st c keeps)
   moved_keeps st c space (DropHeld frame) keeps = drop_keeps st c keeps
   moved_keeps st c space (Unclaim frame) keeps = claim_keeps st frame None keeps
+  moved_keeps st c space (Pin first len wired) keeps = record { sizes = keeps.sizes; kept = keeps.kept }
   moved_keeps st c space what keeps = keeps
 
   entries_keep : (entries : List Entry) (st : FrameState) → KeepsIn st → KeepsIn (fold frames_after st entries)

@@ -8,15 +8,15 @@ use Rattle.std.proofs.lemmas.Option.{none-some, same_Some}
 use Rattle.pager_model.specs.Options.{is_that}
 use Rattle.pager_model.specs.SizeSets.{SizeSet}
 use Rattle.pager_model.specs.declared.call.Call.{Call}
-use Rattle.pager_model.specs.declared.call.Call.TheVariants.{Map, Grow, Unmap, Protect, Load, Store, Sync, Evict}
+use Rattle.pager_model.specs.declared.call.Call.TheVariants.{Map, Grow, Unmap, Protect, Load, Store, Sync, Evict, Discard, Wire, Unwire}
 use Rattle.pager_model.specs.declared.entry.Entry.{Entry}
 use Rattle.pager_model.specs.declared.entry.Want.{Want}
 use Rattle.pager_model.specs.declared.entry.What.{What}
-use Rattle.pager_model.specs.declared.entry.What.TheVariants.{Answer, Out, Failed, Take, Give, Clear, Claim, UseHeld, DropHeld, Got, Unclaim, Refused, Rest}
+use Rattle.pager_model.specs.declared.entry.What.TheVariants.{Answer, Out, Failed, Take, Give, Clear, Claim, UseHeld, DropHeld, Got, Unclaim, Refused, Pin, Kept, Rest}
 use Rattle.pager_model.specs.declared.reply.Answered.{Answered}
 use Rattle.pager_model.specs.Agreement.{Agrees, IsPartition, NothingHeld, OwnsBy}
 use Rattle.pager_model.specs.Entries.{is_of, IsOn}
-use Rattle.pager_model.specs.FrameStates.{FrameState, HasNothing, FramesAllow, AllowsAnswer, start_frames, layout_of, used_at, frame_of, claim_in, claimed, take_frame, state_taken, give_page, give_range, dropped, counted, moved, moved_by_answer}
+use Rattle.pager_model.specs.FrameStates.{FrameState, HasNothing, FramesAllow, AllowsAnswer, start_frames, layout_of, used_at, frame_of, claim_in, claimed, take_frame, state_taken, give_page, give_range, pin_range, dropped, counted, moved, moved_by_answer}
 use Rattle.pager_model.specs.Layouts.{covering, used_in, frame_in}
 use Rattle.pager_model.specs.Legal.{IsLegal, MayFollow, AllWhole, space_at, frames_at, progress_at}
 use Rattle.pager_model.specs.Order.{Progress, between, at_rest, progress_after, progress_by, victim_in, is_holding}
@@ -28,8 +28,9 @@ use Rattle.pager_model.proofs.SpaceEntries.{base-unnamed}
 use Rattle.pager_model.proofs.StartFrames.{HasNothing-start}
 use Rattle.pager_model.proofs.Options.{none_from_never}
 use Rattle.pager_laws.specs.Laid.{IsSound}
-use Rattle.pager_laws.proofs.Owners.{Keeps, Keeps-owns, Keeps-same, Keeps-then, Keeps-counted, HasNothing-counted, Keeps-take, Keeps-give_page, holds-given, Keeps-give_each, Keeps-claimed, Keeps-unclaimed, claims-claimed, nothing-unclaimed, Keeps-dropped, nothing-dropped}
-use Rattle.pager_laws.proofs.OrderedOwners.{owns-answer, owns-take, owns-clear, owns-out, owns-failure, owns-refusal, owns-rest, owns-give, owns-claim, owns-got, owns-use, owns-drop, owns-unclaim, nothing-between}
+use Rattle.pager_laws.proofs.Owners.{Keeps, Keeps-owns, Keeps-same, Keeps-then, Keeps-counted, HasNothing-counted, Keeps-take, Keeps-give_page, holds-given, Keeps-give_each, Keeps-claimed, Keeps-unclaimed, claims-claimed, nothing-unclaimed, Keeps-pinned, Keeps-dropped, nothing-dropped}
+use Rattle.pager_laws.proofs.OrderedOwners.{owns-answer, owns-take, owns-clear, owns-pin, owns-kept, owns-out, owns-failure, owns-refusal, owns-rest, owns-give, owns-claim, owns-got, owns-use, owns-drop, owns-unclaim, nothing-between}
+use Rattle.pager_laws.proofs.PinnedPlaces.{frame_of-pinned}
 use Rattle.pager_laws.proofs.PageMoves.{frame_of-give_page, frame_of-give_each}
 use Rattle.pager_laws.proofs.Partition.{IsPartition-sound}
 use Rattle.pager_laws.proofs.StateSoundness.{Takes-take_frame, layout_of-claimed, frame_of-dropped, IsSound-dropped, IsSound-moved}
@@ -61,6 +62,8 @@ alone P space (DropHeld frame) names a o f = absurd (false≢true names.1)
 alone P space (Got frame) names a o f = absurd (false≢true names.1)
 alone P space (Unclaim frame) names a o f = absurd (false≢true names.1)
 alone P space (Refused wired claimed held) names a o f = absurd (false≢true names.1)
+alone P space (Pin first len wired) names a o f = absurd (false≢true names.1)
+alone P space (Kept first len page frame) names a o f = absurd (false≢true names.1)
 alone P space (Rest short) names a o f = absurd (false≢true names.1)
 
 -- it leaves every page its frame
@@ -168,6 +171,9 @@ GoesOn-answer frames processors st c space number (Protect t page len rights) so
 GoesOn-answer frames processors st c space number (Load t address) sound allowed answered = absurd allowed
 GoesOn-answer frames processors st c space number (Store t address word) sound allowed answered = absurd allowed
 GoesOn-answer frames processors st c space number (Sync t page) sound allowed answered = absurd allowed
+GoesOn-answer frames processors st c space number (Discard t page len) sound allowed answered = absurd allowed
+GoesOn-answer frames processors st c space number (Wire t page) sound allowed answered = absurd allowed
+GoesOn-answer frames processors st c space number (Unwire t page) sound allowed answered = absurd allowed
 
 -- no claim changes the place of a page
 frame_of-claimed : (st : FrameState) (frame : ℕ) (claim : Option ℕ) (s p : ℕ) → frame_of (claimed st frame claim) s p ≡ frame_of st s p
@@ -295,6 +301,27 @@ GoesOn-moved frames processors st mark c space (Refused wired claimed held) soun
   };
   named = λ base s p _ now. now;
   other = λ s p _. refl;
+}
+GoesOn-moved frames processors st mark c None (Pin first len wired) sound allowed names = absurd (none-some names.0.0 names.0.1)
+GoesOn-moved frames processors st mark c (Some s) (Pin first len wired) sound allowed names =
+    let after = pin_range st s first len wired in
+    let keeps : (d : ℕ) → Keeps st (counted after) d = λ d. Keeps-move st after d (Keeps-pinned st s first len wired d) in
+    record {
+      owns = record {
+        own = λ p q goes. owns-pin st (counted after) c (keeps c) p.made p.doing q s first len wired goes;
+        others = λ d _. keeps d;
+      };
+      named = λ base t p _ now. now ∙ sym (frame_of-pinned st s first len wired t p);
+      other = λ t p _. frame_of-pinned st s first len wired t p;
+    }
+GoesOn-moved frames processors st mark c None (Kept first len page frame) sound allowed names = absurd (none-some names.0.0 names.0.1)
+GoesOn-moved frames processors st mark c (Some s) (Kept first len page frame) sound allowed names = record {
+  owns = record {
+    own = λ p q goes. owns-kept st (counted st) c (Keeps-counted st c) p.made p.doing q s first len page goes;
+    others = λ d _. Keeps-counted st d;
+  };
+  named = λ base t p _ now. now;
+  other = λ t p _. refl;
 }
 GoesOn-moved frames processors st mark c space (Rest short) sound allowed names = record {
   owns = record {

@@ -17,6 +17,10 @@ pub mod FullLayout
 pub mod LayoutPlacing
 pub mod LayoutRelease
 pub mod StartStates
+pub mod PinnedPlaces
+pub mod RegionsApart
+pub mod WiredRegions
+pub mod WiredPlaces
 pub mod StateSoundness
 pub mod PageMoves
 pub mod Owners
@@ -29,7 +33,9 @@ pub mod LegalPrefixes
 pub mod OldestBroken
 pub mod RefusedFrames
 pub mod OutOfFrames
+pub mod LastEntries
 pub mod OrderedRefusals
+pub mod KeptWires
 pub mod KeptFrames
 pub mod KeptSizes
 pub mod NewPages

@@ -1,15 +1,15 @@
--- A page of a region that was unmapped, and then of one that was mapped.
+-- A page of a region that was unmapped, and then of one that was mapped; and a page that was discarded.
 use Rattle.std.proofs.Common.{◌≡◌, ℕ, true, ◌&&◌, if◌then◌else◌, Option, Some, refl, ap, ◌∙◌, subst}
 use Rattle.std.proofs.lemmas.Bool.{cond-true}
-use Rattle.pager_model.specs.declared.call.Call.TheVariants.{Map, Unmap}
+use Rattle.pager_model.specs.declared.call.Call.TheVariants.{Map, Unmap, Discard}
 use Rattle.pager_model.specs.declared.entry.Entry.{Entry}
 use Rattle.pager_model.specs.declared.region.Kind.{Kind}
 use Rattle.pager_model.specs.declared.region.Region.{Region}
 use Rattle.pager_model.specs.declared.region.Rights.{Rights}
-use Rattle.pager_model.specs.Flat.{goes, is_lawful}
+use Rattle.pager_model.specs.Flat.{goes, is_discarded, is_lawful}
 use Rattle.pager_model.specs.Regions.{in_range, region_at}
 use Rattle.pager_model.specs.SpaceStates.{SpaceState, SpaceAllows, IsClearedAt, space_after}
-use Rattle.pager_laws.specs.NewPages.{IsNew, done}
+use Rattle.pager_laws.specs.NewPages.{IsNew, IsNewButForRights, done}
 use Rattle.pager_model.specs.CallEntries.{answer_entry}
 
 -- an unmap of a region, and after it a map of one in its space
@@ -42,4 +42,18 @@ new_again st k p r at unmaps maps was is =
           ∙ cond-true _ _ _ is;
       frame = cleared.none p was;
       words = λ i. ap (λ o. if goes o p then 0 else st.flat.words p i) at ∙ cond-true _ _ _ was;
+    }
+
+pub new_but_for_rights : (st : SpaceState) (c n space first len page : ℕ)
+    → SpaceAllows st (answer_entry c n (Discard space first len) done) → in_range first len page ≡ true
+    → IsNewButForRights st (space_after st (answer_entry c n (Discard space first len) done)) page
+new_but_for_rights st c n space first len page allowed inside =
+    let goes : is_discarded st.flat first len page ≡ true =
+    ap (λ x. is_lawful x && in_range first len page) allowed.1.reply.0 ∙ inside in
+    record {
+      rights = refl;
+      frame = allowed.1.reply.1 refl page inside;
+      words = λ i. cond-true _ _ _ goes;
+      copy = cond-true _ _ _ goes;
+      clean = cond-true _ _ _ goes;
     }

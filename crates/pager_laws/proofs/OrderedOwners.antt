@@ -8,7 +8,7 @@ use Rattle.pager_model.specs.declared.entry.Need.{Need}
 use Rattle.pager_model.specs.declared.reply.Reply.{Reply}
 use Rattle.pager_model.specs.Agreement.{ClaimsOrHolds, OwnsBy}
 use Rattle.pager_model.specs.FrameStates.{FrameState, held_by, HasNothing}
-use Rattle.pager_model.specs.Order.{Purpose, Doing, Progress, leads, may_answer, after_answer, after_take, after_use, after_clear, after_out, after_failure, after_give, after_claim, after_got, after_unclaim, lacking_for, faulted_for, after_drop, dropped_for, after_refusal, after_rest, is_victim, between}
+use Rattle.pager_model.specs.Order.{Purpose, Doing, Progress, leads, may_answer, after_answer, after_take, after_use, after_clear, after_pin, after_kept, after_out, after_failure, after_give, after_claim, after_got, after_unclaim, lacking_for, faulted_for, after_drop, dropped_for, after_refusal, after_rest, is_victim, between}
 use Rattle.pager_model.specs.Order.Purpose.{ForAccess, ForTurn}
 use Rattle.pager_model.specs.Order.Doing.{Idle, Looking, Filling, Unfilling, Claiming, Emptied, Unwritten, Holding}
 use Rattle.pager_laws.proofs.Owners.{Keeps, Keeps-owns}
@@ -48,6 +48,16 @@ module _ (st after : FrameState) (c : ℕ) (keeps : Keeps st after c) where
       → OwnsBy st c doing → OwnsBy after c q.doing
   owns-clear made Idle q space first len is owns = leads_to (OwnsBy after c) true made _ q is (λ _. keeps.nothing owns)
   owns-clear made doing q space first len is owns = absurd (none-some q is)
+
+  pub owns-pin : (made : ℕ) (doing : Doing) (q : Progress) (space first len : ℕ) (wired : Bool)
+      → after_pin made doing space first len wired ≡ Some q → OwnsBy st c doing → OwnsBy after c q.doing
+  owns-pin made Idle q space first len wired is owns = leads_to (OwnsBy after c) true made _ q is (λ _. keeps.nothing owns)
+  owns-pin made doing q space first len wired is owns = absurd (none-some q is)
+
+  pub owns-kept : (made : ℕ) (doing : Doing) (q : Progress) (space first len page : ℕ)
+      → after_kept made doing space first len page ≡ Some q → OwnsBy st c doing → OwnsBy after c q.doing
+  owns-kept made Idle q space first len page is owns = leads_to (OwnsBy after c) true made _ q is (λ _. keeps.nothing owns)
+  owns-kept made doing q space first len page is owns = absurd (none-some q is)
 
   pub owns-out : (made : ℕ) (doing : Doing) (q : Progress) (space page : ℕ) → after_out made doing space page ≡ Some q → OwnsBy st c doing
       → OwnsBy after c q.doing

@@ -7,11 +7,12 @@ use Rattle.pager_model.specs.declared.entry.Victim.{Victim}
 use Rattle.pager_model.specs.declared.entry.Want.{Want}
 use Rattle.pager_model.specs.declared.reservation.Used.{Used}
 use Rattle.pager_model.specs.Agreement.{ClaimsOrHolds, OwnsVictim}
-use Rattle.pager_model.specs.FrameStates.{FrameState, Taking, layout_of, used_at, held_by, claim_in, frame_of, HasNothing, IsVictim, taken, take_frame, held_given, give_page, give_if_used, with_claim, claimed, dropped, dropped_in, counted, is_evictable}
+use Rattle.pager_model.specs.FrameStates.{FrameState, Taking, layout_of, used_at, held_by, claim_in, frame_of, HasNothing, IsVictim, taken, take_frame, held_given, give_page, give_if_used, with_claim, claimed, pin_range, dropped, dropped_in, counted, is_evictable}
 use Rattle.pager_model.specs.Layouts.{Placing, placing, frame_in}
 use Rattle.pager_model.proofs.Options.{none_from_is_none}
 use Rattle.pager_laws.specs.Laid.{IsSound}
 use Rattle.pager_laws.proofs.PageMoves.{GivesPage, GivesPage-give_page, place_in_layout}
+use Rattle.pager_laws.proofs.PinnedPlaces.{claim-pinned, frame_of-pinned}
 use Rattle.pager_laws.proofs.LayoutPlacing.{WasPlaced, WasPlaced-placing}
 use Rattle.pager_model.proofs.Lists.{get_or-set_default}
 use Rattle.pager_laws.proofs.StateSoundness.{used_if_noted, claim_from, claim_taken, claim_given, claim_claimed, taking_from, layout_of-taken, layout_of-claimed, IsSound-give_if_used}
@@ -245,6 +246,22 @@ nothing-unclaimed frames processors st frame c sound claims = record {
     | inl now ↦ none-some c now.1
     | inr before ↦ before.0 (sound.claims_once f frame c before.1 claims)
   ];
+}
+
+-- Pinning.
+
+-- a pin leaves every processor what it claims and holds
+pub Keeps-pinned : (st : FrameState) (space first len : ℕ) (wired : Bool) (c : ℕ) → Keeps st (pin_range st space first len wired) c
+Keeps-pinned st space first len wired c = record {
+  nothing = λ nothing. record {
+    holds_none = nothing.holds_none;
+    claims_none = λ f claims. nothing.claims_none f (sym (claim-pinned st space first len wired f) ∙ claims);
+  };
+  holds = λ f holds. holds;
+  claims = λ f s p claims is. inr (
+    claim-pinned st space first len wired f ∙ claims,
+    frame_of-pinned st space first len wired s p ∙ is,
+  );
 }
 
 -- Dropping.

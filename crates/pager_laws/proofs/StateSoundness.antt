@@ -8,19 +8,20 @@ use Rattle.std.proofs.Math.Seq.{map-set_same}
 use Rattle.std.specs.List.{range_with_len}
 use Rattle.std.proofs.lemmas.Option.{none-some, same_Some}
 use Rattle.pager_model.specs.declared.call.Call.{Call}
-use Rattle.pager_model.specs.declared.call.Call.TheVariants.{Map, Grow, Unmap, Protect, Load, Store, Sync, Evict}
+use Rattle.pager_model.specs.declared.call.Call.TheVariants.{Map, Grow, Unmap, Protect, Load, Store, Sync, Evict, Discard, Wire, Unwire}
 use Rattle.pager_model.specs.declared.entry.Want.{Want}
 use Rattle.pager_model.specs.declared.entry.What.{What}
-use Rattle.pager_model.specs.declared.entry.What.TheVariants.{Answer, Out, Failed, Take, Give, Clear, Claim, UseHeld, DropHeld, Got, Unclaim, Refused, Rest}
+use Rattle.pager_model.specs.declared.entry.What.TheVariants.{Answer, Out, Failed, Take, Give, Clear, Claim, UseHeld, DropHeld, Got, Unclaim, Refused, Pin, Kept, Rest}
 use Rattle.pager_model.specs.declared.reservation.Reservation.{Reservation}
 use Rattle.pager_model.specs.declared.reservation.Used.{Used}
 use Rattle.pager_model.specs.Agreement.{has_frame}
-use Rattle.pager_model.specs.FrameStates.{FrameState, Taking, layout_of, used_at, held_by, claim_in, frame_of, HasNothing, taken, taking, take_frame, state_taken, layout_given, held_given, given, given_in, give_page, give_if_used, with_claim, claimed, is_evictable, is_wired_place, dropped, dropped_in, counted, named_space, moved, moved_by_answer, AllowsAnswer, FramesAllow}
+use Rattle.pager_model.specs.FrameStates.{FrameState, Taking, layout_of, used_at, held_by, claim_in, frame_of, HasNothing, taken, taking, take_frame, state_taken, layout_given, held_given, given, given_in, give_page, give_if_used, with_claim, claimed, pin_range, lowest_claimed, is_evictable, is_wired_place, dropped, dropped_in, counted, named_space, moved, moved_by_answer, AllowsAnswer, FramesAllow}
 use Rattle.pager_model.specs.Layouts.{Layout, Placing, placing, frame_for, record_at}
 use Rattle.pager_model.specs.Records.{is_used}
 use Rattle.pager_model.proofs.Lists.{get_or-set_default, set_cases, unset_before}
 use Rattle.pager_model.proofs.RecordFrames.{has_frame_bounds}
 use Rattle.pager_laws.specs.Laid.{IsLaid, IsSound, IsIn}
+use Rattle.pager_laws.proofs.PinnedPlaces.{layout_of-pinned, claim-pinned, age-pinned, unwired-pinned}
 use Rattle.pager_laws.proofs.PagePlaces.{has_frame_for, frame_in-found, covering-is}
 use Rattle.pager_laws.proofs.LayoutPlacing.{WasPlaced, WasPlaced-placing}
 use Rattle.pager_laws.proofs.LayoutRelease.{Gives, Gives-vacate, Gives-carve, PutsBack-put_back}
@@ -438,6 +439,33 @@ pub IsSound-unclaimed : (frames processors : ℕ) (st : FrameState) (frame : ℕ
 IsSound-unclaimed frames processors st frame sound =
     IsSound-reclaimed frames processors st frame None sound (λ c is. absurd (none-some c is))
 
+-- Pinning.
+
+-- the places of a range are wired, or are no longer: where they are to be, none is claimed
+pub IsSound-pinned : (frames processors : ℕ) (st : FrameState) (space first len : ℕ) (wired : Bool) → IsSound frames processors st
+    → (wired ≡ true → lowest_claimed st space first len ≡ None) → IsSound frames processors (pin_range st space first len wired)
+IsSound-pinned frames processors st space first len wired sound may = record {
+  known = sound.known;
+  processors_known = sound.processors_known;
+  laid = subst IsLaid (sym (layout_of-pinned st space first len wired)) sound.laid;
+  accounted = sound.accounted;
+  held_apart = sound.held_apart;
+  held_once = sound.held_once;
+  ages_past = λ f u is.
+      let before = age-pinned st space first len wired f u is in
+      subst (λ age. age < st.entries) before.2 (sound.ages_past f before.0 before.1);
+  ages_differ = λ f other u v is also same.
+      let one = age-pinned st space first len wired f u is in
+      let two = age-pinned st space first len wired other v also in
+      sound.ages_differ f other one.0 two.0 one.1 two.1 (one.2 ∙ same ∙ sym two.2);
+  claims_once = λ f other c one two. sound.claims_once f other c (sym (claim-pinned st space first len wired f) ∙ one)
+      (sym (claim-pinned st space first len wired other) ∙ two);
+  claims_known = λ f c claims. sound.claims_known f c (sym (claim-pinned st space first len wired f) ∙ claims);
+  claims_unwired = λ f c claims.
+      let before = sym (claim-pinned st space first len wired f) ∙ claims in
+      unwired-pinned st space first len wired f c may before (sound.claims_unwired f c before);
+}
+
 -- Dropping.
 
 -- a processor drops the frame that it holds
@@ -538,6 +566,9 @@ IsSound-answer frames processors st space (Protect s page len rights) sound allo
 IsSound-answer frames processors st space (Load s address) sound allowed = absurd allowed
 IsSound-answer frames processors st space (Store s address word) sound allowed = absurd allowed
 IsSound-answer frames processors st space (Sync s page) sound allowed = absurd allowed
+IsSound-answer frames processors st space (Discard s page len) sound allowed = absurd allowed
+IsSound-answer frames processors st space (Wire s page) sound allowed = absurd allowed
+IsSound-answer frames processors st space (Unwire s page) sound allowed = absurd allowed
 
 -- Whatever the frames allow keeps them sound.
 pub IsSound-moved : (frames processors : ℕ) (st : FrameState) (mark c : ℕ) (space : Option ℕ) (what : What) → IsSound frames processors st
@@ -564,4 +595,8 @@ IsSound-moved frames processors st mark c space (Got frame) sound known allowed 
 IsSound-moved frames processors st mark c space (Unclaim frame) sound known allowed =
     IsSound-counted frames processors _ (IsSound-unclaimed frames processors st frame sound)
 IsSound-moved frames processors st mark c space (Refused wired claims held) sound known allowed = IsSound-counted frames processors st sound
+IsSound-moved frames processors st mark c space (Pin first len wired) sound known allowed =
+    IsSound-counted frames processors _ (IsSound-pinned frames processors st (named_space space) first len wired sound allowed)
+IsSound-moved frames processors st mark c space (Kept first len page frame) sound known allowed =
+    IsSound-counted frames processors st sound
 IsSound-moved frames processors st mark c space (Rest short) sound known allowed = IsSound-counted frames processors st sound

@@ -1,15 +1,15 @@
 -- Laws of tiles and images, whatever a space keeps.
-use Rattle.std.proofs.Common.{◌≡◌, ℕ, true, ◌==◌, List, Option, Some, None, inl, inr, refl, sym, subst, ◌∙◌}
+use Rattle.std.proofs.Common.{◌≡◌, ℕ, Bool, true, false, ◌==◌, List, Option, Some, None, inl, inr, refl, sym, subst, ◌∙◌}
 use Rattle.std.proofs.lemmas.Bool.{cases_Bool, false≢true}
 use Rattle.pager_model.specs.declared.call.Call.{Call}
-use Rattle.pager_model.specs.declared.call.Call.TheVariants.{Map, Grow, Unmap, Protect, Load, Store, Sync, Evict}
+use Rattle.pager_model.specs.declared.call.Call.TheVariants.{Map, Grow, Unmap, Protect, Load, Store, Sync, Evict, Discard, Wire, Unwire}
 use Rattle.pager_model.specs.declared.entry.Entry.{Entry}
 use Rattle.pager_model.specs.declared.entry.What.{What}
 use Rattle.pager_model.specs.declared.entry.What.TheVariants.{Answer}
 use Rattle.pager_model.specs.declared.region.Region.{Region}
 use Rattle.pager_model.specs.declared.reply.Answered.{Answered}
 use Rattle.pager_model.specs.declared.reply.Reply.{Reply}
-use Rattle.pager_model.specs.declared.reply.Reply.TheVariants.{Value, NoFrames, StoreFault, NoMemory}
+use Rattle.pager_model.specs.declared.reply.Reply.TheVariants.{Value, NoFrames, StoreFault, NoMemory, Busy}
 use Rattle.pager_model.specs.declared.tile.Mapping.{Mapping}
 use Rattle.pager_model.specs.declared.tile.Tile.{Tile}
 use Rattle.pager_model.specs.Entries.{names_space}
@@ -17,7 +17,7 @@ use Rattle.pager_model.specs.Images.{is_in_image, still_tiles}
 use Rattle.pager_model.specs.Legal.{IsLegal, space_at}
 use Rattle.pager_model.specs.Regions.{region_at}
 use Rattle.pager_model.specs.Settings.{Given}
-use Rattle.pager_model.specs.SpaceStates.{SpaceState, SpaceAllows, WhatAllowed, ReplyAllowed, IsClearedAt, pages_of, pages_after, served_page, tile_at, used_tile, space_after}
+use Rattle.pager_model.specs.SpaceStates.{SpaceState, SpaceAllows, WhatAllowed, ReplyAllowed, IsClearedAt, IsPinnedAt, pages_of, pages_after, served_page, tile_at, used_tile, space_after}
 use Rattle.pager_model.specs.SizeSets.{SizeSet}
 use Rattle.pager_model.specs.Tiles.{tile_in}
 use Rattle.pager_model.proofs.Histories.{space_at-named, space_at-other, IsLegal-keeps}
@@ -78,11 +78,17 @@ module _ (st : SpaceState) (images : ℕ → List Tile) (promotions demotions : 
   same_cleared c None is = is
   same_cleared c (Some r) is = record { next = is.next; none = is.none }
 
+  same_pinned : (c : ℕ) (wired : Bool) (o : Option Region) → IsPinnedAt st c wired o
+      → IsPinnedAt (retiled st images promotions demotions) c wired o
+  same_pinned c wired None is = is
+  same_pinned c wired (Some r) is = is
+
   pub same_replies : (c : ℕ) (call : Call) (reply : Reply) → ReplyAllowed st c call reply
       → ReplyAllowed (retiled st images promotions demotions) c call reply
   same_replies c (Unmap space page) (NoFrames wired claimed held) allowed = allowed
   same_replies c (Unmap space page) (StoreFault at count) allowed = allowed
   same_replies c (Unmap space page) NoMemory allowed = allowed
+  same_replies c (Unmap space page) (Busy at) allowed = allowed
   same_replies c (Unmap space page) (Value word) allowed =
       (allowed.0, λ lawful. same_cleared c (region_at st.flat.regions page) (allowed.1 lawful))
   same_replies c (Unmap space page) reply allowed =
@@ -101,3 +107,21 @@ module _ (st : SpaceState) (images : ℕ → List Tile) (promotions demotions : 
   same_replies c (Sync space page) reply allowed = allowed
   same_replies c (Evict space page) NoMemory allowed = allowed
   same_replies c (Evict space page) reply allowed = allowed
+  same_replies c (Discard space page len) NoMemory allowed = allowed
+  same_replies c (Discard space page len) reply allowed = allowed
+  same_replies c (Wire space page) (NoFrames wired claimed held) allowed = allowed
+  same_replies c (Wire space page) (StoreFault at count) allowed = allowed
+  same_replies c (Wire space page) NoMemory allowed = allowed
+  same_replies c (Wire space page) (Busy at) allowed = allowed
+  same_replies c (Wire space page) (Value word) allowed =
+      (allowed.0, λ lawful. same_pinned c true (region_at st.flat.regions page) (allowed.1 lawful))
+  same_replies c (Wire space page) reply allowed =
+      (allowed.0, λ lawful. same_pinned c true (region_at st.flat.regions page) (allowed.1 lawful))
+  same_replies c (Unwire space page) (NoFrames wired claimed held) allowed = allowed
+  same_replies c (Unwire space page) (StoreFault at count) allowed = allowed
+  same_replies c (Unwire space page) NoMemory allowed = allowed
+  same_replies c (Unwire space page) (Busy at) allowed = allowed
+  same_replies c (Unwire space page) (Value word) allowed =
+      (allowed.0, λ lawful. same_pinned c false (region_at st.flat.regions page) (allowed.1 lawful))
+  same_replies c (Unwire space page) reply allowed =
+      (allowed.0, λ lawful. same_pinned c false (region_at st.flat.regions page) (allowed.1 lawful))

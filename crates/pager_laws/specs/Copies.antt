@@ -1,7 +1,7 @@
 -- What a failed write and an answer without service leave.
 use Rattle.std.specs.Prelude.{ℕ, ◌≡◌, ◌≢◌, true, None}
 use Rattle.pager_model.specs.declared.reply.Reply.{Reply}
-use Rattle.pager_model.specs.declared.reply.Reply.TheVariants.{NoFrames, StoreFault, NoMemory}
+use Rattle.pager_model.specs.declared.reply.Reply.TheVariants.{NoFrames, StoreFault, NoMemory, Busy}
 use Rattle.pager_model.specs.SpaceStates.{SpaceState, IsResident}
 
 -- The page's copy is unknown now, and nothing else of memory or of frames is changed: the page is dirty and resident still.
@@ -16,9 +16,10 @@ pub record LosesItsCopy (page : ℕ) (before after : SpaceState) : Type 0 where
   pub same_rights : after.flat.rights ≡ before.flat.rights
   pub same_frames : after.base ≡ before.base
 
--- the reply is for want of a frame or of memory, or for a store's fault
+-- the reply is for want of a frame or of memory, for a store's fault, or for a claimed frame
 abbrev pub IsWithoutService : Reply → Type 0
 IsWithoutService (NoFrames wired claimed held) = Unit {0}
 IsWithoutService (StoreFault space count) = Unit {0}
 IsWithoutService NoMemory = Unit {0}
+IsWithoutService (Busy page) = Unit {0}
 IsWithoutService reply = ⊥

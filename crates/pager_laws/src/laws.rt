@@ -1,7 +1,7 @@
 //! What holds of every state of frames and spaces, and of every legal history: each is a clause of a function that does nothing.
 
 ghost use Rattle.std.specs.Prelude.{◌≡◌, ℕ, ◌<◌, Bool, List, Option, option_map, Some, None, true, length, ◌≢◌, ◌⊎◌, ◌↔◌, ◌∷◌, ◌++◌, [], false, ◌+◌, ◌≤◌};
-ghost use Rattle.pager_model.specs.declared.call.Call.TheVariants.{Map, Unmap, Protect};
+ghost use Rattle.pager_model.specs.declared.call.Call.TheVariants.{Map, Unmap, Protect, Discard};
 ghost use Rattle.pager_model.specs.declared.call.Call.{Call as MemoryCall};
 ghost use Rattle.pager_model.specs.declared.entry.Entry.{Entry};
 ghost use Rattle.pager_model.specs.declared.entry.Want.{Want};
@@ -17,9 +17,9 @@ ghost use Rattle.pager_model.specs.Agreement.{Agrees, IsPartition, NothingHeld, 
 ghost use Rattle.pager_model.specs.CallEntries.{answer_entry};
 ghost use Rattle.pager_model.specs.Flat.{Flat, after_call, space_of_call};
 ghost use Rattle.pager_model.specs.FrameStates.{layout_of, frame_of, take_frame, IsFull, free_count, reserved_count, used_count, held_count};
-ghost use Rattle.pager_model.specs.Headline.{PreemptsOldest, RefusesRightly, IsNeverShort, AllAnswered, AllServed};
+ghost use Rattle.pager_model.specs.Headline.{PreemptsOldest, RefusesRightly, KeepsRightly, IsNeverShort, AllAnswered, AllServed};
 ghost use Rattle.pager_model.specs.Images.{still_tiles};
-ghost use Rattle.pager_model.specs.Laws.{KeepsFrames, EqualsItsCopy, WasCleared, KeepsLawsAllAlong};
+ghost use Rattle.pager_model.specs.Laws.{KeepsFrames, KeepsWires, EqualsItsCopy, WasCleared, KeepsLawsAllAlong};
 ghost use Rattle.pager_model.specs.Layouts.{Layout, break_layout, meets_any, record_at};
 ghost use Rattle.pager_model.specs.Legal.{AllWhole, IsLegal, frames_at, frames_state, progress_at, space_at};
 ghost use Rattle.pager_model.specs.Order.{Progress};
@@ -35,7 +35,7 @@ ghost use Rattle.pager_laws.specs.Copies.{LosesItsCopy, IsWithoutService};
 ghost use Rattle.pager_laws.specs.Faults.{HasFailed};
 ghost use Rattle.pager_laws.specs.Hits.{HasHit, retiled};
 ghost use Rattle.pager_laws.specs.Laid.{IsLaid};
-ghost use Rattle.pager_laws.specs.NewPages.{IsNew, done};
+ghost use Rattle.pager_laws.specs.NewPages.{IsNew, IsNewButForRights, done};
 
 // The frames.
 
@@ -96,6 +96,12 @@ pub fn frames_have_one_role()
     ensures held { (g : Given) (history : List Entry) → IsLegal g history → AllWhole g history → NothingHeld (frames_at g history) }
 {}
 
+/// After every legal history a used place is wired exactly where its page's region is, but between a pin and the next entry of the space, where
+/// the places of its range are as it said; and no place is both wired and claimed.
+pub fn a_place_is_wired_as_its_region_is()
+    ensures { (g : Given) (history : List Entry) → IsLegal g history → KeepsWires g history }
+{}
+
 /// In every legal history each reservation that a taking preempts, so that none of its size begins at its first frame any more, was
 /// the oldest of its list.
 pub fn the_oldest_is_preempted()
@@ -107,6 +113,13 @@ pub fn the_oldest_is_preempted()
 /// claimed.
 pub fn a_refusal_finds_no_frame()
     ensures { (g : Given) (history : List Entry) → IsLegal g history → RefusesRightly g history }
+{}
+
+/// In every legal history each answer that says that a page kept it from being done is of a wire, and comes after an entry that found this page,
+/// which was its processor's last entry. When that was made the range was that of the region of the wire's page, and the page was the lowest of
+/// it whose frame a processor claimed.
+pub fn a_busy_wire_was_kept()
+    ensures { (g : Given) (history : List Entry) → IsLegal g history → KeepsRightly g history }
 {}
 
 /// In every legal history a refusal's numbers sum to all frames, and the wired places that it tells are, together with the processors, more than the
@@ -134,6 +147,14 @@ pub fn an_unmap_leaves_nothing_to_the_next_map()
         → IsNew (space_after (space_after st (answer_entry c m (Unmap space page) done)) (answer_entry d n (Map space first len kind rights) done)) rights p }
 {}
 
+/// After a discard that is done the pages of its range are new but for their rights, which they keep.
+pub fn a_discard_leaves_its_pages_new()
+    ensures { (st : SpaceState) (c n space first len page : ℕ)
+        → SpaceAllows st (answer_entry c n (Discard space first len) done)
+        → in_range first len page ≡ true
+        → IsNewButForRights st (space_after st (answer_entry c n (Discard space first len) done)) page }
+{}
+
 /// A protect changes no word.
 pub fn a_protect_changes_no_word()
     ensures { (f : Flat) (space page len : ℕ) (rights : Rights) → (after_call f (Protect space page len rights)).words ≡ f.words }
@@ -154,7 +175,7 @@ pub fn a_clean_page_equals_its_copy()
         → EqualsItsCopy (space_at g history s).flat page }
 {}
 
-/// A dirty page is resident, after every legal history, but for one of a range that was cleared, whose unmap comes next.
+/// A dirty page is resident, after every legal history, but for one of a range that was cleared, whose unmap or discard comes next.
 pub fn a_dirty_page_is_resident()
     ensures { (g : Given) (history : List Entry) (s page : ℕ)
         → IsLegal g history
@@ -173,7 +194,8 @@ pub fn a_failed_write_loses_the_copy_alone()
     ensures { (st : SpaceState) (e : Entry) (page count : ℕ) → SpaceAllows st e → e.what ≡ Failed page true count → LosesItsCopy page st (space_after st e) }
 {}
 
-/// An answer for want of a frame or of memory, or for a store's fault, changes nothing in the flat memory and leaves every page its frame.
+/// An answer for want of a frame or of memory, for a store's fault, or of a wire that a page kept from being done, changes nothing in the flat
+/// memory and leaves every page its frame.
 pub fn an_answer_without_service_changes_nothing()
     ensures flat { (st : SpaceState) (e : Entry) (number : ℕ) (call : MemoryCall) (a : Answered)
         → SpaceAllows st e
@@ -224,12 +246,14 @@ pub fn a_legal_history_keeps_its_laws()
     ensures { (g : Given) (history : List Entry) → IsLegal g history → KeepsLawsAllAlong g history }
 {}
 
-/// Where no store failed, each answer of a legal history is the flat memory's, or says that no frame or no memory could be had.
+/// Where no store failed, each answer of a legal history is the flat memory's, or says that no frame or no memory could be had, or which page
+/// kept a wire from being done.
 pub fn an_answer_is_served_where_no_store_failed()
     ensures { (g : Given) (history : List Entry) → IsLegal g history → ((s count : ℕ) → HasFailed g history s count → ⊥) → AllServed g history }
 {}
 
-/// Whatever stores did, each answer of a legal history is the flat memory's, or says that no frame or no memory could be had or that a store failed.
+/// Whatever stores did, each answer of a legal history is the flat memory's, or says that no frame or no memory could be had, that a store failed,
+/// or which page kept a wire from being done.
 pub fn an_answer_is_served_or_says_why()
     ensures { (g : Given) (history : List Entry) → IsLegal g history → AllAnswered g history }
 {}

@@ -6,8 +6,8 @@ use Rattle.journal_core.specs.Journals.{is_answer}
 use Rattle.pager_model.specs.declared.entry.Need.{Need}
 use Rattle.pager_model.specs.declared.entry.Victim.{Victim}
 use Rattle.pager_model.specs.declared.entry.What.{What}
-use Rattle.pager_model.specs.declared.entry.What.TheVariants.{Answer, Out, Failed, Take, Give, Clear, Claim, UseHeld, DropHeld, Got, Unclaim, Refused, Rest}
-use Rattle.pager_model.specs.Order.{Purpose, Doing, Progress, leads, after_take, after_use, after_clear, after_out, after_failure, after_give, after_claim, after_got, after_unclaim, lacking_for, faulted_for, after_drop, dropped_for, after_refusal, after_rest, progress_after}
+use Rattle.pager_model.specs.declared.entry.What.TheVariants.{Answer, Out, Failed, Take, Give, Clear, Claim, UseHeld, DropHeld, Got, Unclaim, Refused, Pin, Kept, Rest}
+use Rattle.pager_model.specs.Order.{Purpose, Doing, Progress, leads, after_take, after_use, after_clear, after_pin, after_kept, after_out, after_failure, after_give, after_claim, after_got, after_unclaim, lacking_for, faulted_for, after_drop, dropped_for, after_refusal, after_rest, progress_after}
 use Rattle.pager_model.specs.Order.Purpose.{ForAccess, ForTurn}
 use Rattle.pager_model.specs.Order.Doing.{Idle, Looking, Filling, Unfilling, Claiming, Emptied, Unwritten, Holding}
 use Rattle.pager_locks.specs.Locked.{later}
@@ -44,6 +44,15 @@ module _ (k : ℕ) where
   clears : (m : ℕ) (d : Doing) (s first len : ℕ) → Moves (after_clear m d s first len) (after_clear (k + m) d s first len)
   clears m Idle s first len = refl
   clears m d s first len = refl
+
+  pins : (m : ℕ) (d : Doing) (s first len : ℕ) (wired : Bool)
+      → Moves (after_pin m d s first len wired) (after_pin (k + m) d s first len wired)
+  pins m Idle s first len wired = refl
+  pins m d s first len wired = refl
+
+  keeps : (m : ℕ) (d : Doing) (s first len page : ℕ) → Moves (after_kept m d s first len page) (after_kept (k + m) d s first len page)
+  keeps m Idle s first len page = refl
+  keeps m d s first len page = refl
 
   outs : (m : ℕ) (d : Doing) (s page : ℕ) → Moves (after_out m d s page) (after_out (k + m) d s page)
   outs m (Claiming purpose victim) s page = lead _ m (Emptied purpose victim)
@@ -132,6 +141,10 @@ module _ (k : ℕ) where
   moves p space (Unclaim frame) none = named space (λ s. after_unclaim p.made p.doing s frame)
       (λ s. after_unclaim (k + p.made) p.doing s frame) (λ s. unclaims p.made p.doing s frame)
   moves p space (Refused wired claimed held) none = refuses p.made p.doing wired claimed held
+  moves p space (Pin first len wired) none = named space (λ s. after_pin p.made p.doing s first len wired)
+      (λ s. after_pin (k + p.made) p.doing s first len wired) (λ s. pins p.made p.doing s first len wired)
+  moves p space (Kept first len page frame) none = named space (λ s. after_kept p.made p.doing s first len page)
+      (λ s. after_kept (k + p.made) p.doing s first len page) (λ s. keeps p.made p.doing s first len page)
   moves p space (Rest short) none = rests p.made p.doing short
 
 pub later_none : (p : Progress) → later 0 p ≡ p

@@ -4,15 +4,15 @@ use Rattle.std.specs.Option.{option_and_then}
 use Rattle.std.proofs.lemmas.Bool.{and_parts, eqb-true, false≢true}
 use Rattle.std.proofs.lemmas.Option.{none-some}
 use Rattle.pager_model.specs.declared.call.Call.{Call}
-use Rattle.pager_model.specs.declared.call.Call.TheVariants.{Unmap, Sync, Evict}
+use Rattle.pager_model.specs.declared.call.Call.TheVariants.{Unmap, Sync, Evict, Discard, Wire, Unwire}
 use Rattle.pager_model.specs.declared.entry.Need.{Need}
 use Rattle.pager_model.specs.declared.entry.Victim.{Victim}
 use Rattle.pager_model.specs.declared.entry.What.{What}
-use Rattle.pager_model.specs.declared.entry.What.TheVariants.{Answer, Out, Failed, Take, Give, Clear, Claim, UseHeld, DropHeld, Got, Unclaim, Refused, Rest}
+use Rattle.pager_model.specs.declared.entry.What.TheVariants.{Answer, Out, Failed, Take, Give, Clear, Claim, UseHeld, DropHeld, Got, Unclaim, Refused, Pin, Kept, Rest}
 use Rattle.pager_model.specs.declared.reply.Reply.{Reply}
 use Rattle.pager_model.specs.declared.reply.Reply.TheVariants.{NoFrames}
-use Rattle.pager_model.specs.Order.{Purpose, ForAccess, ForTurn, Doing, Idle, Looking, Cleared, Uncopied, Filling, Unfilling, Claiming, Emptied, Unwritten, Holding, Late, Faulted, Lacking, Refusing, Progress}
-use Rattle.pager_model.specs.Order.{leads, is_answered_alone, may_answer, after_take, after_use, after_clear, after_out, after_failure, after_give, after_claim, after_got, lacking_for, faulted_for, after_unclaim, dropped_for, after_drop, after_refusal, after_rest, progress_after}
+use Rattle.pager_model.specs.Order.{Purpose, ForAccess, ForTurn, Doing, Idle, Looking, Cleared, Pinned, Blocked, Uncopied, Filling, Unfilling, Claiming, Emptied, Unwritten, Holding, Late, Faulted, Lacking, Refusing, Progress}
+use Rattle.pager_model.specs.Order.{leads, is_answered_alone, may_answer, after_take, after_use, after_clear, after_pin, after_kept, after_out, after_failure, after_give, after_claim, after_got, lacking_for, faulted_for, after_unclaim, dropped_for, after_drop, after_refusal, after_rest, progress_after}
 use Rattle.pager_model.specs.Settings.{Given}
 use Rattle.flight_core.specs.Steps.{reply_said}
 use Rattle.pager_locks.specs.Locked.{SaysWhy, WillSayWhy}
@@ -22,6 +22,9 @@ not_alone : (call : Call) (wired claimed held : ℕ) → is_answered_alone call 
 not_alone (Unmap s page) wired claimed held may = false≢true may
 not_alone (Sync s page) wired claimed held may = false≢true may
 not_alone (Evict s page) wired claimed held may = false≢true may
+not_alone (Discard s page len) wired claimed held may = false≢true may
+not_alone (Wire s page) wired claimed held may = false≢true may
+not_alone (Unwire s page) wired claimed held may = false≢true may
 not_alone call wired claimed held may = false≢true may
 
 leads_holds : (holds : Bool) (made : ℕ) (doing : Doing) (q : Progress) → leads holds made doing ≡ Some q → holds ≡ true
@@ -57,6 +60,14 @@ module _ (g : Given) where
   by_clear : (made : ℕ) (doing : Doing) (space first len : ℕ) → Knows (after_clear made doing space first len)
   by_clear made Idle space first len = tt
   by_clear made doing space first len = tt
+
+  by_pin : (made : ℕ) (doing : Doing) (space first len : ℕ) (wired : Bool) → Knows (after_pin made doing space first len wired)
+  by_pin made Idle space first len wired = tt
+  by_pin made doing space first len wired = tt
+
+  by_kept : (made : ℕ) (doing : Doing) (space first len page : ℕ) → Knows (after_kept made doing space first len page)
+  by_kept made Idle space first len page = tt
+  by_kept made doing space first len page = tt
 
   by_out : (made : ℕ) (doing : Doing) (space page : ℕ) → Knows (after_out made doing space page)
   by_out made (Claiming purpose victim) space page = by_test _ made (Emptied purpose victim) tt
@@ -129,6 +140,8 @@ module _ (g : Given) where
   will_say p space (Got frame) why = by_got p.made p.doing frame
   will_say p space (Unclaim frame) why = on_space space _ (λ s. by_unclaim p.made p.doing s frame)
   will_say p space (Refused wired claimed held) why = by_refusal p.made p.doing wired claimed held (why wired claimed held refl)
+  will_say p space (Pin first len wired) why = on_space space _ (λ s. by_pin p.made p.doing s first len wired)
+  will_say p space (Kept first len page frame) why = on_space space _ (λ s. by_kept p.made p.doing s first len page)
   will_say p space (Rest short) why = by_rest p.made p.doing short
 
   -- The answer.
@@ -146,6 +159,8 @@ module _ (g : Given) where
       → SaysWhy g (NoFrames w c h)
   from_there Idle call w c h may knows = absurd (not_alone call w c h may)
   from_there (Cleared space first len) call w c h may knows = absurd (false≢true (and_parts _ _ may).1)
+  from_there (Pinned space first len wired) call w c h may knows = absurd (false≢true (and_parts _ _ may).1)
+  from_there (Blocked space first len page) call w c h may knows = absurd (false≢true (and_parts _ _ may).1)
   from_there (Uncopied space page count) call w c h may knows = absurd (false≢true (and_parts _ _ may).1)
   from_there (Filling a frame) call w c h may knows = absurd (false≢true (and_parts _ _ may).1)
   from_there (Late a) call w c h may knows = absurd (false≢true (and_parts _ _ may).1)

@@ -2,12 +2,12 @@
 use Rattle.std.proofs.Common.{◌≡◌, ℕ, ◌+◌, Bool, true, false, cond, List, [], ◌∷◌, fold, Option, Some, None, is_some, option_map, refl, ap, ◌∙◌}
 use Rattle.std.specs.List.{range_with_len}
 use Rattle.pager_model.specs.declared.call.Call.{Call}
-use Rattle.pager_model.specs.declared.call.Call.TheVariants.{Map, Grow, Unmap, Protect, Load, Store, Sync, Evict}
+use Rattle.pager_model.specs.declared.call.Call.TheVariants.{Map, Grow, Unmap, Protect, Load, Store, Sync, Evict, Discard, Wire, Unwire}
 use Rattle.pager_model.specs.declared.entry.Entry.{Entry}
 use Rattle.pager_model.specs.declared.entry.Need.{Need}
 use Rattle.pager_model.specs.declared.entry.Want.{Want}
 use Rattle.pager_model.specs.declared.entry.What.{What}
-use Rattle.pager_model.specs.declared.entry.What.TheVariants.{Answer, Out, Failed, Take, Give, Clear, Claim, UseHeld, DropHeld, Got, Unclaim, Refused, Rest}
+use Rattle.pager_model.specs.declared.entry.What.TheVariants.{Answer, Out, Failed, Take, Give, Clear, Claim, UseHeld, DropHeld, Got, Unclaim, Refused, Pin, Kept, Rest}
 use Rattle.pager_model.specs.declared.reservation.Reservation.{Reservation}
 use Rattle.pager_model.specs.Entries.{ClaimIsOn}
 use Rattle.pager_model.specs.Layouts.{Placing, covering, placing}
@@ -54,6 +54,9 @@ answer-entries st s (Protect t page len rights) = refl
 answer-entries st s (Load t address) = refl
 answer-entries st s (Store t address word) = refl
 answer-entries st s (Sync t page) = refl
+answer-entries st s (Discard t page len) = refl
+answer-entries st s (Wire t page) = refl
+answer-entries st s (Unwire t page) = refl
 
 moved-entries : (st : FrameState) (c : ℕ) (space : Option ℕ) (what : What) → (moved st c space what).entries ≡ st.entries
 moved-entries st c space (Take page frame want) = taken-entries st (named_space space) page want
@@ -68,6 +71,8 @@ moved-entries st c space (DropHeld frame) = dropped-entries st c
 moved-entries st c space (Got frame) = refl
 moved-entries st c space (Unclaim frame) = refl
 moved-entries st c space (Refused wired claimed held) = refl
+moved-entries st c space (Pin first len wired) = refl
+moved-entries st c space (Kept first len page frame) = refl
 moved-entries st c space (Rest short) = refl
 
 -- an entry on the frames adds one to their count of entries

@@ -5,7 +5,7 @@ use Rattle.std.proofs.lemmas.Fmt.{length-decimal-le}
 use Rattle.std.proofs.lemmas.List.Concat.{flat_map-cons}
 use Rattle.std.proofs.lemmas.List.Elements.{recursion_from_All}
 use Rattle.pager_model.specs.declared.call.Call.{Call}
-use Rattle.pager_model.specs.declared.call.Call.TheVariants.{Map, Grow, Unmap, Protect, Load, Store, Sync, Evict}
+use Rattle.pager_model.specs.declared.call.Call.TheVariants.{Map, Grow, Unmap, Protect, Load, Store, Sync, Evict, Discard, Wire, Unwire}
 use Rattle.pager_model.specs.declared.call.Line.{Line}
 use Rattle.pager_model.specs.declared.region.Kind.{Kind}
 use Rattle.pager_model.specs.declared.region.Kind.TheVariants.{Fixed, Growing, Wired}
@@ -68,23 +68,29 @@ call_is_short spaces (Sync space page) word few is short =
     simp length-append (omega (arith, small space (omega arith), small page (omega arith)))
 call_is_short spaces (Evict space page) word few is short =
     simp length-append (omega (arith, small space (omega arith), small page (omega arith)))
+call_is_short spaces (Discard space page len) word few is short =
+    simp length-append (omega (arith, small space (omega arith), small page (omega arith), small len (omega arith)))
+call_is_short spaces (Wire space page) word few is short =
+    simp length-append (omega (arith, small space (omega arith), small page (omega arith)))
+call_is_short spaces (Unwire space page) word few is short =
+    simp length-append (omega (arith, small space (omega arith), small page (omega arith)))
 
-line_is_short : (processors spaces : ℕ) (line : Line) → processors ≤ 16 → spaces ≤ 16 → IsLine processors spaces line
+line_is_short : (version processors spaces : ℕ) (line : Line) → processors ≤ 16 → spaces ≤ 16 → IsLine version processors spaces line
     → length (call_line line) ≤ 63
-line_is_short processors spaces line some few is =
+line_is_short version processors spaces line some few is =
     let short = call_is_short spaces line.call (decimal line.processor) few is.1 (small line.processor (omega (arith, is.0))) in
     omega (arith, length-append (join_with_byte 32 (decimal line.processor ∷ call_words line.call)) (10 ∷ []))
 
-calls_are_short : (processors spaces : ℕ) (lines : List Line) → processors ≤ 16 → spaces ≤ 16
-    → AllByRecursion (IsLine processors spaces) lines → length (flat_map call_line lines) ≤ 63 * length lines
-calls_are_short processors spaces [] some few are = omega arith
-calls_are_short processors spaces (line ∷ lines) some few are =
+calls_are_short : (version processors spaces : ℕ) (lines : List Line) → processors ≤ 16 → spaces ≤ 16
+    → AllByRecursion (IsLine version processors spaces) lines → length (flat_map call_line lines) ≤ 63 * length lines
+calls_are_short version processors spaces [] some few are = omega arith
+calls_are_short version processors spaces (line ∷ lines) some few are =
     omega (
       arith,
       ap length (flat_map-cons call_line line lines),
       length-append (call_line line) (flat_map call_line lines),
-      line_is_short processors spaces line some few are.0,
-      calls_are_short processors spaces lines some few are.1,
+      line_is_short version processors spaces line some few are.0,
+      calls_are_short version processors spaces lines some few are.1,
     )
 
 sizes_are_short : (one two three : Bool) → length (sizes_word (record { one = one; two = two; three = three })) ≤ 4
@@ -107,9 +113,10 @@ first_words_short version frames processors spaces v f p s word short true =
 first_words_short version frames processors spaces v f p s word short false =
     simp length-append (omega (arith, small version v, small frames f, small processors p, small spaces s, short))
 
--- there are two versions
-pub version_low : (version : ℕ) (z : SizeSet) → IsVersion version z → version ≤ 2
-version_low version z is = elim is [ inl one ↦ omega (arith, one.0) | inr two ↦ omega (arith, two) ]
+-- there are three versions
+pub version_low : (version : ℕ) (z : SizeSet) → IsVersion version z → version ≤ 3
+version_low version z is =
+    elim is [ inl one ↦ omega (arith, one.0) | inr later ↦ elim later [ inl two ↦ omega (arith, two) | inr three ↦ omega (arith, three) ] ]
 
 first_is_short : (plan : Plan) → HasText plan → length (first_line plan) ≤ 43
 first_is_short plan has =
@@ -134,7 +141,7 @@ text_is_short plan has =
       has.few,
       first_is_short plan has,
       daemon_is_short plan.daemon has.daemon_in,
-      calls_are_short plan.processors plan.spaces plan.calls has.processors_in.1 has.spaces_in.1
+      calls_are_short plan.version plan.processors plan.spaces plan.calls has.processors_in.1 has.spaces_in.1
           (recursion_from_All _ plan.calls has.lines),
       length-append (first ++ daemon ++ calls) (line_of_words (codes "end" ∷ [])),
       length-append (first ++ daemon) calls,

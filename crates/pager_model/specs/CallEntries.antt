@@ -3,7 +3,7 @@ use Rattle.std.specs.Prelude.{ℕ, Bool, true, false, Some}
 use Rattle.pager_model.specs.declared.call.Call.{Call}
 use Rattle.pager_model.specs.declared.call.Call.TheVariants.{Evict}
 use Rattle.pager_model.specs.declared.entry.Entry.{Entry}
-use Rattle.pager_model.specs.declared.entry.What.TheVariants.{Answer, Out, Failed, Take, Give, Clear}
+use Rattle.pager_model.specs.declared.entry.What.TheVariants.{Answer, Out, Failed, Take, Give, Clear, Pin, Kept}
 use Rattle.pager_model.specs.declared.entry.Want.{Want}
 use Rattle.pager_model.specs.declared.reply.Answered.{Answered}
 use Rattle.pager_model.specs.Flat.{space_of_call}
@@ -25,6 +25,12 @@ give_entry c space page frame = record { processor = c; space = Some space; fram
 
 abbrev pub clear_entry : ℕ → ℕ → ℕ → ℕ → Entry
 clear_entry c space first len = record { processor = c; space = Some space; frames = true; what = Clear first len }
+
+abbrev pub pin_entry : ℕ → ℕ → ℕ → ℕ → Bool → Entry
+pin_entry c space first len wired = record { processor = c; space = Some space; frames = true; what = Pin first len wired }
+
+abbrev pub kept_entry : ℕ → ℕ → ℕ → ℕ → ℕ → ℕ → Entry
+kept_entry c space first len page frame = record { processor = c; space = Some space; frames = true; what = Kept first len page frame }
 
 abbrev pub out_entry : ℕ → ℕ → ℕ → Bool → Entry
 out_entry c space page written = record { processor = c; space = Some space; frames = false; what = Out page written }

@@ -4,7 +4,7 @@ use Rattle.pager_model.specs.Options.{is_that}
 use Rattle.pager_model.specs.declared.entry.Entry.{Entry}
 use Rattle.pager_model.specs.declared.entry.Need.{Need}
 use Rattle.pager_model.specs.declared.entry.What.{What}
-use Rattle.pager_model.specs.declared.entry.What.TheVariants.{Answer, Out, Failed, Take, Give, Clear, Claim, UseHeld, DropHeld, Got, Unclaim, Refused, Rest}
+use Rattle.pager_model.specs.declared.entry.What.TheVariants.{Answer, Out, Failed, Take, Give, Clear, Claim, UseHeld, DropHeld, Got, Unclaim, Refused, Pin, Kept, Rest}
 use Rattle.pager_model.specs.Flat.{space_of_call}
 
 -- the entry names space s
@@ -62,6 +62,8 @@ IsOn space frames (DropHeld frame) = OnFrames space frames
 IsOn space frames (Got frame) = OnFrames space frames
 IsOn space frames (Unclaim frame) = OnBoth space frames
 IsOn space frames (Refused wired claimed held) = OnFrames space frames
+IsOn space frames (Pin first len wired) = OnBoth space frames
+IsOn space frames (Kept first len page frame) = OnBoth space frames
 IsOn space frames (Rest short) = OnFrames space frames
 
 abbrev pub NamesItsParts : Entry → Type 0

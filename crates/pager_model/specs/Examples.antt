@@ -1,18 +1,19 @@
 -- Small values on which the definitions are computed.
 use Rattle.std.specs.Prelude.{ℕ, ◌+◌, ◌%◌, ◌==◌, Bool, true, false, nat_lt, if◌then◌else◌, List, [], ◌∷◌, fold, Option, Some, None, option_map}
 use Rattle.pager_model.specs.declared.call.Call.{Call}
-use Rattle.pager_model.specs.declared.call.Call.TheVariants.{Map, Load, Store}
+use Rattle.pager_model.specs.declared.call.Call.TheVariants.{Map, Load, Store, Evict, Discard, Wire, Unwire}
 use Rattle.pager_model.specs.declared.entry.Entry.{Entry}
 use Rattle.pager_model.specs.declared.entry.Want.{Want}
 use Rattle.pager_model.specs.declared.entry.What.{What}
-use Rattle.pager_model.specs.declared.entry.What.TheVariants.{Answer, Out, Failed, Take, Give, Claim, DropHeld, Got, Unclaim, Rest}
-use Rattle.pager_model.specs.declared.region.Kind.TheVariants.{Fixed}
+use Rattle.pager_model.specs.declared.entry.What.TheVariants.{Answer, Out, Failed, Take, Give, Claim, DropHeld, Got, Unclaim, Pin, Kept, Clear, Rest}
+use Rattle.pager_model.specs.declared.region.Kind.{Kind}
+use Rattle.pager_model.specs.declared.region.Kind.TheVariants.{Fixed, Growing, Wired}
 use Rattle.pager_model.specs.declared.region.Rights.TheVariants.{Read, Write}
 use Rattle.pager_model.specs.declared.reply.Reply.{Reply}
-use Rattle.pager_model.specs.declared.reply.Reply.TheVariants.{Done, Unmapped, StoreFault}
+use Rattle.pager_model.specs.declared.reply.Reply.TheVariants.{Done, Value, Unmapped, Denied, StoreFault, Busy}
 use Rattle.pager_model.specs.declared.reservation.Reservation.{Reservation}
 use Rattle.pager_model.specs.Flat.{Flat, empty_space, after_call}
-use Rattle.pager_model.specs.FrameStates.{FrameState, start_frames, take_frame, state_taken, give_page, claimed, counted}
+use Rattle.pager_model.specs.FrameStates.{FrameState, start_frames, take_frame, state_taken, give_page, claimed, pin_range, counted}
 use Rattle.pager_model.specs.Plans.{Plan}
 use Rattle.pager_model.specs.Settings.{Given}
 use Rattle.pager_model.specs.SizeSets.{SizeSet, all_sizes}
@@ -38,6 +39,20 @@ map_eight = Map 0 0 8 Fixed Write
 abbrev pub eight_pages : Flat
 eight_pages = after_call empty_space map_eight
 
+-- the same pinned, and eight of the other kinds
+abbrev pub eight_pinned : Flat
+eight_pinned = after_call eight_pages (Wire 0 3)
+
+abbrev pub eight_growing : Flat
+eight_growing = after_call (after_call empty_space (Map 0 0 8 Growing Write)) (Wire 0 3)
+
+abbrev pub eight_wired : Flat
+eight_wired = after_call empty_space (Map 0 0 8 Wired Write)
+
+-- pages 1 and 2 were stored to, and then page 2 is discarded
+abbrev pub one_discarded : Flat
+one_discarded = after_call (after_call (after_call eight_pages (Store 0 8192 5)) (Store 0 16384 6)) (Discard 0 2 1)
+
 -- where a reservation in these pages may lie
 abbrev pub want_eight : Want
 want_eight = record { low = 0; high = 8; cap = 8; wired = false }
@@ -62,6 +77,16 @@ one_given = counted (give_page one_taken 0 3)
 
 abbrev pub one_carved : FrameState
 one_carved = counted (give_page (counted (claimed one_taken 3 (Some 0))) 0 3)
+
+-- the used place is wired, and is no longer; and a processor claims its frame
+abbrev pub one_wired : FrameState
+one_wired = pin_range one_taken 0 0 8 true
+
+abbrev pub one_unwired : FrameState
+one_unwired = pin_range one_wired 0 0 8 false
+
+abbrev pub one_claimed : FrameState
+one_claimed = claimed one_taken 3 (Some 0)
 
 -- two frames, which are too few for a reservation of eight
 abbrev pub two_frames : FrameState
@@ -94,6 +119,26 @@ legal_history = answer 0 map_eight Done ∷ take_page_one ∷ missed 1 (Store 0 
 -- the same, with the store answered before its frame is taken
 abbrev pub exchanged_history : List Entry
 exchanged_history = answer 0 map_eight Done ∷ missed 1 (Store 0 8192 5) Done ∷ take_page_one ∷ answer 2 (Load 0 65536) Unmapped ∷ []
+
+-- the page is discarded after its store, and loaded as a new one
+abbrev pub clear_page_one : Entry
+clear_page_one = record { processor = 0; space = Some 0; frames = true; what = Clear 1 1 }
+
+abbrev pub discarding_history : List Entry
+discarding_history =
+    answer 0 map_eight Done ∷ take_page_one ∷ missed 1 (Store 0 8192 5) Done
+    ∷ clear_page_one ∷ answer 2 (Discard 0 1 1) Done
+    ∷ take_page_one ∷ missed 3 (Load 0 8192) (Value 0) ∷ []
+
+-- the page is wired after its store, so that it isn't evicted, and then is wired no longer
+abbrev pub pin_all : Bool → Entry
+pin_all wired = record { processor = 0; space = Some 0; frames = true; what = Pin 0 8 wired }
+
+abbrev pub wiring_history : List Entry
+wiring_history =
+    answer 0 map_eight Done ∷ take_page_one ∷ missed 1 (Store 0 8192 5) Done
+    ∷ pin_all true ∷ answer 2 (Wire 0 3) Done ∷ answer 3 (Evict 0 1) Denied
+    ∷ pin_all false ∷ answer 4 (Unwire 0 3) Done ∷ []
 
 -- a trace of two calls
 abbrev pub small_plan : Plan
@@ -146,6 +191,39 @@ on_space s what = record { processor = 0; space = Some s; frames = false; what =
 abbrev pub on_both : ℕ → What → Entry
 on_both s what = record { processor = 0; space = Some s; frames = true; what = what }
 
+-- Two processors and two frames, which pages 0 and 1 have. While the second one claims the first page's frame for page 2, the first goes on
+-- by these entries.
+abbrev pub two_processors : Given
+two_processors = record small_setting { marks = 0 ∷ 0 ∷ [] }
+
+abbrev pub claim_page_zero : Entry
+claim_page_zero =
+    record {
+      processor = 1;
+      space = Some 0;
+      frames = true;
+      what = Claim 0 0 0 (Some (record { page = 2; writing = false }));
+    }
+
+abbrev pub while_claimed : List Entry → List Entry
+while_claimed more =
+    answer 0 map_eight Done
+    ∷ on_both 0 (Take 0 0 want_eight) ∷ missed 1 (Load 0 0) (Value 0)
+    ∷ on_both 0 (Take 1 1 want_eight) ∷ missed 2 (Load 0 8192) (Value 0)
+    ∷ claim_page_zero ∷ more
+
+-- that page is found, and then these
+abbrev pub after_finding : List Entry → List Entry
+after_finding more = while_claimed (on_both 0 (Kept 0 8 0 0) ∷ more)
+
+-- a paging out of the claimed page by the second one
+abbrev pub out_page_zero : Entry
+out_page_zero = record { processor = 1; space = Some 0; frames = false; what = Out 0 false }
+
+-- a region of eight pages, and then these
+abbrev pub after_map : Kind → List Entry → List Entry
+after_map kind more = answer 0 (Map 0 0 8 kind Write) Done ∷ more
+
 -- a daemon's turn that evicts one page, of space 1, and rests
 abbrev pub one_turn : List Entry
 one_turn =
@@ -194,6 +272,17 @@ made_up_fault =
     ∷ on_both 1 (Unclaim 2)
     ∷ answer 0 (Load 0 8192) (StoreFault 1 4)
     ∷ []
+
+-- a wire of page 3 of eight, done or kept from it by a page of this number; and a discard of page 2 after so many pages from there on gave
+-- their frames up
+abbrev pub wire_done : List Entry
+wire_done = on_both 0 (Pin 0 8 true) ∷ answer 0 (Wire 0 3) Done ∷ []
+
+abbrev pub wire_busy : ℕ → List Entry
+wire_busy page = on_both 0 (Kept 0 8 5 2) ∷ answer 0 (Wire 0 3) (Busy page) ∷ []
+
+abbrev pub discard_after : ℕ → List Entry
+discard_after len = on_both 0 (Clear 2 len) ∷ answer 0 (Discard 0 2 1) Done ∷ []
 
 -- a space whose store tells nothing, with a page that was stored to after it was filled
 abbrev pub untold_space : SpaceState

@@ -2,13 +2,13 @@
 -- every answer is measured by it.
 use Rattle.std.specs.Prelude.{ℕ, ◌/◌, ◌%◌, Bool, true, false, ◌&&◌, ◌==◌, if◌then◌else◌, List, [], Option, Some, None}
 use Rattle.pager_model.specs.declared.call.Call.{Call}
-use Rattle.pager_model.specs.declared.call.Call.TheVariants.{Map, Grow, Unmap, Protect, Load, Store, Sync, Evict}
+use Rattle.pager_model.specs.declared.call.Call.TheVariants.{Map, Grow, Unmap, Protect, Load, Store, Sync, Evict, Discard, Wire, Unwire}
 use Rattle.pager_model.specs.declared.region.Region.{Region}
 use Rattle.pager_model.specs.declared.region.Rights.{Rights}
 use Rattle.pager_model.specs.declared.region.Rights.TheVariants.{NoAccess, Read, Write}
 use Rattle.pager_model.specs.declared.reply.Reply.{Reply}
-use Rattle.pager_model.specs.declared.reply.Reply.TheVariants.{Done, Value, Clean, Written, Unmapped, Denied, Overlap, OutOfSpace, NotGrowing, RegionsFull, NoFrames, StoreFault, NoMemory}
-use Rattle.pager_model.specs.Regions.{in_range, end_of, region_at, with_region, without_region, grown_regions, map_reply, grow_reply, unmap_reply, range_in, is_wired}
+use Rattle.pager_model.specs.declared.reply.Reply.TheVariants.{Done, Value, Clean, Written, Unmapped, Denied, Overlap, OutOfSpace, NotGrowing, RegionsFull, NoFrames, StoreFault, NoMemory, Busy}
+use Rattle.pager_model.specs.Regions.{in_range, end_of, region_at, with_region, without_region, grown_regions, pinned_regions, map_reply, grow_reply, unmap_reply, discard_reply, wire_reply, unwire_reply, range_in, is_wired}
 
 -- A page has 1,024 words of 8 bytes. Where no region has it, its words and its copy are zero and it isn't dirty, so the
 -- pages of a new region are as they should be. Its rights are then of no meaning, and what an unmapped region left there stays: no
@@ -43,6 +43,9 @@ space_of_call (Load space address) = space
 space_of_call (Store space address word) = space
 space_of_call (Sync space page) = space
 space_of_call (Evict space page) = space
+space_of_call (Discard space page len) = space
+space_of_call (Wire space page) = space
+space_of_call (Unwire space page) = space
 
 abbrev pub can_read : Rights → Bool
 can_read NoAccess = false
@@ -79,6 +82,9 @@ reply_of f (Load space address) =
 reply_of f (Store space address word) = access_reply (region_at f.regions (page_of address)) (can_write (f.rights (page_of address))) Done
 reply_of f (Sync space page) = sync_reply (region_at f.regions page) (f.dirty page)
 reply_of f (Evict space page) = evict_reply (region_at f.regions page) (f.dirty page)
+reply_of f (Discard space page len) = discard_reply f.regions page len
+reply_of f (Wire space page) = wire_reply f.regions page
+reply_of f (Unwire space page) = unwire_reply f.regions page
 
 -- the call is no refusal
 abbrev pub is_lawful : Reply → Bool
@@ -95,14 +101,17 @@ is_lawful RegionsFull = false
 is_lawful (NoFrames wired claimed held) = false
 is_lawful (StoreFault space count) = false
 is_lawful NoMemory = false
+is_lawful (Busy page) = false
 
 -- The flat memory after a call, part by part. A refusal changes nothing.
 abbrev pub regions_after : Flat → Call → List Region
 regions_after f (Map space page len kind rights) =
     if is_lawful (map_reply f.regions page len) then with_region
-    (record { first = page; length = len; kind = kind; rights = rights }) f.regions else f.regions
+    (record { first = page; length = len; kind = kind; rights = rights; pinned = false }) f.regions else f.regions
 regions_after f (Grow space page by) = if is_lawful (grow_reply f.regions page by) then grown_regions page by f.regions else f.regions
 regions_after f (Unmap space page) = without_region page f.regions
+regions_after f (Wire space page) = pinned_regions page true f.regions
+regions_after f (Unwire space page) = if is_lawful (unwire_reply f.regions page) then pinned_regions page false f.regions else f.regions
 regions_after f call = f.regions
 
 -- the new pages of a growth have their region's first rights
@@ -124,16 +133,22 @@ abbrev pub goes : Option Region → ℕ → Bool
 goes None p = false
 goes (Some r) p = in_range r.first r.length p
 
+-- the page is one of a range that is discarded
+abbrev pub is_discarded : Flat → ℕ → ℕ → ℕ → Bool
+is_discarded f page len p = is_lawful (discard_reply f.regions page len) && in_range page len p
+
 abbrev pub words_after : Flat → Call → ℕ → ℕ → ℕ
 words_after f (Store space address word) p i =
     if is_lawful (reply_of f (Store space address word)) && ((p == page_of address) && (i == word_of address)) then word else f.words p i
 words_after f (Unmap space page) p i = if goes (region_at f.regions page) p then 0 else f.words p i
+words_after f (Discard space page len) p i = if is_discarded f page len p then 0 else f.words p i
 words_after f call p i = f.words p i
 
 abbrev pub copies_after : Flat → Call → ℕ → Option (ℕ → ℕ)
 copies_after f (Unmap space page) p = if goes (region_at f.regions page) p then Some (λ i. 0) else f.copies p
 copies_after f (Sync space page) p = if is_lawful (reply_of f (Sync space page)) && (p == page) then Some (f.words p) else f.copies p
 copies_after f (Evict space page) p = if is_lawful (reply_of f (Evict space page)) && (p == page) then Some (f.words p) else f.copies p
+copies_after f (Discard space page len) p = if is_discarded f page len p then Some (λ i. 0) else f.copies p
 copies_after f call p = f.copies p
 
 abbrev pub dirty_after : Flat → Call → ℕ → Bool
@@ -142,6 +157,7 @@ dirty_after f (Store space address word) p = if is_lawful (reply_of f (Store spa
 dirty_after f (Unmap space page) p = if goes (region_at f.regions page) p then false else f.dirty p
 dirty_after f (Sync space page) p = if is_lawful (reply_of f (Sync space page)) && (p == page) then false else f.dirty p
 dirty_after f (Evict space page) p = if is_lawful (reply_of f (Evict space page)) && (p == page) then false else f.dirty p
+dirty_after f (Discard space page len) p = if is_discarded f page len p then false else f.dirty p
 dirty_after f call p = f.dirty p
 
 abbrev pub after_call : Flat → Call → Flat

@@ -1,13 +1,13 @@
 -- The state of the frames: their layout, what is noted of each used place, and the frames that processors hold; which entries it
 -- allows, and what each does to it.
-use Rattle.std.specs.Prelude.{ℕ, zero, suc, ◌≡◌, ◌+◌, ◌-◌, ◌<◌, ◌≤◌, ◌^◌, Bool, true, false, ◌&&◌, not, nat_lt, if◌then◌else◌, List, replicate, slice_index_or, slice_set, map, fold, sum_by, count_by, option_map, Option, Some, None, is_some, is_none, IsSomeAnd}
+use Rattle.std.specs.Prelude.{ℕ, zero, suc, ◌≡◌, ◌+◌, ◌-◌, ◌<◌, ◌≤◌, ◌^◌, Bool, true, false, ◌&&◌, not, nat_lt, if◌then◌else◌, List, replicate, slice_index_or, slice_set, map, fold, find, sum_by, count_by, option_map, Option, Some, None, is_some, is_none, IsSomeAnd}
 use Rattle.std.specs.List.{range_with_len, list_any}
 use Rattle.pager_model.specs.declared.call.Call.{Call}
 use Rattle.pager_model.specs.declared.call.Call.TheVariants.{Evict}
 use Rattle.pager_model.specs.declared.entry.Entry.{Entry}
 use Rattle.pager_model.specs.declared.entry.Want.{Want}
 use Rattle.pager_model.specs.declared.entry.What.{What}
-use Rattle.pager_model.specs.declared.entry.What.TheVariants.{Answer, Take, Give, Clear, Claim, UseHeld, DropHeld, Got, Unclaim, Refused, Rest}
+use Rattle.pager_model.specs.declared.entry.What.TheVariants.{Answer, Take, Give, Clear, Claim, UseHeld, DropHeld, Got, Unclaim, Refused, Pin, Kept, Rest}
 use Rattle.pager_model.specs.declared.reservation.Reservation.{Reservation}
 use Rattle.pager_model.specs.declared.reservation.Used.{Used}
 use Rattle.pager_model.specs.SizeSets.{SizeSet}
@@ -162,6 +162,38 @@ dropped_in st processor (Some frame) =
 abbrev pub dropped : FrameState → ℕ → FrameState
 dropped st processor = dropped_in st processor (held_by st processor)
 
+-- Wiring.
+
+abbrev pub with_wired : Bool → Option Used → Option Used
+with_wired wired None = None
+with_wired wired (Some u) = Some (record u { wired = wired })
+
+-- a used place, where there is one, is wired, or is no longer
+abbrev pub wire_place : Bool → List (Option Used) → Option ℕ → List (Option Used)
+wire_place wired used None = used
+wire_place wired used (Some frame) = slice_set used frame (with_wired wired (slice_index_or used frame None))
+
+-- the page's
+abbrev pub wire_page : Layout → ℕ → Bool → List (Option Used) → ℕ → List (Option Used)
+wire_page l space wired used page = wire_place wired used (frame_in l space page)
+
+-- each used place of a range of pages is wired, or is no longer
+abbrev pub pin_range : FrameState → ℕ → ℕ → ℕ → Bool → FrameState
+pin_range st space first len wired =
+    record st { used = fold (wire_page (layout_of st) space wired) st.used (range_with_len first len) }
+
+abbrev pub is_claimed_in : List (Option Used) → Option ℕ → Bool
+is_claimed_in used None = false
+is_claimed_in used (Some frame) = is_some (claim_in (slice_index_or used frame None))
+
+-- the page has a used place, which a processor claims
+abbrev pub is_claimed_page : Layout → List (Option Used) → ℕ → ℕ → Bool
+is_claimed_page l used space page = is_claimed_in used (frame_in l space page)
+
+-- the lowest page of a range whose used place is claimed
+abbrev pub lowest_claimed : FrameState → ℕ → ℕ → ℕ → Option ℕ
+lowest_claimed st space first len = find (is_claimed_page (layout_of st) st.used space) (range_with_len first len)
+
 -- a used place that may be paged out: its page is in no wired region, and no processor claims it
 abbrev pub is_evictable : Option Used → Bool
 is_evictable None = false
@@ -242,6 +274,7 @@ moved st c space (Claim victim page frame need) = claimed st frame (Some c)
 moved st c space (UseHeld page frame want) = state_taken (dropped st c) (take_frame (dropped st c) (named_space space) page want)
 moved st c space (DropHeld frame) = dropped st c
 moved st c space (Unclaim frame) = claimed st frame None
+moved st c space (Pin first len wired) = pin_range st (named_space space) first len wired
 moved st c space what = st
 
 abbrev pub frames_after : FrameState → Entry → FrameState
@@ -281,5 +314,8 @@ FramesAllow st mark c space (Got frame) = held_by st c ≡ Some frame
 FramesAllow st mark c space (Unclaim frame) =
     (claim_in (used_at st frame) ≡ Some c) × ((page : ℕ) × (frame_of st (named_space space) page ≡ Some frame))
 FramesAllow st mark c space (Refused wired claimed held) = HasNothing st c × IsRefused st wired claimed held
+FramesAllow st mark c space (Pin first len wired) = wired ≡ true → lowest_claimed st (named_space space) first len ≡ None
+FramesAllow st mark c space (Kept first len page frame) =
+    (lowest_claimed st (named_space space) first len ≡ Some page) × (frame_of st (named_space space) page ≡ Some frame)
 FramesAllow st mark c space (Rest short) = HasNothing st c × (0 < mark) × (short ≡ (is_short st mark && has_evictable st))
 FramesAllow st mark c space what = ⊥

@@ -1,32 +1,35 @@
--- What a history says of those who read it: that each answer is the flat memory's, which reservation was preempted, and when a frame was
--- refused.
+-- What a history says of those who read it: that each answer is the flat memory's, which reservation was preempted, when a frame was
+-- refused, and what kept a wire from being done.
 use Rattle.std.specs.Prelude.{ℕ, ◌≡◌, ◌≢◌, ◌+◌, ◌<◌, ◌⊎◌, Bool, true, false, ◌||◌, List, [], ◌∷◌, ◌++◌, length, option_map, Option, Some, None, is_some}
 use Rattle.pager_model.specs.declared.call.Call.{Call}
+use Rattle.pager_model.specs.declared.call.Call.TheVariants.{Wire}
 use Rattle.pager_model.specs.declared.entry.Entry.{Entry}
 use Rattle.pager_model.specs.declared.entry.What.{What}
-use Rattle.pager_model.specs.declared.entry.What.TheVariants.{Answer, Take, UseHeld, Refused}
+use Rattle.pager_model.specs.declared.entry.What.TheVariants.{Answer, Take, UseHeld, Refused, Kept}
 use Rattle.pager_model.specs.declared.reply.Answered.{Answered}
 use Rattle.pager_model.specs.declared.reply.Reply.{Reply}
-use Rattle.pager_model.specs.declared.reply.Reply.TheVariants.{NoFrames, StoreFault, NoMemory}
+use Rattle.pager_model.specs.declared.reply.Reply.TheVariants.{NoFrames, StoreFault, NoMemory, Busy}
 use Rattle.pager_model.specs.declared.reservation.Reservation.{Reservation}
 use Rattle.pager_model.specs.declared.reservation.Used.{Used}
 use Rattle.pager_model.specs.Ages.{Member, is_before}
 use Rattle.pager_model.specs.Entries.{entries_of}
 use Rattle.pager_model.specs.Flat.{space_of_call}
-use Rattle.pager_model.specs.FrameStates.{FrameState, layout_of, used_at, held_by, wired_count}
+use Rattle.pager_model.specs.FrameStates.{FrameState, layout_of, used_at, frame_of, held_by, lowest_claimed, wired_count}
 use Rattle.pager_model.specs.Layouts.{record_at}
 use Rattle.pager_model.specs.Legal.{space_at, frames_at}
 use Rattle.pager_model.specs.Records.{is_used, yield_in}
+use Rattle.pager_model.specs.Regions.{region_at}
 use Rattle.pager_model.specs.Settings.{Given}
-use Rattle.pager_model.specs.SpaceStates.{SpaceState, IsAsked}
+use Rattle.pager_model.specs.SpaceStates.{SpaceState, IsAsked, IsRegionOf}
 
 -- Answers.
 
--- The reply is the flat memory's, or says that no frame or no memory could be had.
+-- The reply is the flat memory's, or says that no frame or no memory could be had, or which page's frame kept a wire from being done.
 abbrev pub IsServed : SpaceState → Call → Reply → Type 0
 IsServed st call (NoFrames wired claimed held) = Unit {0}
 IsServed st call (StoreFault space count) = ⊥
 IsServed st call NoMemory = Unit {0}
+IsServed st call (Busy page) = Unit {0}
 IsServed st call reply = IsAsked st call reply
 
 -- each answer of a history is so, after the entries of its call's space before it
@@ -36,11 +39,12 @@ AllServed g history =
     → history ≡ before ++ e ∷ after → e.what ≡ Answer number call answered
     → IsServed (space_at g before (space_of_call call)) call answered.reply
 
--- whatever stores did, the reply is the flat memory's, or says why it is not: no frame, a store's fault, no memory
+-- whatever stores did, the reply is the flat memory's, or says why it is not: no frame, a store's fault, no memory, a claimed frame
 abbrev pub IsAnswered : SpaceState → Call → Reply → Type 0
 IsAnswered st call (NoFrames wired claimed held) = Unit {0}
 IsAnswered st call (StoreFault space count) = Unit {0}
 IsAnswered st call NoMemory = Unit {0}
+IsAnswered st call (Busy page) = Unit {0}
 IsAnswered st call reply = IsAsked st call reply
 
 -- each answer of a history is so, after the entries of its call's space before it
@@ -134,3 +138,33 @@ RefusesRightly g history =
     (before after : List Entry) (e : Entry) (number : ℕ) (call : Call) (answered : Answered) (wired claimed held : ℕ)
     → history ≡ before ++ e ∷ after → e.what ≡ Answer number call answered → answered.reply ≡ NoFrames wired claimed held
     → WasRefused g before e.processor wired claimed held
+
+-- Wires that aren't done.
+
+-- After these entries the processor's last one says what kept this call from being done. The call is a wire; the range is that of its page's
+-- region, as it was then; and the page is the lowest of the range whose place a processor claimed then, and that place's frame is told.
+pub record WasKept (g : Given) (entries : List Entry) (c : ℕ) (call : Call) (page : ℕ) : Type 0 where
+  pub space : ℕ
+  pub wired : ℕ
+  pub is_wire : call ≡ Wire space wired
+  pub earlier : List Entry
+  pub entry : Entry
+  pub since : List Entry
+  pub split : entries ≡ earlier ++ entry ∷ since
+  pub own : entry.processor ≡ c
+  pub on : entry.space ≡ Some space
+  pub first : ℕ
+  pub len : ℕ
+  pub frame : ℕ
+  pub says : entry.what ≡ Kept first len page frame
+  pub last : entries_of c since ≡ []
+  pub region : IsRegionOf (region_at (space_at g earlier space).flat.regions wired) first len
+  pub lowest : lowest_claimed (frames_at g earlier) space first len ≡ Some page
+  pub place : frame_of (frames_at g earlier) space page ≡ Some frame
+
+-- each answer of a history that says that a page kept a wire from being done comes after such an entry
+abbrev pub KeepsRightly : Given → List Entry → Type 0
+KeepsRightly g history =
+    (before after : List Entry) (e : Entry) (number : ℕ) (call : Call) (answered : Answered) (page : ℕ)
+    → history ≡ before ++ e ∷ after → e.what ≡ Answer number call answered → answered.reply ≡ Busy page
+    → WasKept g before e.processor call page

@@ -2,7 +2,7 @@
 -- lock is kept until that step. Where the first is none the step is made under the frames' lock alone; where the second is, no space's lock is
 -- kept. The first argument is the space of the processor's call; a turn of a daemon has none of its own.
 use Rattle.std.specs.Prelude.{ℕ, ◌==◌, if◌then◌else◌, Option, Some, None}
-use Rattle.pager_model.specs.Order.{Doing, Idle, Looking, Cleared, Uncopied, Filling, Unfilling, Claiming, Emptied, Unwritten, Holding, Late, Faulted, Lacking, Refusing}
+use Rattle.pager_model.specs.Order.{Doing, Idle, Looking, Cleared, Pinned, Blocked, Uncopied, Filling, Unfilling, Claiming, Emptied, Unwritten, Holding, Late, Faulted, Lacking, Refusing}
 
 -- the space, where it is the call's own: in another one, and in a turn, no lock is kept between this step and the next
 abbrev pub own_if : Option ℕ → ℕ → Option ℕ
@@ -20,6 +20,8 @@ abbrev pub keeps_in : Option ℕ → Doing → Option ℕ
 keeps_in own Idle = None
 keeps_in own (Looking mark evictions) = None
 keeps_in own (Cleared space first len) = own
+keeps_in own (Pinned space first len wired) = own
+keeps_in own (Blocked space first len page) = own
 keeps_in own (Uncopied space page count) = own_if own space
 keeps_in own (Filling a frame) = own
 keeps_in own (Unfilling a frame count) = own

@@ -6,6 +6,8 @@
 --
 --   answered alone    Answer
 --   cleared           Clear Cleared, Answer
+--   pinned            Pin Pinned, Answer
+--   blocked           Kept Blocked, Answer
 --   not copied        Failed Uncopied, Answer
 --   filled            Take Filling, Answer
 --   not filled        Take Filling, Failed Unfilling, Give Faulted, Answer
@@ -32,14 +34,14 @@
 use Rattle.std.specs.Prelude.{ℕ, zero, suc, ◌≡◌, ◌+◌, Bool, true, false, ◌&&◌, ◌||◌, ◌==◌, not, nat_lt, if◌then◌else◌, List, [], ◌∷◌, Option, Some, None}
 use Rattle.std.specs.Option.{option_and_then}
 use Rattle.pager_model.specs.declared.call.Call.{Call}
-use Rattle.pager_model.specs.declared.call.Call.TheVariants.{Unmap, Load, Store, Sync, Evict}
+use Rattle.pager_model.specs.declared.call.Call.TheVariants.{Unmap, Load, Store, Sync, Evict, Discard, Wire, Unwire}
 use Rattle.pager_model.specs.declared.entry.Entry.{Entry}
 use Rattle.pager_model.specs.declared.entry.Need.{Need}
 use Rattle.pager_model.specs.declared.entry.Victim.{Victim}
 use Rattle.pager_model.specs.declared.entry.What.{What}
-use Rattle.pager_model.specs.declared.entry.What.TheVariants.{Answer, Out, Failed, Take, Give, Clear, Claim, UseHeld, DropHeld, Got, Unclaim, Refused, Rest}
+use Rattle.pager_model.specs.declared.entry.What.TheVariants.{Answer, Out, Failed, Take, Give, Clear, Claim, UseHeld, DropHeld, Got, Unclaim, Refused, Pin, Kept, Rest}
 use Rattle.pager_model.specs.declared.reply.Reply.{Reply}
-use Rattle.pager_model.specs.declared.reply.Reply.TheVariants.{Done, Value, Unmapped, NoFrames, StoreFault, NoMemory}
+use Rattle.pager_model.specs.declared.reply.Reply.TheVariants.{Done, Value, Unmapped, Denied, NoFrames, StoreFault, NoMemory, Busy}
 use Rattle.pager_model.specs.Flat.{page_of}
 use Rattle.pager_model.specs.Regions.{in_range}
 
@@ -60,8 +62,12 @@ pub data Doing : Type 0 where
   Idle : Doing
   -- a daemon of this low mark looks for frames to free, with so many evictions made in the turn
   Looking : (mark evictions : ℕ) → Doing
-  -- the pages of the range gave their frames up, and the unmap is done next
+  -- the pages of the range gave their frames up, and the unmap or the discard is done next
   Cleared : (space first len : ℕ) → Doing
+  -- the frames of the range's pages are wired, or no longer, and the wire or unwire is done next
+  Pinned : (space first len : ℕ) → (wired : Bool) → Doing
+  -- the frame of this page of the range is claimed, and the answer of the wire says so next
+  Blocked : (space first len page : ℕ) → Doing
   -- the write of a sync or an evict failed, and its answer says so next
   Uncopied : (space page count : ℕ) → Doing
   -- the page has this frame, and its copy is read in next
@@ -117,6 +123,7 @@ abbrev pub is_plain : Reply → Bool
 is_plain (NoFrames wired claimed held) = false
 is_plain (StoreFault space count) = false
 is_plain NoMemory = false
+is_plain (Busy page) = false
 is_plain reply = true
 
 abbrev pub is_no_frames : ℕ → ℕ → ℕ → Reply → Bool
@@ -134,6 +141,16 @@ is_no_memory reply = false
 abbrev pub is_unmapped : Reply → Bool
 is_unmapped Unmapped = true
 is_unmapped reply = false
+
+-- a range that lies in no single region, and a region that is wired
+abbrev pub is_refusal : Reply → Bool
+is_refusal Unmapped = true
+is_refusal Denied = true
+is_refusal reply = false
+
+abbrev pub is_busy : ℕ → Reply → Bool
+is_busy page (Busy p) = p == page
+is_busy page reply = false
 
 abbrev pub is_done : Reply → Bool
 is_done Done = true
@@ -164,15 +181,25 @@ is_copying space page (Sync s p) = (s == space) && (p == page)
 is_copying space page (Evict s p) = (s == space) && (p == page)
 is_copying space page call = false
 
--- the call is an unmap of a page of the range
-abbrev pub is_unmap_in : ℕ → ℕ → ℕ → Call → Bool
-is_unmap_in space first len (Unmap s page) = (s == space) && in_range first len page
-is_unmap_in space first len call = false
+-- the call is an unmap of a page of the range, or a discard of the range
+abbrev pub is_clearing : ℕ → ℕ → ℕ → Call → Bool
+is_clearing space first len (Unmap s page) = (s == space) && in_range first len page
+is_clearing space first len (Discard s page n) = (s == space) && ((page == first) && (n == len))
+is_clearing space first len call = false
 
--- a call that is answered by one entry alone: an unmap only where no region has its page, and want of memory comes only to
+-- the call is a wire of a page of the range, or an unwire of one
+abbrev pub is_pinning : ℕ → ℕ → ℕ → Bool → Call → Bool
+is_pinning space first len wired (Wire s page) = wired && ((s == space) && in_range first len page)
+is_pinning space first len wired (Unwire s page) = not wired && ((s == space) && in_range first len page)
+is_pinning space first len wired call = false
+
+-- a call that is answered by one entry alone: one that clears or pins only where it is refused, and want of memory comes only to
 -- those that write a copy
 abbrev pub is_answered_alone : Call → Reply → Bool
 is_answered_alone (Unmap s page) reply = is_unmapped reply
+is_answered_alone (Discard s page len) reply = is_refusal reply
+is_answered_alone (Wire s page) reply = is_unmapped reply
+is_answered_alone (Unwire s page) reply = is_refusal reply
 is_answered_alone (Sync s page) reply = is_plain reply || is_no_memory reply
 is_answered_alone (Evict s page) reply = is_plain reply || is_no_memory reply
 is_answered_alone call reply = is_plain reply
@@ -180,7 +207,9 @@ is_answered_alone call reply = is_plain reply
 -- the answer ends the call where its processor is
 abbrev pub may_answer : Doing → Call → Reply → Bool
 may_answer Idle call reply = is_answered_alone call reply
-may_answer (Cleared space first len) call reply = is_unmap_in space first len call && is_done reply
+may_answer (Cleared space first len) call reply = is_clearing space first len call && is_done reply
+may_answer (Pinned space first len wired) call reply = is_pinning space first len wired call && is_done reply
+may_answer (Blocked space first len page) call reply = is_pinning space first len true call && is_busy page reply
 may_answer (Uncopied space page count) call reply = is_copying space page call && is_store_fault space count reply
 may_answer (Filling a frame) call reply = is_access_at a call && is_served reply
 may_answer (Late a) call reply = is_access_at a call && is_plain reply
@@ -207,6 +236,14 @@ after_use made doing space page frame = None
 abbrev pub after_clear : ℕ → Doing → ℕ → ℕ → ℕ → Option Progress
 after_clear made Idle space first len = leads true made (Cleared space first len)
 after_clear made doing space first len = None
+
+abbrev pub after_pin : ℕ → Doing → ℕ → ℕ → ℕ → Bool → Option Progress
+after_pin made Idle space first len wired = leads true made (Pinned space first len wired)
+after_pin made doing space first len wired = None
+
+abbrev pub after_kept : ℕ → Doing → ℕ → ℕ → ℕ → ℕ → Option Progress
+after_kept made Idle space first len page = leads true made (Blocked space first len page)
+after_kept made doing space first len page = None
 
 abbrev pub is_victim : Victim → ℕ → ℕ → Bool
 is_victim victim space page = (space == victim.space) && (page == victim.page)
@@ -295,6 +332,8 @@ progress_after p space (DropHeld frame) = after_drop p.made p.doing frame
 progress_after p space (Got frame) = after_got p.made p.doing frame
 progress_after p space (Unclaim frame) = option_and_then (λ s. after_unclaim p.made p.doing s frame) space
 progress_after p space (Refused wired claimed held) = after_refusal p.made p.doing wired claimed held
+progress_after p space (Pin first len wired) = option_and_then (λ s. after_pin p.made p.doing s first len wired) space
+progress_after p space (Kept first len page frame) = option_and_then (λ s. after_kept p.made p.doing s first len page) space
 progress_after p space (Rest short) = after_rest p.made p.doing short
 
 abbrev pub progress_by : Option Progress → Entry → Option Progress

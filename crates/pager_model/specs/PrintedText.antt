@@ -6,10 +6,10 @@ use Rattle.pager_model.specs.declared.entry.Need.{Need}
 use Rattle.pager_model.specs.declared.entry.Numbered.{Numbered}
 use Rattle.pager_model.specs.declared.entry.Want.{Want}
 use Rattle.pager_model.specs.declared.entry.What.{What}
-use Rattle.pager_model.specs.declared.entry.What.TheVariants.{Answer, Out, Failed, Take, Give, Clear, Claim, UseHeld, DropHeld, Got, Unclaim, Refused, Rest}
+use Rattle.pager_model.specs.declared.entry.What.TheVariants.{Answer, Out, Failed, Take, Give, Clear, Claim, UseHeld, DropHeld, Got, Unclaim, Refused, Pin, Kept, Rest}
 use Rattle.pager_model.specs.declared.reply.Answered.{Answered}
 use Rattle.pager_model.specs.declared.reply.Reply.{Reply}
-use Rattle.pager_model.specs.declared.reply.Reply.TheVariants.{Done, Value, Clean, Written, Unmapped, Denied, Overlap, OutOfSpace, NotGrowing, RegionsFull, NoFrames, StoreFault, NoMemory}
+use Rattle.pager_model.specs.declared.reply.Reply.TheVariants.{Done, Value, Clean, Written, Unmapped, Denied, Overlap, OutOfSpace, NotGrowing, RegionsFull, NoFrames, StoreFault, NoMemory, Busy}
 use Rattle.pager_model.specs.declared.summary.Summary.{Summary}
 use Rattle.pager_model.specs.Entries.{entries_of}
 use Rattle.pager_model.specs.Legal.{entries_in}
@@ -31,6 +31,7 @@ reply_words RegionsFull = codes "regionsfull" ∷ []
 reply_words (NoFrames wired claimed held) = codes "noframes" ∷ decimal wired ∷ decimal claimed ∷ decimal held ∷ []
 reply_words (StoreFault space count) = codes "storefault" ∷ decimal space ∷ decimal count ∷ []
 reply_words NoMemory = codes "nomemory" ∷ []
+reply_words (Busy page) = codes "busy" ∷ decimal page ∷ []
 
 abbrev pub hit_word : Bool → List ℕ
 hit_word true = codes "hit"
@@ -100,6 +101,8 @@ what_words (DropHeld frame) = codes "drop" ∷ decimal frame ∷ []
 what_words (Got frame) = codes "got" ∷ decimal frame ∷ []
 what_words (Unclaim frame) = codes "unclaim" ∷ decimal frame ∷ []
 what_words (Refused wired claimed held) = codes "refused" ∷ decimal wired ∷ decimal claimed ∷ decimal held ∷ []
+what_words (Pin first len wired) = codes "pin" ∷ decimal first ∷ decimal len ∷ flag_word wired ∷ []
+what_words (Kept first len page frame) = codes "kept" ∷ decimal first ∷ decimal len ∷ decimal page ∷ decimal frame ∷ []
 what_words (Rest short) = codes "rest" ∷ flag_word short ∷ []
 
 -- an entry's line: its number, its processor, the parts that it names, and what it is

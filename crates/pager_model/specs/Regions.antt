@@ -1,5 +1,5 @@
 -- The regions of a space, in the order of their first pages, and what a call says of them.
-use Rattle.std.specs.Prelude.{ℕ, ◌+◌, Bool, true, false, ◌&&◌, not, nat_lt, nat_le, if◌then◌else◌, List, [], ◌∷◌, length, map, filter, find, Option, Some, None}
+use Rattle.std.specs.Prelude.{ℕ, ◌+◌, Bool, true, false, ◌&&◌, ◌||◌, not, nat_lt, nat_le, if◌then◌else◌, List, [], ◌∷◌, length, map, filter, find, Option, Some, None}
 use Rattle.std.specs.List.{list_any}
 use Rattle.pager_model.specs.declared.region.Region.{Region}
 use Rattle.pager_model.specs.declared.region.Kind.{Kind}
@@ -8,7 +8,7 @@ use Rattle.pager_model.specs.declared.region.Rights.{Rights}
 use Rattle.pager_model.specs.declared.region.Rights.TheVariants.{NoAccess}
 use Rattle.pager_model.specs.declared.entry.Want.{Want}
 use Rattle.pager_model.specs.declared.reply.Reply.{Reply}
-use Rattle.pager_model.specs.declared.reply.Reply.TheVariants.{Done, Unmapped, Overlap, OutOfSpace, NotGrowing, RegionsFull}
+use Rattle.pager_model.specs.declared.reply.Reply.TheVariants.{Done, Unmapped, Denied, Overlap, OutOfSpace, NotGrowing, RegionsFull}
 use Rattle.pager_model.specs.Bounds.{space_pages}
 
 -- the page is one of the length pages from first on
@@ -98,8 +98,39 @@ is_wired_kind Fixed = false
 is_wired_kind Growing = false
 is_wired_kind Wired = true
 
+-- a region is wired by its kind, or because it is pinned
 abbrev pub is_wired : Region → Bool
-is_wired r = is_wired_kind r.kind
+is_wired r = is_wired_kind r.kind || r.pinned
+
+-- a range that lies in no single region is unmapped, and one in a wired region is denied
+abbrev pub discard_reply_at : ℕ → ℕ → Option Region → Reply
+discard_reply_at page len None = Unmapped
+discard_reply_at page len (Some r) = if nat_le (page + len) (end_of r) then (if is_wired r then Denied else Done) else Unmapped
+
+abbrev pub discard_reply : List Region → ℕ → ℕ → Reply
+discard_reply regions page len = discard_reply_at page len (region_at regions page)
+
+-- every region may be wired, and one that is wired by its kind can't be unwired
+abbrev pub wire_reply_at : Option Region → Reply
+wire_reply_at None = Unmapped
+wire_reply_at (Some r) = Done
+
+abbrev pub wire_reply : List Region → ℕ → Reply
+wire_reply regions page = wire_reply_at (region_at regions page)
+
+abbrev pub unwire_reply_at : Option Region → Reply
+unwire_reply_at None = Unmapped
+unwire_reply_at (Some r) = if is_wired_kind r.kind then Denied else Done
+
+abbrev pub unwire_reply : List Region → ℕ → Reply
+unwire_reply regions page = unwire_reply_at (region_at regions page)
+
+-- the region that has the page is pinned, or is no longer
+abbrev pub pinned_region : ℕ → Bool → Region → Region
+pinned_region page pinned r = if has_page page r then record r { pinned = pinned } else r
+
+abbrev pub pinned_regions : ℕ → Bool → List Region → List Region
+pinned_regions page pinned regions = map (pinned_region page pinned) regions
 
 -- how far a reservation in a region may reach
 abbrev pub want_end : Kind → Region → ℕ → ℕ

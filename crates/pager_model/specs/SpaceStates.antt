@@ -1,32 +1,34 @@
 -- What a space's list of entries leads to, and which entries a space in that state allows.
 use Rattle.std.specs.Prelude.{ℕ, ◌≡◌, ◌+◌, ◌-◌, ◌^◌, ◌<◌, ◌⊎◌, Bool, true, false, ◌&&◌, ◌==◌, if◌then◌else◌, Option, Some, None, is_some, nat_lt, fold, List, [], option_map}
 use Rattle.pager_model.specs.declared.call.Call.{Call}
-use Rattle.pager_model.specs.declared.call.Call.TheVariants.{Unmap, Load, Store, Sync, Evict}
+use Rattle.pager_model.specs.declared.call.Call.TheVariants.{Unmap, Load, Store, Sync, Evict, Discard, Wire, Unwire}
 use Rattle.pager_model.specs.declared.entry.Entry.{Entry}
 use Rattle.pager_model.specs.declared.entry.Need.{Need}
 use Rattle.pager_model.specs.declared.entry.Want.{Want}
 use Rattle.pager_model.specs.declared.entry.What.{What}
-use Rattle.pager_model.specs.declared.entry.What.TheVariants.{Answer, Out, Failed, Take, Give, Clear, Claim, UseHeld, Unclaim}
+use Rattle.pager_model.specs.declared.entry.What.TheVariants.{Answer, Out, Failed, Take, Give, Clear, Claim, UseHeld, Unclaim, Pin, Kept}
 use Rattle.pager_model.specs.declared.region.Region.{Region}
 use Rattle.pager_model.specs.declared.region.Rights.{Rights}
 use Rattle.pager_model.specs.declared.reply.Answered.{Answered}
 use Rattle.pager_model.specs.declared.reply.Reply.{Reply}
-use Rattle.pager_model.specs.declared.reply.Reply.TheVariants.{Done, Value, Written, NoFrames, StoreFault, NoMemory}
+use Rattle.pager_model.specs.declared.reply.Reply.TheVariants.{Done, Value, Written, NoFrames, StoreFault, NoMemory, Busy}
 use Rattle.pager_model.specs.declared.tile.Mapping.{Mapping}
 use Rattle.pager_model.specs.declared.tile.Tile.{Tile}
 use Rattle.pager_model.specs.Flat.{Flat, empty_space, after_call, reply_of, is_lawful, out, lost, page_of, word_of, can_read, can_write}
 use Rattle.pager_model.specs.Images.{is_in_image, images_with}
-use Rattle.pager_model.specs.Regions.{in_range, region_at, wanted}
+use Rattle.pager_model.specs.Regions.{in_range, range_in, region_at, is_wired_kind, wanted}
 use Rattle.pager_model.specs.SizeSets.{SizeSet}
 use Rattle.pager_model.specs.Tiles.{mappings, tile_in, promotions_in, demotions_in}
 
 -- Who writes the next entry of a space. Anyone may, unless the last entry left the space in the middle of a sequence: after a taking, a
--- paging out and a failed read it is the same processor; and after the pages of a range gave their frames up it is the same processor's
--- unmap of a page of the range, which is done.
+-- paging out, a failed read and a page that kept a wire from being done it is the same processor; after the pages of a range gave their
+-- frames up it is the same processor's unmap of a page of the range, or discard of the range, which is done; and after the frames of a range
+-- were wired, or were no longer, its wire or unwire of a page of the range, which is done.
 pub data Next : Type 0 where
   Anyone : Next
   Only : (processor : ℕ) → Next
   AfterClear : (processor first len : ℕ) → Next
+  AfterPin : (processor first len : ℕ) → (wired : Bool) → Next
 
 pub record SpaceState : Type 0 where
   -- which page sizes there are
@@ -69,11 +71,13 @@ pages_of st = mappings st.flat st.base
 
 -- What entries do.
 
--- an answer for want of a frame, of a store or of memory changes nothing, and any other does what its call does
+-- an answer for want of a frame, of a store or of memory, or of a wire that isn't done, changes nothing, and any other does what its
+-- call does
 abbrev pub answered_flat : Flat → Call → Reply → Flat
 answered_flat f call (NoFrames wired claimed held) = f
 answered_flat f call (StoreFault space count) = f
 answered_flat f call NoMemory = f
+answered_flat f call (Busy page) = f
 answered_flat f call reply = after_call f call
 
 abbrev pub flat_after : Flat → What → Flat
@@ -95,13 +99,16 @@ base_after base frames (Give page frame) p = if p == page then None else base p
 base_after base frames (Clear first len) p = if in_range first len p then None else base p
 base_after base frames what p = base p
 
--- after a taking, a paging out and a failed read the same processor goes on, and after a clearing with the unmap of its range
+-- after a taking, a paging out, a failed read and a page that was kept the same processor goes on, and after a clearing or a pinning with
+-- the call that it is for
 abbrev pub next_after : ℕ → What → Next
 next_after c (Take page frame want) = Only c
 next_after c (UseHeld page frame want) = Only c
 next_after c (Out page written) = Only c
 next_after c (Failed page writing count) = if writing then Anyone else Only c
 next_after c (Clear first len) = AfterClear c first len
+next_after c (Pin first len wired) = AfterPin c first len wired
+next_after c (Kept first len page frame) = Only c
 next_after c what = Anyone
 
 -- the word of an answer that says one: that which was loaded, or stored
@@ -160,19 +167,31 @@ space_state z told faults entries = fold space_after (empty_state z told faults)
 
 -- Who may go on.
 
--- an unmap of a page of the range, which is answered done
-abbrev pub IsUnmapOf : ℕ → ℕ → Call → Reply → Type 0
-IsUnmapOf first len (Unmap space page) Done = in_range first len page ≡ true
-IsUnmapOf first len call reply = ⊥
+-- an unmap of a page of the range or a discard of the range, which is answered done
+abbrev pub IsClearingOf : ℕ → ℕ → Call → Reply → Type 0
+IsClearingOf first len (Unmap space page) Done = in_range first len page ≡ true
+IsClearingOf first len (Discard space page n) Done = (page ≡ first) × (n ≡ len)
+IsClearingOf first len call reply = ⊥
 
-abbrev pub IsUnmapAnswer : ℕ → ℕ → What → Type 0
-IsUnmapAnswer first len (Answer number call answered) = IsUnmapOf first len call answered.reply
-IsUnmapAnswer first len what = ⊥
+abbrev pub IsClearingAnswer : ℕ → ℕ → What → Type 0
+IsClearingAnswer first len (Answer number call answered) = IsClearingOf first len call answered.reply
+IsClearingAnswer first len what = ⊥
+
+-- a wire of a page of the range, or an unwire of one, which is answered done
+abbrev pub IsPinningOf : ℕ → ℕ → Bool → Call → Reply → Type 0
+IsPinningOf first len wired (Wire space page) Done = (wired ≡ true) × (in_range first len page ≡ true)
+IsPinningOf first len wired (Unwire space page) Done = (wired ≡ false) × (in_range first len page ≡ true)
+IsPinningOf first len wired call reply = ⊥
+
+abbrev pub IsPinningAnswer : ℕ → ℕ → Bool → What → Type 0
+IsPinningAnswer first len wired (Answer number call answered) = IsPinningOf first len wired call answered.reply
+IsPinningAnswer first len wired what = ⊥
 
 abbrev pub MayGoOn : Next → ℕ → What → Type 0
 MayGoOn Anyone c what = Unit {0}
 MayGoOn (Only d) c what = d ≡ c
-MayGoOn (AfterClear d first len) c what = (d ≡ c) × IsUnmapAnswer first len what
+MayGoOn (AfterClear d first len) c what = (d ≡ c) × IsClearingAnswer first len what
+MayGoOn (AfterPin d first len wired) c what = (d ≡ c) × IsPinningAnswer first len wired what
 
 -- Replies.
 
@@ -200,21 +219,33 @@ MayFail st (Sync space page) = reply_of st.flat (Sync space page) ≡ Written
 MayFail st (Evict space page) = reply_of st.flat (Evict space page) ≡ Written
 MayFail st call = ⊥
 
+-- no page of the range is resident
+abbrev pub NoneResident : (ℕ → Option ℕ) → ℕ → ℕ → Type 0
+NoneResident base first len = (p : ℕ) → in_range first len p ≡ true → base p ≡ None
+
 -- no page of the region is resident, and the processor cleared the region just before
 pub record IsCleared (st : SpaceState) (c : ℕ) (r : Region) : Type 0 where
   pub next : st.next ≡ AfterClear c r.first r.length
-  pub none : (p : ℕ) → in_range r.first r.length p ≡ true → st.base p ≡ None
+  pub none : NoneResident st.base r.first r.length
 
 abbrev pub IsClearedAt : SpaceState → ℕ → Option Region → Type 0
 IsClearedAt st c None = ⊥
 IsClearedAt st c (Some r) = IsCleared st c r
 
--- what stands where a call of a processor is answered as the flat memory does, and lawfully: the page of an access is resident, and
--- the region of an unmap is cleared
+-- the processor pinned the region just before
+abbrev pub IsPinnedAt : SpaceState → ℕ → Bool → Option Region → Type 0
+IsPinnedAt st c wired None = ⊥
+IsPinnedAt st c wired (Some r) = st.next ≡ AfterPin c r.first r.length wired
+
+-- what stands where a call of a processor is answered as the flat memory does, and lawfully: the page of an access is resident, no
+-- page of a discarded range is, the region of an unmap is cleared, and that of a wire or unwire is pinned
 abbrev pub HasItsPages : SpaceState → ℕ → Call → Type 0
 HasItsPages st c (Load space address) = IsResident st.base (page_of address)
 HasItsPages st c (Store space address word) = IsResident st.base (page_of address)
 HasItsPages st c (Unmap space page) = IsClearedAt st c (region_at st.flat.regions page)
+HasItsPages st c (Discard space page len) = NoneResident st.base page len
+HasItsPages st c (Wire space page) = IsPinnedAt st c true (region_at st.flat.regions page)
+HasItsPages st c (Unwire space page) = IsPinnedAt st c false (region_at st.flat.regions page)
 HasItsPages st c call = Unit {0}
 
 abbrev pub IsValue : Reply → Type 0
@@ -242,11 +273,13 @@ IsAsked st call (Value word) = IsWord st.told (reply_of st.flat call) (tied_word
 IsAsked st call reply = reply_of st.flat call ≡ reply
 
 -- Which reply a space allows to a processor: that no frame can be had, where the access is lawful and its page isn't resident; a
--- fault or want of memory, where it may come; and any other where the flat memory gives it and finds its pages.
+-- fault or want of memory, where it may come; that a wire isn't done, which is for its processor's order to say; and any other where the
+-- flat memory gives it and finds its pages.
 abbrev pub ReplyAllowed : SpaceState → ℕ → Call → Reply → Type 0
 ReplyAllowed st c call (NoFrames wired claimed held) = (is_lawful (reply_of st.flat call) ≡ true) × LacksItsPage st.base (access_page call)
 ReplyAllowed st c call (StoreFault space count) = MayFail st call
 ReplyAllowed st c call NoMemory = MayFail st call
+ReplyAllowed st c call (Busy page) = Unit {0}
 ReplyAllowed st c call reply = IsAsked st call reply × (is_lawful reply ≡ true → HasItsPages st c call)
 
 -- an answer names the frames exactly where the resident page of a lawful evict goes with it
@@ -281,6 +314,11 @@ abbrev pub IsRegionOf : Option Region → ℕ → ℕ → Type 0
 IsRegionOf None first len = ⊥
 IsRegionOf (Some r) first len = (r.first ≡ first) × (r.length ≡ len)
 
+-- the range is that of a region, which may be unwired where its kind isn't wired
+abbrev pub MayPin : Option Region → ℕ → ℕ → Bool → Type 0
+MayPin None first len wired = ⊥
+MayPin (Some r) first len wired = (r.first ≡ first) × (r.length ≡ len) × (wired ≡ false → is_wired_kind r.kind ≡ false)
+
 -- the highest count that a store's faults reach, at which they stand still
 abbrev pub last_count : ℕ
 last_count = 2 ^ 64 - 1
@@ -307,7 +345,9 @@ WhatAllowed st frames c (Out page written) = IsResident st.base page × (st.flat
 WhatAllowed st frames c (Failed page writing count) = IsResident st.base page × (st.flat.dirty page ≡ writing) × Rises st.highest count
 WhatAllowed st frames c (Take page frame want) = IsWantedFor st page want
 WhatAllowed st frames c (Give page frame) = (st.base page ≡ Some frame) × (st.flat.dirty page ≡ false)
-WhatAllowed st frames c (Clear first len) = IsRegionOf (region_at st.flat.regions first) first len
+WhatAllowed st frames c (Clear first len) = range_in first len (region_at st.flat.regions first) ≡ true
+WhatAllowed st frames c (Pin first len wired) = MayPin (region_at st.flat.regions first) first len wired
+WhatAllowed st frames c (Kept first len page frame) = IsRegionOf (region_at st.flat.regions first) first len
 WhatAllowed st frames c (Claim victim page frame need) = IsNeeded st need
 WhatAllowed st frames c (UseHeld page frame want) = IsWantedFor st page want
 WhatAllowed st frames c (Unclaim frame) = (page : ℕ) × (st.base page ≡ Some frame) × (st.flat.dirty page ≡ true)

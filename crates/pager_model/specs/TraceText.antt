@@ -2,7 +2,7 @@
 use Rattle.std.specs.Prelude.{ℕ, ◌≡◌, ◌%◌, ◌^◌, ◌<◌, ◌≤◌, ◌==◌, ◌⊎◌, Bool, if◌then◌else◌, List, [], ◌∷◌, ◌++◌, length, codes, decimal, flat_map, All, Option, Some, None}
 use Rattle.std.specs.List.{join_with_byte}
 use Rattle.pager_model.specs.declared.call.Call.{Call}
-use Rattle.pager_model.specs.declared.call.Call.TheVariants.{Map, Grow, Unmap, Protect, Load, Store, Sync, Evict}
+use Rattle.pager_model.specs.declared.call.Call.TheVariants.{Map, Grow, Unmap, Protect, Load, Store, Sync, Evict, Discard, Wire, Unwire}
 use Rattle.pager_model.specs.declared.call.Line.{Line}
 use Rattle.pager_model.specs.declared.trace.Daemon.{Daemon}
 use Rattle.pager_model.specs.declared.region.Kind.{Kind}
@@ -35,6 +35,9 @@ call_words (Load space address) = codes "load" ∷ decimal space ∷ decimal add
 call_words (Store space address word) = codes "store" ∷ decimal space ∷ decimal address ∷ decimal word ∷ []
 call_words (Sync space page) = codes "sync" ∷ decimal space ∷ decimal page ∷ []
 call_words (Evict space page) = codes "evict" ∷ decimal space ∷ decimal page ∷ []
+call_words (Discard space page len) = codes "discard" ∷ decimal space ∷ decimal page ∷ decimal len ∷ []
+call_words (Wire space page) = codes "wire" ∷ decimal space ∷ decimal page ∷ []
+call_words (Unwire space page) = codes "unwire" ∷ decimal space ∷ decimal page ∷ []
 
 -- a line of these words: one space (byte 32) between two, and a line feed (byte 10) at the end
 abbrev pub line_of_words : List (List ℕ) → List ℕ
@@ -87,22 +90,32 @@ IsCall spaces (Load space address) = (space < spaces) × (address % 8 ≡ 0) × 
 IsCall spaces (Store space address word) = (space < spaces) × (address % 8 ≡ 0) × (address < space_bytes) × (word < 2 ^ 64)
 IsCall spaces (Sync space page) = (space < spaces) × (page < space_pages)
 IsCall spaces (Evict space page) = (space < spaces) × (page < space_pages)
+IsCall spaces (Discard space page len) = (space < spaces) × (page < space_pages) × (1 ≤ len) × (len ≤ space_pages)
+IsCall spaces (Wire space page) = (space < spaces) × (page < space_pages)
+IsCall spaces (Unwire space page) = (space < spaces) × (page < space_pages)
 
--- a line that a trace of so many processors and spaces may hold
-abbrev pub IsLine : ℕ → ℕ → Line → Type 0
-IsLine processors spaces line = (line.processor < processors) × IsCall spaces line.call
+-- the call has a line in a text of this version: some have one from version 3 on
+abbrev pub HasLine : ℕ → Call → Type 0
+HasLine version (Discard space page len) = 3 ≤ version
+HasLine version (Wire space page) = 3 ≤ version
+HasLine version (Unwire space page) = 3 ≤ version
+HasLine version call = Unit {0}
+
+-- a line that a trace of this version and of so many processors and spaces may hold
+abbrev pub IsLine : ℕ → ℕ → ℕ → Line → Type 0
+IsLine version processors spaces line = (line.processor < processors) × IsCall spaces line.call × HasLine version line.call
 
 -- a daemon that a trace may have: a low mark from 1 to 64, and 1 to 4,096 turns
 abbrev pub IsDaemon : Option Daemon → Type 0
 IsDaemon None = Unit {0}
 IsDaemon (Some d) = ((1 ≤ d.low) × (d.low ≤ 64)) × ((1 ≤ d.turns) × (d.turns ≤ 4096))
 
--- version 1 is of all four page sizes, and version 2 of any
+-- version 1 is of all four page sizes, and versions 2 and 3 of any
 abbrev pub IsVersion : ℕ → SizeSet → Type 0
-IsVersion version z = ((version ≡ 1) × (z ≡ all_sizes)) ⊎ (version ≡ 2)
+IsVersion version z = ((version ≡ 1) × (z ≡ all_sizes)) ⊎ ((version ≡ 2) ⊎ (version ≡ 3))
 
--- the traces that have a text: of version 1 or 2, a multiple of 512 frames from 512 to 32,768, one to sixteen processors and spaces, maybe a daemon,
--- and at most 262,144 calls in their ranges
+-- the traces that have a text: of version 1, 2 or 3, a multiple of 512 frames from 512 to 32,768, one to sixteen processors and spaces, maybe a daemon,
+-- and at most 262,144 calls in their ranges, of those that the version has
 pub record HasText (plan : Plan) : Type 0 where
   pub version_in : IsVersion plan.version plan.sizes
   pub frames_in : (512 ≤ plan.frames) × (plan.frames ≤ most_frames)
@@ -110,7 +123,7 @@ pub record HasText (plan : Plan) : Type 0 where
   pub processors_in : (1 ≤ plan.processors) × (plan.processors ≤ most_processors)
   pub spaces_in : (1 ≤ plan.spaces) × (plan.spaces ≤ most_spaces)
   pub daemon_in : IsDaemon plan.daemon
-  pub lines : All (IsLine plan.processors plan.spaces) plan.calls
+  pub lines : All (IsLine plan.version plan.processors plan.spaces) plan.calls
   pub few : length plan.calls ≤ most_calls
 
 -- these bytes are the text of this trace

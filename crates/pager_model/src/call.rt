@@ -45,6 +45,19 @@ pub enum Call {
         space: u32,
         page: u32,
     },
+    Discard {
+        space: u32,
+        page: u32,
+        length: u32,
+    },
+    Wire {
+        space: u32,
+        page: u32,
+    },
+    Unwire {
+        space: u32,
+        page: u32,
+    },
 }
 
 impl Call {
@@ -61,6 +74,9 @@ impl Call {
             Call::Store { space, .. } => space,
             Call::Sync { space, .. } => space,
             Call::Evict { space, .. } => space,
+            Call::Discard { space, .. } => space,
+            Call::Wire { space, .. } => space,
+            Call::Unwire { space, .. } => space,
         }
     }
 }

@@ -57,7 +57,7 @@ pub enum What {
         page: u32,
         frame: u32,
     },
-    /// The pages of a region gave their frames up.
+    /// The pages of a range gave their frames up.
     Clear {
         first: u32,
         length: u32,
@@ -92,6 +92,19 @@ pub enum What {
         wired: u32,
         claimed: u32,
         held: u32,
+    },
+    /// The frames of a range's pages were wired, or were no longer.
+    Pin {
+        first: u32,
+        length: u32,
+        wired: bool,
+    },
+    /// Of the pages of a range this is the lowest whose frame is claimed, so that none was wired.
+    Kept {
+        first: u32,
+        length: u32,
+        page: u32,
+        frame: u32,
     },
     /// The daemon ended a turn. Short where frames are still short and one could be evicted.
     Rest {

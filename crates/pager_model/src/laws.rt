@@ -2,22 +2,24 @@
 
 ghost use Rattle.std.specs.Prelude.{◌≡◌, ℕ, ◌∷◌, ◌++◌, ◌==◌, [], Some, None, true, false, List, codes, nat_lt, option_map};
 ghost use Rattle.pager_model.specs.declared.entry.Entry.{Entry};
-ghost use Rattle.pager_model.specs.declared.entry.What.TheVariants.{Claim, Rest};
-ghost use Rattle.pager_model.specs.declared.call.Call.TheVariants.{Grow, Unmap, Protect, Load, Store, Sync, Evict};
-ghost use Rattle.pager_model.specs.declared.region.Rights.TheVariants.{NoAccess};
-ghost use Rattle.pager_model.specs.declared.reply.Reply.TheVariants.{Value, Unmapped};
+ghost use Rattle.pager_model.specs.declared.entry.What.TheVariants.{Claim, Clear, Pin, Kept, Rest};
+ghost use Rattle.pager_model.specs.declared.call.Call.TheVariants.{Grow, Unmap, Protect, Load, Store, Sync, Evict, Discard, Wire, Unwire};
+ghost use Rattle.pager_model.specs.declared.region.Kind.TheVariants.{Fixed, Wired};
+ghost use Rattle.pager_model.specs.declared.region.Rights.TheVariants.{NoAccess, Write};
+ghost use Rattle.pager_model.specs.declared.reply.Reply.TheVariants.{Done, Value, Clean, Unmapped, Denied, Busy};
 ghost use Rattle.pager_model.specs.Ages.{with_member, oldest_in};
-ghost use Rattle.pager_model.specs.Examples.{eight_pages, two_frames, one_taken, one_broken, one_given, one_carved, both_taken, want_eight, small_setting, legal_history, exchanged_history, small_plan, take_page_one, on_both, on_frames, eight_places, eight_parts_used, one_turn, got_turn, failing_turn, idle_turn, spent_turn, second_claim, goes_on_failing, failing_load, made_up_fault, untold_space, run_of_pages, with_dirty, with_read, with_region, writable, small_tile, base_and_64, base_and_512, all_but_8, one_of_sixty_four, sixty_four_places, all_places, is_spread};
+ghost use Rattle.pager_model.specs.Examples.{eight_pages, eight_pinned, eight_growing, eight_wired, one_discarded, one_wired, one_unwired, one_claimed, wire_done, wire_busy, discard_after, answer, missed, two_processors, while_claimed, after_finding, out_page_zero, after_map, two_frames, one_taken, one_broken, one_given, one_carved, both_taken, want_eight, small_setting, legal_history, exchanged_history, discarding_history, wiring_history, small_plan, take_page_one, on_both, on_frames, eight_places, eight_parts_used, one_turn, got_turn, failing_turn, idle_turn, spent_turn, second_claim, goes_on_failing, failing_load, made_up_fault, untold_space, run_of_pages, with_dirty, with_read, with_region, writable, small_tile, base_and_64, base_and_512, all_but_8, one_of_sixty_four, sixty_four_places, all_places, is_spread};
 ghost use Rattle.pager_model.specs.Order.{progress_of, at_rest};
 ghost use Rattle.pager_model.specs.SpaceStates.{IsAsked};
 ghost use Rattle.pager_model.specs.Flat.{after_call, reply_of};
-ghost use Rattle.pager_model.specs.FrameStates.{layout_of, take_frame, frame_of, held_by, dropped, free_count, reserved_count};
+ghost use Rattle.pager_model.specs.FrameStates.{layout_of, take_frame, frame_of, held_by, dropped, free_count, reserved_count, wired_count, has_evictable, pin_range, lowest_claimed};
 ghost use Rattle.pager_model.specs.FreeBlocks.{choice};
 ghost use Rattle.pager_model.specs.Headline.{list_in};
 ghost use Rattle.pager_model.specs.Layouts.{oldest_of};
 ghost use Rattle.pager_model.specs.PreferredSize.{preferred_size, preferred_among};
-ghost use Rattle.pager_model.specs.PrintedText.{answers_text, history_line};
+ghost use Rattle.pager_model.specs.PrintedText.{answers_text, history_line, reply_words};
 ghost use Rattle.pager_model.specs.Records.{is_used, yield_of, kept_part, part_at, goes_on_at};
+ghost use Rattle.pager_model.specs.Regions.{wanted};
 ghost use Rattle.pager_model.specs.TraceText.{HasText, first_line, call_line, line_words, text_of};
 ghost use Rattle.pager_model.specs.Legal.{IsLegal, MayFollow, space_at};
 ghost use Rattle.pager_model.specs.Settings.{Given};
@@ -56,6 +58,43 @@ pub fn flat_memory_keeps_words()
     ensures stored { reply_of (after_call eight_pages (Store 0 8192 5)) (Load 0 8192) ≡ Value 5 }
     ensures other { reply_of (after_call eight_pages (Store 0 8192 5)) (Load 0 0) ≡ Value 0 }
     ensures past { reply_of eight_pages (Load 0 65536) ≡ Unmapped }
+{}
+
+/// A discarded page's word is zero, and so is its copy; the page isn't dirty, and its rights stay. Another page keeps its word, and a range past
+/// the region's end is unmapped.
+pub fn a_discard_leaves_zero_words()
+    ensures word { reply_of one_discarded (Load 0 16384) ≡ Value 0 }
+    ensures copy { one_discarded.copies 2 ≡ Some (λ i. 0) }
+    ensures clean { one_discarded.dirty 2 ≡ false }
+    ensures rights { one_discarded.rights 2 ≡ Write }
+    ensures other { reply_of one_discarded (Load 0 8192) ≡ Value 5 }
+    ensures past { reply_of eight_pages (Discard 0 7 2) ≡ Unmapped }
+{}
+
+/// A pinned region is wired: none of its pages is evicted or discarded, and its wants are wired. It may be unwired, and may grow; one whose kind
+/// is wired stays so.
+pub fn a_pinned_region_is_wired()
+    ensures evict { reply_of eight_pinned (Evict 0 5) ≡ Denied }
+    ensures discard { reply_of eight_pinned (Discard 0 0 8) ≡ Denied }
+    ensures want { wanted eight_pinned.regions 3 ≡ Some (record want_eight { wired = true }) }
+    ensures unwired { reply_of (after_call eight_pinned (Unwire 0 7)) (Evict 0 5) ≡ Clean }
+    ensures grows { reply_of eight_growing (Grow 0 0 8) ≡ Done }
+    ensures stays { reply_of eight_wired (Unwire 0 0) ≡ Denied }
+    ensures again { reply_of eight_wired (Wire 0 0) ≡ Done }
+    ensures past { reply_of eight_pages (Wire 0 8) ≡ Unmapped }
+{}
+
+/// The used places of a range of pages of a space are wired and may not be evicted, until they are wired no longer. A claimed place is found by its
+/// page.
+pub fn places_are_wired()
+    ensures wired { wired_count one_wired ≡ 1 }
+    ensures none { has_evictable one_wired ≡ false }
+    ensures unwired { wired_count one_unwired ≡ 0 }
+    ensures one { has_evictable one_unwired ≡ true }
+    ensures other_space { wired_count (pin_range one_taken 1 0 8 true) ≡ 0 }
+    ensures other_pages { wired_count (pin_range one_taken 0 4 4 true) ≡ 0 }
+    ensures claimed { lowest_claimed one_claimed 0 0 8 ≡ Some 3 }
+    ensures beside { lowest_claimed one_claimed 0 4 4 ≡ None }
 {}
 
 /// Of eight frames the first taking reserves all, at the frame of the page's place in its extent, and the next page of the extent
@@ -125,6 +164,20 @@ pub fn a_turn_ends_by_its_mark_or_a_fault()
     ensures gone_on { progress_of 2 goes_on_failing ≡ None }
 {}
 
+/// A wire is done after a pin of a range that has its page, or is kept from it by the page that was found; a discard is done after a clearing of
+/// its range alone.
+pub fn a_wire_and_a_discard_end_as_they_began()
+    ensures done { progress_of 0 wire_done ≡ Some (at_rest 0 1) }
+    ensures busy { progress_of 0 (wire_busy 5) ≡ Some (at_rest 0 1) }
+    ensures other_page { progress_of 0 (wire_busy 6) ≡ None }
+    ensures not_alone { progress_of 0 (answer 0 (Wire 0 3) (Busy 5) ∷ []) ≡ None }
+    ensures not_at_once { progress_of 0 (answer 0 (Wire 0 3) Done ∷ []) ≡ None }
+    ensures not_denied { progress_of 0 (answer 0 (Wire 0 3) Denied ∷ []) ≡ None }
+    ensures denied { progress_of 0 (answer 0 (Unwire 0 3) Denied ∷ []) ≡ Some (at_rest 0 1) }
+    ensures discarded { progress_of 0 (discard_after 1) ≡ Some (at_rest 0 1) }
+    ensures more_cleared { progress_of 0 (discard_after 2) ≡ None }
+{}
+
 /// A load whose victim could not be written is answered with the fault of the victim's store, and with no other.
 pub fn a_fault_is_answered_as_it_was()
     ensures told { progress_of 0 failing_load ≡ Some (at_rest 0 1) }
@@ -144,21 +197,59 @@ pub fn a_store_waits_for_its_frame()
     ensures exchanged { IsLegal small_setting exchanged_history → ⊥ }
 {}
 
+/// A page is discarded, and what is loaded from it then is zero; a page is wired, isn't evicted then, and is wired no longer.
+pub fn a_discard_and_a_wire_are_legal()
+    ensures discard { IsLegal small_setting discarding_history }
+    ensures wire { IsLegal small_setting wiring_history }
+{}
+
+/// A wire of a region one of whose frames is claimed is kept from being done by the lowest such page, with its frame: by no other page, frame
+/// or range, and the frames aren't wired in its place. Then that wire alone is answered, by its processor, and as it found.
+pub fn a_claimed_page_keeps_a_wire()
+    ensures busy { IsLegal two_processors (after_finding (answer 3 (Wire 0 3) (Busy 0) ∷ [])) }
+    ensures other_page { IsLegal two_processors (while_claimed (on_both 0 (Kept 0 8 1 1) ∷ [])) → ⊥ }
+    ensures other_frame { IsLegal two_processors (while_claimed (on_both 0 (Kept 0 8 0 1) ∷ [])) → ⊥ }
+    ensures other_range { IsLegal two_processors (while_claimed (on_both 0 (Kept 0 4 0 0) ∷ [])) → ⊥ }
+    ensures wired { IsLegal two_processors (while_claimed (on_both 0 (Pin 0 8 true) ∷ [])) → ⊥ }
+    ensures between { IsLegal two_processors (after_finding (out_page_zero ∷ [])) → ⊥ }
+    ensures to_a_load { IsLegal two_processors (after_finding (answer 3 (Load 0 0) (Busy 0) ∷ [])) → ⊥ }
+    ensures to_an_unwire { IsLegal two_processors (after_finding (answer 3 (Unwire 0 3) (Busy 0) ∷ [])) → ⊥ }
+    ensures to_another_page { IsLegal two_processors (after_finding (answer 3 (Wire 0 3) (Busy 1) ∷ [])) → ⊥ }
+    ensures done { IsLegal two_processors (after_finding (answer 3 (Wire 0 3) Done ∷ [])) → ⊥ }
+{}
+
+/// A pin is of a whole region, and none ends the wires of one whose kind is wired; what was pinned for a wire is no unwire. Pages past a region's end
+/// aren't cleared.
+pub fn a_pin_and_a_clear_are_of_regions()
+    ensures part { IsLegal small_setting (after_map Fixed (on_both 0 (Pin 0 4 true) ∷ [])) → ⊥ }
+    ensures wired_kind { IsLegal small_setting (after_map Wired (on_both 0 (Pin 0 8 false) ∷ [])) → ⊥ }
+    ensures other_way { IsLegal small_setting (after_map Fixed (on_both 0 (Pin 0 8 true) ∷ answer 1 (Unwire 0 3) Done ∷ [])) → ⊥ }
+    ensures past { IsLegal small_setting (after_map Fixed (on_both 0 (Clear 6 4) ∷ [])) → ⊥ }
+{}
+
 /// A trace of two calls has this text, one of base pages and superpages of 512 this first line, a call of each other kind this line, and a legal history prints these answers.
 pub fn small_texts()
     ensures trace { text_of small_plan ≡ codes "trace 1 512 1 1\n0 map 0 0 8 fixed write\n0 store 0 8192 5\nend\n" }
     ensures sizes { first_line (record small_plan { version = 2; sizes = base_and_512 }) ≡ codes "trace 2 512 1 1 03\n" }
     ensures all_sizes { first_line (record small_plan { version = 2 }) ≡ codes "trace 2 512 1 1 0123\n" }
     ensures version { HasText (record small_plan { sizes = base_and_512 }) → ⊥ }
+    ensures early_wire { HasText (record small_plan { version = 2; calls = record { processor = 0; call = Wire 0 3 } ∷ [] }) → ⊥ }
+    ensures sizes_of_3 { first_line (record small_plan { version = 3; sizes = base_and_512 }) ≡ codes "trace 3 512 1 1 03\n" }
     ensures grow { call_line (record { processor = 1; call = Grow 2 1048575 1048576 }) ≡ codes "1 grow 2 1048575 1048576\n" }
     ensures unmap { call_line (record { processor = 15; call = Unmap 15 0 }) ≡ codes "15 unmap 15 0\n" }
     ensures protect { call_line (record { processor = 0; call = Protect 0 300 1 NoAccess }) ≡ codes "0 protect 0 300 1 none\n" }
     ensures load { call_line (record { processor = 0; call = Load 0 8589934584 }) ≡ codes "0 load 0 8589934584\n" }
     ensures copies { line_words (record { processor = 0; call = Sync 1 3 }) ≡ codes "0" ∷ codes "sync" ∷ codes "1" ∷ codes "3" ∷ [] }
     ensures evict { call_line (record { processor = 0; call = Evict 1 3 }) ≡ codes "0 evict 1 3\n" }
+    ensures discard { call_line (record { processor = 0; call = Discard 0 300 8 }) ≡ codes "0 discard 0 300 8\n" }
+    ensures wire { call_line (record { processor = 0; call = Wire 1 3 }) ≡ codes "0 wire 1 3\n" }
+    ensures unwire { call_line (record { processor = 0; call = Unwire 1 3 }) ≡ codes "0 unwire 1 3\n" }
     ensures answers { answers_text 1 legal_history ≡ codes "0 0 done\n0 1 done miss 0\n0 2 unmapped\n" }
     ensures taking { history_line (record { number = 1; entry = take_page_one }) ≡ codes "1 0 s0+f take 1 0 0 8 8 0\n" }
     ensures claim { history_line (record { number = 0; entry = on_both 0 (Claim 1 6 2 (Some (record { page = 1; writing = true }))) }) ≡ codes "0 0 s0+f claim 1 6 2 for 1 write\n" }
+    ensures pin { history_line (record { number = 3; entry = on_both 0 (Pin 0 8 true) }) ≡ codes "3 0 s0+f pin 0 8 1\n" }
+    ensures kept { history_line (record { number = 3; entry = on_both 0 (Kept 0 8 5 2) }) ≡ codes "3 0 s0+f kept 0 8 5 2\n" }
+    ensures busy { reply_words (Busy 5) ≡ codes "busy" ∷ codes "5" ∷ [] }
     ensures rest { history_line (record { number = 12; entry = on_frames (Rest false) }) ≡ codes "12 0 f rest 0\n" }
 {}
 

@@ -27,6 +27,8 @@ pub struct Region {
     pub kind: Kind,
     /// The rights that each of its pages begins with.
     pub rights: Rights,
+    /// Whether a call keeps its pages in their frames, whatever its kind.
+    pub pinned: bool,
 }
 
 impl Region {
@@ -34,6 +36,6 @@ impl Region {
     pub fn is_wired(&self) -> bool
         ensures { result ≡ is_wired self.now }
     {
-        matches!(self.kind, Kind::Wired)
+        matches!(self.kind, Kind::Wired) || self.pinned
     }
 }

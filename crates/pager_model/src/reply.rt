@@ -28,6 +28,8 @@ pub enum Reply {
     StoreFault { space: u32, count: u64 },
     /// The backing store found no memory.
     NoMemory,
+    /// Of the pages to be wired this is the lowest whose frame a processor claims.
+    Busy { page: u32 },
 }
 
 /// A reply, and what the access found in its processor's translations.

@@ -73,7 +73,7 @@ impl Trace {
         }
     }
 
-    /// The version of its text: 1, which has all four page sizes, or 2, which names them.
+    /// The version of its text: 1, which has all four page sizes, 2, which names them, or 3, which also has calls to discard, wire and unwire.
     pub fn version(&self) -> u32
         ensures version { result ≡ self.now.version }
         ensures text { HasText self.now }
@@ -136,7 +136,7 @@ impl Trace {
     pub fn calls(&self) -> &[Line]
         ensures calls { result.now ≡ self.now.calls }
         ensures few { length result.now ≤ most_calls }
-        ensures lines { All (IsLine self.now.processors self.now.spaces) result.now }
+        ensures lines { All (IsLine self.now.version self.now.processors self.now.spaces) result.now }
         ensures text { HasText self.now }
     {
         self.calls.as_slice()

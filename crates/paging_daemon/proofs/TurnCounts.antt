@@ -11,11 +11,11 @@ use Rattle.pager_model.specs.declared.entry.Need.{Need}
 use Rattle.pager_model.specs.declared.entry.Numbered.{Numbered}
 use Rattle.pager_model.specs.declared.entry.Victim.{Victim}
 use Rattle.pager_model.specs.declared.entry.What.{What}
-use Rattle.pager_model.specs.declared.entry.What.TheVariants.{Answer, Out, Failed, Take, Give, Clear, Claim, UseHeld, DropHeld, Got, Unclaim, Refused, Rest}
+use Rattle.pager_model.specs.declared.entry.What.TheVariants.{Answer, Out, Failed, Take, Give, Clear, Claim, UseHeld, DropHeld, Got, Unclaim, Refused, Pin, Kept, Rest}
 use Rattle.pager_model.specs.declared.call.Call.{Call}
 use Rattle.pager_model.specs.declared.reply.Reply.{Reply}
 use Rattle.pager_model.specs.Legal.{entries_in}
-use Rattle.pager_model.specs.Order.{Doing, Progress, at_rest, leads, may_answer, after_take, after_use, after_clear, after_out, after_failure, after_give, after_claim, after_got, after_unclaim, after_drop, after_refusal, after_rest, progress_after, progress_from}
+use Rattle.pager_model.specs.Order.{Doing, Progress, at_rest, leads, may_answer, after_take, after_use, after_clear, after_pin, after_kept, after_out, after_failure, after_give, after_claim, after_got, after_unclaim, after_drop, after_refusal, after_rest, progress_after, progress_from}
 use Rattle.pager_model.specs.Order.Purpose.{ForAccess, ForTurn}
 use Rattle.pager_model.specs.Order.Doing.{Idle, Looking, Filling, Unfilling, Claiming, Emptied, Unwritten, Holding}
 use Rattle.pager_model.specs.Showing.{IsTurn}
@@ -148,6 +148,14 @@ module _ (mark made : ℕ) (q : Progress) where
   clears Idle s first len place is = place
   clears d s first len place is = none-some q is
 
+  pins : (d : Doing) (s first len : ℕ) (wired : Bool) → InTurn mark d → after_pin made d s first len wired ≡ Some q → ⊥
+  pins Idle s first len wired place is = place
+  pins d s first len wired place is = none-some q is
+
+  keeps : (d : Doing) (s first len page : ℕ) → InTurn mark d → after_kept made d s first len page ≡ Some q → ⊥
+  keeps Idle s first len page place is = place
+  keeps d s first len page place is = none-some q is
+
   claims : (d : Doing) (space : Option ℕ) (v : Victim) (need : Option Need) → InTurn mark d → after_claim made d space v need ≡ Some q
       → Goes mark made d q (Claim v.space v.page v.frame need)
   claims (Looking low evictions) None v None place is =
@@ -248,6 +256,8 @@ goes mark p q (Some s) (Failed page writing count) place is = fails mark p.made 
 goes mark p q (Some s) (Take page frame want) place is = absurd (takes mark p.made q p.doing s page frame place is)
 goes mark p q (Some s) (Give page frame) place is = gives mark p.made q p.doing s page frame place is
 goes mark p q (Some s) (Clear first len) place is = absurd (clears mark p.made q p.doing s first len place is)
+goes mark p q (Some s) (Pin first len wired) place is = absurd (pins mark p.made q p.doing s first len wired place is)
+goes mark p q (Some s) (Kept first len page frame) place is = absurd (keeps mark p.made q p.doing s first len page place is)
 goes mark p q (Some s) (UseHeld page frame want) place is = absurd (uses mark p.made q p.doing s page frame place is)
 goes mark p q (Some s) (Unclaim frame) place is = unclaims mark p.made q p.doing s frame place is
 goes mark p q space (Claim victim page frame need) place is =
@@ -261,6 +271,8 @@ goes mark p q None (Failed page writing count) place is = absurd (none-some q is
 goes mark p q None (Take page frame want) place is = absurd (none-some q is)
 goes mark p q None (Give page frame) place is = absurd (none-some q is)
 goes mark p q None (Clear first len) place is = absurd (none-some q is)
+goes mark p q None (Pin first len wired) place is = absurd (none-some q is)
+goes mark p q None (Kept first len page frame) place is = absurd (none-some q is)
 goes mark p q None (UseHeld page frame want) place is = absurd (none-some q is)
 goes mark p q None (Unclaim frame) place is = absurd (none-some q is)
 

@@ -1,12 +1,14 @@
--- What map, grow and protect do to the rights of pages, of which each has its own, or else its region's first ones.
-use Rattle.std.proofs.Common.{◌≡◌, ◌+◌, ◌≤◌, ℕ, true, false, if◌then◌else◌, List, Option, Some, None, is_some, option_map, refl, sym, ap, inl, inr, ◌∙◌, arith}
+-- What map, grow, pin and protect do to the rights of pages, of which each has its own, or else its region's first ones.
+use Rattle.std.proofs.Common.{◌≡◌, ◌+◌, ◌≤◌, ℕ, Bool, true, false, if◌then◌else◌, List, [], ◌∷◌, Option, Some, None, is_some, option_map, refl, sym, ap, inl, inr, ◌∙◌, arith}
 use Rattle.std.specs.List.{list_any}
 use Rattle.std.proofs.lemmas.Bool.{cases_Bool, cond-true, cond-false, leb-true, true≢false}
 use Rattle.std.proofs.lemmas.Option.{none-some, same_Some}
 use Rattle.pager_model.specs.declared.region.Region.{Region}
 use Rattle.pager_model.specs.declared.region.Rights.{Rights}
+use Rattle.pager_model.specs.declared.region.Rights.TheVariants.{NoAccess}
 use Rattle.pager_model.specs.Bounds.{space_pages}
-use Rattle.pager_model.specs.Regions.{end_of, has_page, in_range, meets_range, range_in, region_at, rights_by, with_region, without_region, grown_regions}
+use Rattle.pager_model.specs.Regions.{end_of, has_page, in_range, meets_range, range_in, region_at, rights_by, with_region, without_region, grown_regions, pinned_regions}
+use Rattle.pager_model.proofs.Ranges.{in_bounds}
 use Rattle.region_table.specs.Table.{IsTable}
 use Rattle.region_table.proofs.RegionSearch.{found_from, found_grown, found_same, found_with, found_within, found_without, grown, grown-new, grown-old, none_in}
 
@@ -98,6 +100,47 @@ module _ (regions changed : List Region) (first len : ℕ) (rights : Rights) (ga
             cond-false _ _ _ old ∙ before p (sym (started (region_at changed p) (region_at regions p) same) ∙ has)
             ∙ sym (rights_alike (own p) _ _ same)
       ]
+
+-- A pin.
+
+-- the region that has a page begins where it began, and with the same first rights
+pinned_start : (regions : List Region) (page p : ℕ) (pinned : Bool)
+    → start_of (region_at (pinned_regions page pinned regions) p) ≡ start_of (region_at regions p)
+pinned_start [] page p pinned = refl
+pinned_start (r ∷ regions) page p pinned =
+    let rest = pinned_start regions page p pinned in
+    elim (cases_Bool (has_page page r)) [
+      | inl here ↦
+          ap (λ (x : Region). start_of (region_at (x ∷ pinned_regions page pinned regions) p))
+          (cond-true (has_page page r) (record r { pinned = pinned }) r here)
+          ∙ either (has_page p r) (record r { pinned = pinned }) r (region_at (pinned_regions page pinned regions) p) (region_at regions p) refl rest
+      | inr there ↦
+          ap (λ (x : Region). start_of (region_at (x ∷ pinned_regions page pinned regions) p))
+          (cond-false (has_page page r) (record r { pinned = pinned }) r there)
+          ∙ either (has_page p r) r r (region_at (pinned_regions page pinned regions) p) (region_at regions p) refl rest
+    ]
+  where
+    either : (b : Bool) (x y : Region) (o q : Option Region) → start_of (Some x) ≡ start_of (Some y) → start_of o ≡ start_of q
+        → start_of (if b then Some x else o) ≡ start_of (if b then Some y else q)
+    either true x y o q same rest = same
+    either false x y o q same rest = rest
+
+-- no page is one of none
+pub none_in_empty : (p : ℕ) → in_range 0 0 p ≡ false
+none_in_empty p =
+    elim (cases_Bool (in_range 0 0 p)) [
+      | inl inside ↦ absurd (omega (arith, (in_bounds 0 0 p inside).1))
+      | inr outside ↦ outside
+    ]
+
+-- so a pin gives no page a region
+pub pin_gains : (regions : List Region) (page : ℕ) (pinned : Bool) → Gains regions (pinned_regions page pinned regions) 0 0 NoAccess
+pin_gains regions page pinned =
+    record {
+      none = λ p inside. absurd (true≢false (sym inside ∙ none_in_empty p));
+      given = λ p inside. absurd (true≢false (sym inside ∙ none_in_empty p));
+      others = λ p outside. pinned_start regions page p pinned;
+    }
 
 -- A protect.
 

@@ -15,15 +15,15 @@ use Rattle.pager_model.specs.declared.region.Kind.{Kind}
 use Rattle.pager_model.specs.declared.region.Kind.TheVariants.{Fixed, Growing, Wired}
 use Rattle.pager_model.specs.declared.region.Rights.TheVariants.{NoAccess}
 use Rattle.pager_model.specs.declared.reply.Reply.{Reply}
-use Rattle.pager_model.specs.declared.reply.Reply.TheVariants.{Done, Overlap, OutOfSpace, NotGrowing}
-use Rattle.pager_model.specs.Regions.{end_of, has_page, meets_range, region_at, next_start, with_region, without_region, grown_region, grown_regions, grows, grow_reply, grow_reply_at}
+use Rattle.pager_model.specs.declared.reply.Reply.TheVariants.{Done, Unmapped, Denied, Overlap, OutOfSpace, NotGrowing}
+use Rattle.pager_model.specs.Regions.{end_of, has_page, meets_range, region_at, next_start, with_region, without_region, grown_region, grown_regions, grows, grow_reply, grow_reply_at, is_wired_kind, wire_reply_at, unwire_reply_at, pinned_region, pinned_regions}
 use Rattle.pager_model.specs.contracts.region.Kind.{the_type}
 use denote.Enum.Bare.{sameb}
-use Rattle.region_table.specs.Table.{LieFrom, IsTable}
+use Rattle.region_table.specs.Table.{LieFrom, IsTable, pin_reply}
 
 -- what a read of a region gives past the end
 abbrev pub blank : Region
-blank = record { first = 0; length = 0; kind = Fixed; rights = NoAccess }
+blank = record { first = 0; length = 0; kind = Fixed; rights = NoAccess; pinned = false }
 
 -- a region that ends at the page or below, or begins above it, doesn't have it
 pub has_page-end : (page : ℕ) (r : Region) → end_of r ≤ page → has_page page r ≡ false
@@ -327,7 +327,7 @@ without_region-at low (r ∷ rs) l page (suc i) d h has =
     ∙ ap (λ xs. r ∷ xs) (without_region-at (end_of r) rs l.2 page i d (omega arith) has)
 
 abbrev pub longer : ℕ → Region → Region
-longer by r = record { first = r.first; length = r.length + by; kind = r.kind; rights = r.rights }
+longer by r = record r { length = r.length + by }
 
 pub grown_regions-at : (low : ℕ) (rs : List Region) → LieFrom low rs → (page by i : ℕ) (d : Region) → i < length rs
     → has_page page (get_or rs i d) ≡ true → grown_regions page by rs ≡ set rs i (longer by (get_or rs i d))
@@ -339,6 +339,35 @@ grown_regions-at low (r ∷ rs) l page by (suc i) d h has =
     grown-cons (grown_region page by) r r rs (set rs i (longer by (get_or rs i d)))
     (cond-false _ _ _ (has_page-end page r (page-behind r rs l.2 page i d (omega arith) has)))
     (grown_regions-at (end_of r) rs l.2 page by i d (omega arith) has)
+
+-- only the region at the place is pinned
+abbrev pub repinned : Bool → Region → Region
+repinned pinned r = record r { pinned = pinned }
+
+pub pinned_regions-none : (low : ℕ) (rs : List Region) → LieFrom low rs → (page : ℕ) (pinned : Bool) → page < low
+    → pinned_regions page pinned rs ≡ rs
+pinned_regions-none low [] l page pinned h = refl
+pinned_regions-none low (r ∷ rs) l page pinned h =
+    grown-cons (pinned_region page pinned) r r rs rs (cond-false _ _ _ (has_page-first page r (omega (arith, l.0))))
+    (pinned_regions-none (end_of r) rs l.2 page pinned (omega (arith, l.0)))
+
+pub pinned_regions-at : (low : ℕ) (rs : List Region) → LieFrom low rs → (page : ℕ) (pinned : Bool) (i : ℕ) (d : Region) → i < length rs
+    → has_page page (get_or rs i d) ≡ true → pinned_regions page pinned rs ≡ set rs i (repinned pinned (get_or rs i d))
+pinned_regions-at low [] l page pinned i d h has = absurd (omega arith)
+pinned_regions-at low (r ∷ rs) l page pinned zero d h has =
+    grown-cons (pinned_region page pinned) r (repinned pinned r) rs rs (cond-true _ _ _ has)
+    (pinned_regions-none (end_of r) rs l.2 page pinned (ltb-true page (end_of r) ((and_parts _ _ has).1)))
+pinned_regions-at low (r ∷ rs) l page pinned (suc i) d h has =
+    grown-cons (pinned_region page pinned) r r rs (set rs i (repinned pinned (get_or rs i d)))
+    (cond-false _ _ _ (has_page-end page r (page-behind r rs l.2 page i d (omega arith) has)))
+    (pinned_regions-at (end_of r) rs l.2 page pinned i d (omega arith) has)
+
+-- and it lies where it lay
+pub LieFrom-repinned : (low : ℕ) (rs : List Region) → LieFrom low rs → (i : ℕ) (pinned : Bool) (d : Region) → i < length rs
+    → LieFrom low (set rs i (repinned pinned (get_or rs i d)))
+LieFrom-repinned low [] l i pinned d h = absurd (omega arith)
+LieFrom-repinned low (r ∷ rs) l zero pinned d h = (l.0, l.1, l.2)
+LieFrom-repinned low (r ∷ rs) l (suc i) pinned d h = (l.0, l.1, LieFrom-repinned (end_of r) rs l.2 i pinned d (omega arith))
 
 -- what begins behind a free range lies from its end on
 pub LieFrom-free : (low by : ℕ) (rs : List Region) → LieFrom low rs → 1 ≤ by → low + by ≤ 1048576 → list_any (meets_range low by) rs ≡ false
@@ -392,6 +421,56 @@ IsTable-grown rs page by i d t e some within free =
         at_most = omega (arith, t.at_most, length-set rs i (longer by (get_or rs i d)));
       }),
     )
+
+pub IsTable-pinned : (rs : List Region) (page : ℕ) (pinned : Bool) (i : ℕ) (d : Region) → IsTable rs → position (has_page page) rs ≡ Some i
+    → (pinned_regions page pinned rs ≡ set rs i (repinned pinned (get_or rs i d))) × IsTable (pinned_regions page pinned rs)
+IsTable-pinned rs page pinned i d t e =
+    let at = position-Some (has_page page) rs i d e in
+    let is = pinned_regions-at 0 rs t.in_order page pinned i d at.0 at.1 in (
+      is,
+      rw is (record {
+        in_order = LieFrom-repinned 0 rs t.in_order i pinned d at.0;
+        at_most = omega (arith, t.at_most, length-set rs i (repinned pinned (get_or rs i d)));
+      }),
+    )
+
+-- the reply of a pin, by the region that has the page
+pub pin_reply-none : (pinned : Bool) (rs : List Region) (page : ℕ) → region_at rs page ≡ None → pin_reply pinned rs page ≡ Unmapped
+pin_reply-none true rs page none = ap wire_reply_at none
+pin_reply-none false rs page none = ap unwire_reply_at none
+
+pub pin_reply-done : (pinned : Bool) (rs : List Region) (page : ℕ) (r : Region) → region_at rs page ≡ Some r
+    → (pinned || not (is_wired_kind r.kind)) ≡ true → pin_reply pinned rs page ≡ Done
+pin_reply-done true rs page r at may = ap wire_reply_at at
+pin_reply-done false rs page r at may = ap unwire_reply_at at ∙ cond-false _ _ _ (not_true (is_wired_kind r.kind) may)
+  where
+    not_true : (b : Bool) → not b ≡ true → b ≡ false
+    not_true true is = absurd cc
+    not_true false is = refl
+
+pub pin_reply-denied : (pinned : Bool) (rs : List Region) (page : ℕ) (r : Region) → region_at rs page ≡ Some r
+    → (pinned || not (is_wired_kind r.kind)) ≡ false → pin_reply pinned rs page ≡ Denied
+pin_reply-denied true rs page r at may = absurd cc
+pin_reply-denied false rs page r at may = ap unwire_reply_at at ∙ cond-true _ _ _ (not_false (is_wired_kind r.kind) may)
+  where
+    not_false : (b : Bool) → not b ≡ false → b ≡ true
+    not_false true is = refl
+    not_false false is = absurd cc
+
+-- the region that is pinned is found as it is then
+pub region_at-pinned : (rs : List Region) (page : ℕ) (pinned : Bool) (r : Region) → region_at rs page ≡ Some r
+    → region_at (pinned_regions page pinned rs) page ≡ Some (repinned pinned r)
+region_at-pinned [] page pinned r at = absurd (none-some r at)
+region_at-pinned (q ∷ rs) page pinned r at = elim (cases_Bool (has_page page q)) [
+  | inl here ↦
+      let same : q ≡ r = same_Some q r (sym (cond-true _ _ _ here) ∙ at) in
+      ap (λ (p : Region). find (has_page page) (p ∷ pinned_regions page pinned rs)) (cond-true (has_page page q) (repinned pinned q) q here)
+      ∙ cond-true _ _ _ here ∙ ap (λ p. Some (repinned pinned p)) same
+  | inr there ↦
+      ap (λ (p : Region). find (has_page page) (p ∷ pinned_regions page pinned rs)) (cond-false (has_page page q) (repinned pinned q) q there)
+      ∙ cond-false _ _ _ there
+      ∙ region_at-pinned rs page pinned r (sym (cond-false _ _ _ there) ∙ at)
+]
 
 -- the comparison of kinds is the one of the definition
 grows-is : (kind : Kind) → grows kind ≡ sameb the_type kind Growing

@@ -1,9 +1,10 @@
 -- The regions that a space can have.
-use Rattle.std.specs.Prelude.{ℕ, ◌≤◌, List, [], ◌∷◌, length}
+use Rattle.std.specs.Prelude.{ℕ, ◌≤◌, Bool, false, if◌then◌else◌, List, [], ◌∷◌, length}
 use Rattle.pager_model.specs.declared.region.Region.{Region}
 use Rattle.pager_model.specs.declared.region.Kind.{Kind}
 use Rattle.pager_model.specs.declared.region.Rights.{Rights}
-use Rattle.pager_model.specs.Regions.{end_of}
+use Rattle.pager_model.specs.declared.reply.Reply.{Reply}
+use Rattle.pager_model.specs.Regions.{end_of, wire_reply, unwire_reply}
 use Rattle.pager_model.specs.Bounds.{space_pages}
 
 -- one region behind another from a page on: each begins where the one before it ends or later, has a page at least, and
@@ -19,4 +20,8 @@ pub record IsTable (regions : List Region) : Type 0 where
 
 -- the region that a map makes
 abbrev pub region_of : ℕ → ℕ → Kind → Rights → Region
-region_of page len kind rights = record { first = page; length = len; kind = kind; rights = rights }
+region_of page len kind rights = record { first = page; length = len; kind = kind; rights = rights; pinned = false }
+
+-- what a wire of the region that has the page is answered, or an unwire
+abbrev pub pin_reply : Bool → List Region → ℕ → Reply
+pin_reply pinned regions page = if pinned then wire_reply regions page else unwire_reply regions page

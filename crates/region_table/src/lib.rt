@@ -4,10 +4,10 @@
 //! table itself.
 #![tactic(auto)]
 
-ghost use Rattle.std.specs.Prelude.{◌≡◌, ◌≢◌, ◌+◌, ◌<◌, ◌≤◌, [], length, nat_le, IfSome, IfOk, IfErr, OnOk, OnErr, MatchResult};
+ghost use Rattle.std.specs.Prelude.{◌≡◌, ◌≢◌, ◌+◌, ◌<◌, ◌≤◌, ◌||◌, not, Some, [], length, nat_le, IfSome, IfOk, IfErr, OnOk, OnErr, MatchResult};
 ghost use Rattle.std.specs.List.{list_any, position, prefix_len};
-ghost use Rattle.pager_model.specs.Regions.{has_page, meets_range, region_at, next_start, with_region, without_region, grown_regions, map_reply, grow_reply, unmap_reply};
-ghost use Rattle.region_table.specs.Table.{IsTable, region_of};
+ghost use Rattle.pager_model.specs.Regions.{has_page, is_wired_kind, meets_range, region_at, next_start, with_region, without_region, grown_regions, pinned_regions, map_reply, grow_reply, unmap_reply};
+ghost use Rattle.region_table.specs.Table.{IsTable, region_of, pin_reply};
 ghost use Rattle.pager_model.specs.Bounds.{space_pages};
 
 use arrayvec::ArrayVec;
@@ -76,6 +76,7 @@ impl Regions {
                 length,
                 kind,
                 rights,
+                pinned: false,
             },
         );
         Ok(())
@@ -127,6 +128,30 @@ impl Regions {
             Some(place) => Ok(self.items.remove(place)),
             None => Err(Reply::Unmapped),
         }
+    }
+
+    /// Pins the region that has `page`, or leaves it pinned no longer, and gives it as it is then.
+    ///
+    /// The first of these that holds is the refusal: `Unmapped` where no region has the page, `Denied` where it is to be
+    /// pinned no longer and is wired by its kind.
+    pub fn pin(&mut self, page: u32, pinned: bool) -> Result<Region, Reply>
+        ensures reply { MatchResult result (λ _. pin_reply pinned self.old page ≡ Reply.Done)
+            (λ e. pin_reply pinned self.old page ≡ e) }
+        ensures refusal { IfErr result (λ e. e ≢ Reply.Done) }
+        ensures region { IfOk result (λ r. region_at self.new page ≡ Some r) }
+        ensures after { OnOk result (self.new ≡ pinned_regions page pinned self.old) }
+        ensures unchanged { OnErr result (self.new ≡ self.old) }
+        ensures ordered { IsTable self.new }
+    {
+        let Some(place) = self.place_of(page) else {
+            return Err(Reply::Unmapped);
+        };
+        let region = self.items[place];
+        if !may_pin(&region, pinned) {
+            return Err(Reply::Denied);
+        }
+        self.items[place].pinned = pinned;
+        Ok(Region { pinned, ..region })
     }
 
     /// The region that has `page`, if one has it.
@@ -181,4 +206,11 @@ impl Regions {
     {
         self.items.partition_point(|region| region.first <= page)
     }
+}
+
+/// Whether the region may be pinned, or left pinned no longer.
+fn may_pin(region: &Region, pinned: bool) -> bool
+    ensures { result ≡ (pinned || not (is_wired_kind region.now.kind)) }
+{
+    pinned || region.kind != Kind::Wired
 }

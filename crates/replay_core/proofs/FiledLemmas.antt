@@ -402,14 +402,14 @@ pub record LineAt (plan : Plan) (k : ℕ) : Type 0 where
   pub known : line.processor < plan.processors
 
 abbrev pub LineAt-read : (plan : Plan) (lines : List Line) (k : ℕ) (d : Line) → lines ≡ plan.calls → k < length lines
-    → All (IsLine plan.processors plan.spaces) lines → LineAt plan k
+    → All (IsLine plan.version plan.processors plan.spaces) lines → LineAt plan k
 LineAt-read plan lines k d same within all =
     let line : Line = get_or lines k d in
     record {
       line = line;
       within = subst (λ l. k < length l) same within;
       at = subst (λ l. slice_get l k ≡ Some line) same (slice_get-get_or lines k d within);
-      known = (All-get_or (IsLine plan.processors plan.spaces) lines k d within all).0;
+      known = (All-get_or (IsLine plan.version plan.processors plan.spaces) lines k d within all).0;
     }
 
 module _ (plan : Plan) (has : HasText plan) (stores : List Stored) (k : ℕ) (run : Running) (now : Turned plan stores k run)

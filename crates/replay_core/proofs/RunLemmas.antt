@@ -26,6 +26,7 @@ use Rattle.pager_model.specs.Stores.{setting_over, EndsWith, StoresEnd, AreCappe
 use Rattle.pager_model.specs.Stored.{Stored}
 use Rattle.pager_model.proofs.Actors.{daemon_known, mark_of_caller, mark_of_daemon, processor_known}
 use Rattle.pager_laws.proofs.OldestBroken.{PreemptsOldest-legal}
+use Rattle.pager_laws.proofs.KeptWires.{KeepsRightly-legal}
 use Rattle.pager_laws.proofs.OrderedRefusals.{IsNeverShort-legal, RefusesRightly-legal}
 use Rattle.pager_core.specs.Running.{Running, calls_among, jobs_at, IsLawful, IsWholeRun}
 use Rattle.pager_laws.proofs.KeptLaws.{KeepsLawsAllAlong-legal}
@@ -179,6 +180,7 @@ IsReplay-of plan has stores after given jobs history enough capped g are run_who
       laws = KeepsLawsAllAlong-legal (setting_over plan stores) (entries_in history) legal;
       oldest = PreemptsOldest-legal (setting_over plan stores) (entries_in history) legal;
       refusals = RefusesRightly-legal (setting_over plan stores) (entries_in history) legal;
+      kept = KeepsRightly-legal (setting_over plan stores) (entries_in history) legal;
       never_short = IsNeverShort-legal (setting_over plan stores) (entries_in history) legal;
       answered = AllAnswered-legal (setting_over plan stores) (entries_in history) legal;
       served = λ none. AllServed-legal (setting_over plan stores) (entries_in history) legal

@@ -5,7 +5,7 @@ use Rattle.pager_model.specs.declared.entry.Entry.{Entry}
 use Rattle.pager_model.specs.declared.entry.Numbered.{Numbered}
 use Rattle.pager_model.specs.Agreement.{IsPartition, NothingHeld, Agrees}
 use Rattle.pager_model.specs.Counts.{counts}
-use Rattle.pager_model.specs.Headline.{AllAnswered, AllServed, IsNeverShort, PreemptsOldest, RefusesRightly}
+use Rattle.pager_model.specs.Headline.{AllAnswered, AllServed, IsNeverShort, KeepsRightly, PreemptsOldest, RefusesRightly}
 use Rattle.pager_model.specs.Laws.{KeepsLawsAllAlong}
 use Rattle.pager_model.specs.Legal.{IsLegal, frames_at, entries_in}
 use Rattle.pager_model.specs.Plans.{Plan}
@@ -25,10 +25,11 @@ NoneFailed spaces before after =
 
 -- What holds of the whole run of a trace over stores: its history is numbered, legal and shows the trace, and keeps the laws at each
 -- place; each reservation that was preempted was its list's oldest, each access that was refused for want of a frame could have none, and
--- there is none while wired places and processors are no more than the frames; each answer is the flat memory's, or says that there was no
--- frame or no memory, or that a store failed, and this only where a store of a space did; after it each frame is in one role, none is claimed
--- or held, and spaces and frames agree; and the store of each space that told zero copies at the start tells those of the flat memory, and
--- every store that no space uses is as it was.
+-- there is none while wired places and processors are no more than the frames; each wire that wasn't done was kept from it by a page whose
+-- frame was claimed; each answer is the flat memory's, or says that there was no frame or no memory, or which page kept a wire from being
+-- done, or that a store failed, and this only where a store of a space did; after it each frame is in one role, none is claimed or held, and
+-- spaces and frames agree; and the store of each space that told zero copies at the start tells those of the flat memory, and every store that
+-- no space uses is as it was.
 pub record IsReplay (plan : Plan) (before : List Stored) (history : List Numbered) (after : List Stored) : Type 0 where
   pub numbered : IsNumbered history
   pub legal : IsLegal (setting_over plan before) (entries_in history)
@@ -36,6 +37,7 @@ pub record IsReplay (plan : Plan) (before : List Stored) (history : List Numbere
   pub laws : KeepsLawsAllAlong (setting_over plan before) (entries_in history)
   pub oldest : PreemptsOldest (setting_over plan before) (entries_in history)
   pub refusals : RefusesRightly (setting_over plan before) (entries_in history)
+  pub kept : KeepsRightly (setting_over plan before) (entries_in history)
   pub never_short : IsNeverShort (setting_over plan before) (entries_in history)
   pub answered : AllAnswered (setting_over plan before) (entries_in history)
   pub served : NoneFailed plan.spaces before after → AllServed (setting_over plan before) (entries_in history)

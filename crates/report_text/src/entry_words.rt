@@ -66,6 +66,17 @@ fn add_what(line: &mut Line, what: &What)
             claimed,
             held,
         } => line.add("refused", &[wired, claimed, held]),
+        What::Pin {
+            first,
+            length,
+            wired,
+        } => add_pin(line, first, length, wired),
+        What::Kept {
+            first,
+            length,
+            page,
+            frame,
+        } => line.add("kept", &[first, length, page, frame]),
         What::Rest { short } => add_rest(line, short),
     }
 }
@@ -134,6 +145,16 @@ fn add_need(line: &mut Line, need: &Option<Need>)
     }
 }
 
+/// Adds the words of pages whose frames were wired, or were no longer.
+fn add_pin(line: &mut Line, first: u32, length: u32, wired: bool)
+    requires { HasRoom 126 line.old }
+    ensures text { Adds (codes "pin" ∷ decimal first ∷ decimal length ∷ flag_word wired ∷ []) line.old line.new }
+    ensures short { GrowsBy 126 line.old line.new }
+{
+    line.add("pin", &[first, length]);
+    line.add_name(flag(wired));
+}
+
 /// Adds the words of a daemon that rests.
 fn add_rest(line: &mut Line, short: bool)
     requires { HasRoom 126 line.old }
@@ -189,6 +210,7 @@ fn add_reply(line: &mut Line, reply: &Reply)
         } => line.add("noframes", &[wired, claimed, held]),
         Reply::StoreFault { space, count } => add_store_fault(line, space, count),
         Reply::NoMemory => line.add_name("nomemory"),
+        Reply::Busy { page } => line.add("busy", &[page]),
     }
 }
 

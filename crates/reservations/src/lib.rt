@@ -86,6 +86,16 @@ impl Reservations {
         self.used.contains(frame)
     }
 
+    /// How many frames from this one on surely are no used places: those up to the end of the largest extent round it without one, and none where
+    /// it is one itself. It looks at four counts at most.
+    pub fn unused_from(&self, frame: u32) -> u32
+        requires { frame < length self.now.records }
+        ensures used { result ≡ 0 → is_used self.now.used frame ≡ true }
+        ensures unused { (other : ℕ) → frame ≤ other → other < frame + result → is_used self.now.used other ≡ false }
+    {
+        self.used.unused_from(frame)
+    }
+
     /// The yield of the reservation that begins at the frame `id`: the largest size of an extent inside it without a used
     /// place, and `None` where it is full.
     pub fn yields(&self, id: u32) -> Option<Size>

@@ -1,6 +1,6 @@
-ghost use Rattle.std.specs.Prelude.{◌≡◌, ◌<◌, ◌≤◌, ◌+◌, ◌-◌, ◌*◌, ◌/◌, ◌^◌, length, replicate, slice_set, map, true, false, IfOk};
+ghost use Rattle.std.specs.Prelude.{◌≡◌, ℕ, ◌<◌, ◌≤◌, ◌+◌, ◌-◌, ◌*◌, ◌/◌, ◌^◌, length, replicate, slice_set, map, true, false, IfOk};
 ghost use Rattle.std.specs.List.{range_with_len};
-ghost use Rattle.pager_model.specs.Extents.{IsExtent};
+ghost use Rattle.pager_model.specs.Extents.{IsExtent, extent_start};
 ghost use Rattle.pager_model.specs.Records.{is_used, none_used, yield_of};
 ghost use Rattle.reservations.specs.Counts.{used_in, AreCounts};
 ghost use Rattle.pager_model.specs.RecordPlaces.{IsPlaced};
@@ -111,6 +111,38 @@ impl UsedPlaces {
         ensures { result ≡ none_used (is_used self.now) first (8 ^ size) }
     {
         self.count(size, first) == 0
+    }
+}
+
+/// The first number of the extent of a size round a frame.
+fn start_round(size: Size, frame: u32) -> u32
+    ensures first { result ≡ extent_start size frame }
+    ensures aligned { IsExtent size result }
+    ensures round { (result ≤ frame) × (frame < result + 8 ^ size) }
+{
+    let pages = size.pages();
+    frame / pages * pages
+}
+
+impl UsedPlaces {
+    /// How many frames from this one on surely are no used places: those up to the end of the largest extent round it without one, and none where
+    /// it is one itself. It looks at four counts at most.
+    pub(crate) fn unused_from(&self, frame: u32) -> u32
+        requires { frame < length self.now }
+        ensures used { result ≡ 0 → is_used self.now frame ≡ true }
+        ensures unused { (other : ℕ) → frame ≤ other → other < frame + result → is_used self.now other ≡ false }
+    {
+        if self.contains(frame) {
+            return 0;
+        }
+        for level in (1..4).rev() {
+            let size = Size::at_level(level);
+            let first = start_round(size, frame);
+            if self.is_empty(size, first) {
+                return size.pages() - (frame - first);
+            }
+        }
+        1
     }
 }
 

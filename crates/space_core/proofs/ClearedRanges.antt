@@ -1,27 +1,32 @@
--- What becomes of a space when the pages of a range give their frames up, and when a region of that range then goes.
+-- What becomes of a space when the pages of a range give their frames up, and when a region of that range then goes, or the range is
+-- discarded.
 use Rattle.std.proofs.Common.{◌≡◌, ◌≢◌, ℕ, Bool, ◌+◌, ◌<◌, ◌≤◌, true, false, ◌&&◌, not, if◌then◌else◌, List, [], map, length, Option, Some, None, is_some, refl, sym, ap, inl, inr, ◌∙◌, arith, subst}
 use Rattle.std.proofs.lemmas.Bool.{cases_Bool, cases_eq, cases_lt, and_from, eq-eqb, ne_eqb, cond-true, cond-false, true≢false}
 use Rattle.std.proofs.lemmas.Option.{none-some, same_Some}
 use Rattle.std.proofs.lemmas.List.{get_or-map, length-map}
+use Rattle.std.specs.List.{count_by, range_with_len}
+use Rattle.std.specs.Option.{ForSome}
 use Rattle.pager_model.specs.Options.{is_that}
-use Rattle.pager_model.specs.declared.call.Call.TheVariants.{Unmap}
+use Rattle.pager_model.specs.declared.call.Call.TheVariants.{Unmap, Discard}
 use Rattle.pager_model.specs.declared.page_range.PageRange.{PageRange}
 use Rattle.pager_model.specs.declared.region.Region.{Region}
+use Rattle.pager_model.specs.declared.reply.Reply.TheVariants.{Done}
 use Rattle.pager_model.specs.declared.tile.Mapping.{Mapping}
 use Rattle.pager_model.specs.declared.tile.Tile.{Tile}
-use Rattle.pager_model.specs.Flat.{goes}
+use Rattle.pager_model.specs.Flat.{goes, is_lawful}
 use Rattle.pager_model.specs.Images.{still_tiles}
 use Rattle.pager_model.specs.SizeSets.{SizeSet}
-use Rattle.pager_model.specs.Regions.{has_page, in_range, region_at, without_region, unmap_reply_at, rights_by}
+use Rattle.pager_model.specs.Regions.{has_page, in_range, region_at, without_region, unmap_reply_at, discard_reply, rights_by}
 use Rattle.pager_model.specs.SpaceStates.{SpaceState, IsClearedAt, WhatAllowed, pages_of, space_after}
 use Rattle.pager_model.specs.SpaceStates.Next.{AfterClear}
 use Rattle.pager_model.specs.declared.entry.What.TheVariants.{Answer}
 use Rattle.region_table.specs.Table.{IsTable}
+use Rattle.pager_model.proofs.CountLemmas.{count-one_more}
 use Rattle.pager_model.proofs.Lists.{get_or-alike}
 use Rattle.pager_model.specs.Stores.{IsCopy}
-use Rattle.space_core.specs.Beginning.{SameRegions, ClearsOne, ClearsNone, Unmapped as IsUnmapped}
+use Rattle.space_core.specs.Beginning.{SameRegions, ClearsOne, ClearsNone, Unmapped as IsUnmapped, Discarded}
 use Rattle.space_core.specs.Pages.{Maps, Forgets, IsFirstResident, NoneFrom}
-use Rattle.space_core.specs.Standing.{Kept, StandsBeside, StandsBut, StandsFor, IsCopied, range_of, frame_at, dirty_at, image_at, is_clearing, is_in, is_settled, word_at, word_in_copy}
+use Rattle.space_core.specs.Standing.{Kept, IsResting, StandsBeside, StandsBut, StandsFor, IsCopied, range_of, frame_at, dirty_at, image_at, is_clearing, is_in, is_settled, rights_at, word_at, word_in_copy}
 use Rattle.pager_model.specs.CallEntries.{answer_entry, clear_entry}
 use Rattle.pager_model.specs.Stored.{copy_at, zero_words, DropsCopies}
 use Rattle.space_core.specs.Tables.{Table, mapping_in, frame_in, word_in, own_in}
@@ -300,6 +305,47 @@ module _ (old mid : Kept) (first len from : ℕ) (clears : ClearsFrom old mid fi
           stands = clear_stands;
         }
 
+-- in a space at rest nothing is open
+pub StandsBut-rest : (kept : Kept) (st : SpaceState) (first len : ℕ) → IsResting kept → StandsFor kept st → StandsBut first len kept st
+StandsBut-rest kept st first len resting stands =
+    record {
+      beside = record {
+        regions = beside.regions;
+        rights = beside.rights;
+        dirty = λ page out. beside.dirty page (closed page);
+        told = λ is. let tells = beside.told is in record {
+          tells = tells.tells;
+          words = λ page i out. tells.words page i (closed page);
+          copies = λ page out rests. tells.copies page (closed page) rests;
+          copied = λ page out even. tells.copied page (closed page) even;
+        };
+        tied = beside.tied;
+        untied = beside.untied;
+        highest = beside.highest;
+      };
+      base = λ page out. stands.base page;
+      pages = λ page out. stands.pages page;
+      translates = stands.translates;
+      not_begun = λ out page. stands.pages page;
+      counted = λ is. absurd (true≢false (sym is ∙ ap (λ o. is_clearing o first len) resting.none_clearing));
+    }
+  where
+    beside : StandsBeside (is_in kept.clearing) kept st
+    beside = stands.beside
+
+    closed : (page : ℕ) → is_in kept.clearing page ≡ false
+    closed page = ap (λ o. is_in o page) resting.none_clearing
+
+-- where a page gives its frame up, fewer pages of the range are resident
+pub fewer_resident : (old new : Kept) (first len page frame : ℕ) → ClearsOne old new first len page frame
+    → count_by (λ p. is_some (frame_at new p)) (range_with_len first len)
+    < count_by (λ p. is_some (frame_at old p)) (range_with_len first len)
+fewer_resident old new first len page frame clears =
+    let bounds = in_bounds first len page clears.within in
+    let one_more = count-one_more (λ p. is_some (frame_at new p)) (λ p. is_some (frame_at old p)) page (ap is_some clears.gave.gone)
+    (ap is_some clears.gave.had) (λ p other. ap is_some (clears.gave.same_others p other)) first len bounds.0 bounds.1 in
+    omega (arith, one_more)
+
 -- The region that has the page is to go: none of its pages is resident, and they lose the rights of their own.
 pub record LosesRegion (old : Kept) (u : Table) (page : ℕ) (r : Region) : Type 0 where
   pub ordered : IsTable old.regions
@@ -350,78 +396,93 @@ pub record DropsRegion (old new : Kept) (page : ℕ) (r : Region) : Type 0 where
     writes = new.writes;
   }
 
-module _ (old new : Kept) (page : ℕ) (r : Region) (goes_away : DropsRegion old new page r) where
-  abbrev forgets : Forgets r.first r.length old.table new.table
-  forgets = goes_away.loses.forgets
+-- The pages of a range go, of which none is resident, with their copies. No page outside of the range is being cleared.
+pub record DropsPages (old new : Kept) (first len : ℕ) : Type 0 where
+  pub none : (p : ℕ) → in_range first len p ≡ true → frame_at old p ≡ None
+  pub none_pending : old.pending ≡ None
+  pub none_paged : old.paged ≡ None
+  pub out_of : (p : ℕ) → in_range first len p ≡ false → is_in old.clearing p ≡ false
+  pub pending : new.pending ≡ old.pending
+  pub paged : new.paged ≡ old.paged
+  pub mapping : (p : ℕ) → mapping_in new.table p ≡ mapping_in old.table p
+  pub word : (p i : ℕ) → word_in new.table p i ≡ word_in old.table p i
+  pub drops : DropsCopies first len old.store new.store
 
+-- They go so in the flat memory.
+pub record HasDropped (st after : SpaceState) (first len : ℕ) : Type 0 where
+  pub dirty : (p : ℕ) → after.flat.dirty p ≡ (if in_range first len p then false else st.flat.dirty p)
+  pub words : (p i : ℕ) → after.flat.words p i ≡ (if in_range first len p then 0 else st.flat.words p i)
+  pub copies : (p : ℕ) → after.flat.copies p ≡ (if in_range first len p then Some (λ i. 0) else st.flat.copies p)
+  pub tied : (p i : ℕ) → after.tied p i ≡ st.tied p i
+  pub told : after.told ≡ st.told
+
+module _ (old new : Kept) (first len : ℕ) (gone : DropsPages old new first len) where
   frame_kept : (p : ℕ) → frame_at new p ≡ frame_at old p
-  frame_kept p = frame-same old.table new.table p (forgets.mapping p)
+  frame_kept p = frame-same old.table new.table p (gone.mapping p)
 
   dirty_kept : (p : ℕ) → dirty_at new p ≡ dirty_at old p
-  dirty_kept p = dirty-same old.table new.table p (forgets.mapping p)
+  dirty_kept p = dirty-same old.table new.table p (gone.mapping p)
 
-  dirty_rest : (dirty : Bool) (p : ℕ) → (has_page p r ≡ false → dirty ≡ dirty_at old p)
-      → (if has_page p r then false else dirty) ≡ dirty_at new p
+  dirty_rest : (dirty : Bool) (p : ℕ) → (in_range first len p ≡ false → dirty ≡ dirty_at old p)
+      → (if in_range first len p then false else dirty) ≡ dirty_at new p
   dirty_rest dirty p was =
-      elim (cases_Bool (has_page p r)) [
-        | inl has ↦ cond-true _ _ _ has ∙ sym (dirty_kept p ∙ dirty_in-absent old.table p (goes_away.loses.none p has))
+      elim (cases_Bool (in_range first len p)) [
+        | inl has ↦ cond-true _ _ _ has ∙ sym (dirty_kept p ∙ dirty_in-absent old.table p (gone.none p has))
         | inr hasnt ↦ cond-false _ _ _ hasnt ∙ was hasnt ∙ sym (dirty_kept p)
       ]
 
   pending_then : new.pending ≡ None
-  pending_then = ap (λ (k : Kept). k.pending) goes_away.same ∙ goes_away.none_pending
+  pending_then = gone.pending ∙ gone.none_pending
 
   paged_then : new.paged ≡ None
-  paged_then = ap (λ (k : Kept). k.paged) goes_away.same ∙ goes_away.none_paged
+  paged_then = gone.paged ∙ gone.none_paged
 
   settled_rest : (p : ℕ) → is_settled new p ≡ is_settled old p
-  settled_rest p = rw (frame_kept p, pending_then, goes_away.none_pending) refl
-
-  out_of : (p : ℕ) → has_page p r ≡ false → is_in old.clearing p ≡ false
-  out_of p hasnt = ap (λ (o : Option PageRange). is_in o p) goes_away.cleared ∙ hasnt
+  settled_rest p = rw (frame_kept p, pending_then, gone.none_pending) refl
 
   -- where the store tells its copies
   module _ (tells : old.store.tells ≡ true) where
-    copy_gone : (p : ℕ) → has_page p r ≡ true → copy_at new.store p ≡ Some zero_words
-    copy_gone p has = goes_away.drops.copies tells p ∙ cond-true _ _ _ has
+    copy_gone : (p : ℕ) → in_range first len p ≡ true → copy_at new.store p ≡ Some zero_words
+    copy_gone p has = gone.drops.copies tells p ∙ cond-true _ _ _ has
 
-    copy_left : (p : ℕ) → has_page p r ≡ false → copy_at new.store p ≡ copy_at old.store p
-    copy_left p hasnt = goes_away.drops.copies tells p ∙ cond-false _ _ _ hasnt
+    copy_left : (p : ℕ) → in_range first len p ≡ false → copy_at new.store p ≡ copy_at old.store p
+    copy_left p hasnt = gone.drops.copies tells p ∙ cond-false _ _ _ hasnt
 
-    -- the words of a region's pages are those of their copies, which were dropped
-    word_gone : (p i : ℕ) → has_page p r ≡ true → word_at new p i ≡ 0
+    -- the words of these pages are those of their copies, which were dropped
+    word_gone : (p i : ℕ) → in_range first len p ≡ true → word_at new p i ≡ 0
     word_gone p i has =
         let unsettled : is_settled new p ≡ false =
-        ap (λ o. is_some o && not (is_that p new.pending)) (frame_kept p ∙ goes_away.loses.none p has) in
+        ap (λ o. is_some o && not (is_that p new.pending)) (frame_kept p ∙ gone.none p has) in
         cond-false _ _ _ unsettled ∙ rw (copy_gone p has) (get_or-alike 1024 i 0)
 
-    word_left : (p i : ℕ) → has_page p r ≡ false → word_at new p i ≡ word_at old p i
+    word_left : (p i : ℕ) → in_range first len p ≡ false → word_at new p i ≡ word_at old p i
     word_left p i hasnt =
         elim (cases_Bool (is_settled old p)) [
-          | inl settled ↦ cond-true _ _ _ (settled_rest p ∙ settled) ∙ forgets.word p i ∙ sym (cond-true _ _ _ settled)
+          | inl settled ↦ cond-true _ _ _ (settled_rest p ∙ settled) ∙ gone.word p i ∙ sym (cond-true _ _ _ settled)
           | inr unsettled ↦
               cond-false _ _ _ (settled_rest p ∙ unsettled) ∙ ap (λ copy. word_in_copy copy i) (copy_left p hasnt)
               ∙ sym (cond-false _ _ _ unsettled)
         ]
 
-    word_rest : (w p i : ℕ) → (has_page p r ≡ false → w ≡ word_at old p i) → (if has_page p r then 0 else w) ≡ word_at new p i
+    word_rest : (w p i : ℕ) → (in_range first len p ≡ false → w ≡ word_at old p i)
+        → (if in_range first len p then 0 else w) ≡ word_at new p i
     word_rest w p i was =
-        elim (cases_Bool (has_page p r)) [
+        elim (cases_Bool (in_range first len p)) [
           | inl has ↦ cond-true _ _ _ has ∙ sym (word_gone p i has)
           | inr hasnt ↦ cond-false _ _ _ hasnt ∙ was hasnt ∙ sym (word_left p i hasnt)
         ]
 
-    copies_rest : (o : Option (ℕ → ℕ)) (p : ℕ) → (has_page p r ≡ false → IsCopy o (copy_at old.store p))
-        → IsCopy (if has_page p r then Some (λ i. 0) else o) (copy_at new.store p)
+    copies_rest : (o : Option (ℕ → ℕ)) (p : ℕ) → (in_range first len p ≡ false → IsCopy o (copy_at old.store p))
+        → IsCopy (if in_range first len p then Some (λ i. 0) else o) (copy_at new.store p)
     copies_rest o p was =
-        elim (cases_Bool (has_page p r)) [
+        elim (cases_Bool (in_range first len p)) [
           | inl has ↦ rw (has, copy_gone p has) (λ i. sym (get_or-alike 1024 i 0))
           | inr hasnt ↦ rw (hasnt, copy_left p hasnt) (was hasnt)
         ]
 
-    copied_rest : (p : ℕ) → (has_page p r ≡ false → IsCopied old p) → IsCopied new p
+    copied_rest : (p : ℕ) → (in_range first len p ≡ false → IsCopied old p) → IsCopied new p
     copied_rest p was =
-        elim (cases_Bool (has_page p r)) [
+        elim (cases_Bool (in_range first len p)) [
           | inl has ↦ record { words = zero_words; known = copy_gone p has; equal = λ i. word_gone p i has ∙ sym (get_or-alike 1024 i 0) }
           | inr hasnt ↦
               let is = was hasnt in record {
@@ -430,6 +491,51 @@ module _ (old new : Kept) (page : ℕ) (r : Region) (goes_away : DropsRegion old
                 equal = λ i. word_left p i hasnt ∙ is.equal i;
               }
         ]
+
+  -- so each page is what the flat memory says
+  module _ (st after : SpaceState) (s : StandsFor old st) (dropped : HasDropped st after first len) where
+    dirty_then : (p : ℕ) → after.flat.dirty p ≡ dirty_at new p
+    dirty_then p = dropped.dirty p ∙ dirty_rest (st.flat.dirty p) p (λ hasnt. s.beside.dirty p (gone.out_of p hasnt))
+
+    dropped_at : (p : ℕ) → BesideAt false new after p
+    dropped_at p =
+        record {
+          dirty = λ _. dirty_then p;
+          words = λ told _ i.
+              let w = s.beside.told (sym dropped.told ∙ told) in
+              dropped.words p i ∙ word_rest w.tells (st.flat.words p i) p i (λ hasnt. w.words p i (gone.out_of p hasnt));
+          copies = λ told _ _.
+              let w = s.beside.told (sym dropped.told ∙ told) in
+              rw (dropped.copies p) (copies_rest w.tells (st.flat.copies p) p
+              (λ hasnt. w.copies p (gone.out_of p hasnt) (ap (is_that p) gone.none_paged)));
+          copied = λ told _ behind.
+              let w = s.beside.told (sym dropped.told ∙ told) in
+              let level : (dirty_at old p && not (is_that p old.paged)) ≡ false =
+              rw (sym (dirty_kept p), gone.none_paged) (rw paged_then at behind) in
+              copied_rest w.tells p (λ hasnt. w.copied p (gone.out_of p hasnt) level);
+          tied = λ i word said settled.
+              gone.word p i ∙ s.beside.tied p i word (sym (dropped.tied p i) ∙ said) (sym (settled_rest p) ∙ settled);
+          untied = λ i pending. absurd (true≢false (sym pending ∙ ap (is_that p) pending_then));
+        }
+
+-- A region goes.
+module _ (old new : Kept) (page : ℕ) (r : Region) (goes_away : DropsRegion old new page r) where
+  abbrev forgets : Forgets r.first r.length old.table new.table
+  forgets = goes_away.loses.forgets
+
+  pages_go : DropsPages old new r.first r.length
+  pages_go =
+      record {
+        none = goes_away.loses.none;
+        none_pending = goes_away.none_pending;
+        none_paged = goes_away.none_paged;
+        out_of = λ p hasnt. ap (λ (o : Option PageRange). is_in o p) goes_away.cleared ∙ hasnt;
+        pending = ap (λ (k : Kept). k.pending) goes_away.same;
+        paged = ap (λ (k : Kept). k.paged) goes_away.same;
+        mapping = forgets.mapping;
+        word = forgets.word;
+        drops = goes_away.drops;
+      }
 
   -- in each state that the space stood for
   module _ (mapped : AreMapped new.regions new.table) (st : SpaceState) (s : StandsFor old st) where
@@ -460,30 +566,14 @@ module _ (old new : Kept) (page : ℕ) (r : Region) (goes_away : DropsRegion old
       abbrev unmapped : SpaceState
       unmapped = space_after st (answer_entry c n (Unmap old.number page) done)
 
-      dirty_then : (p : ℕ) → unmapped.flat.dirty p ≡ dirty_at new p
-      dirty_then p =
-          ap (λ o. if goes o p then false else st.flat.dirty p) found_then
-          ∙ dirty_rest (st.flat.dirty p) p (λ hasnt. s.beside.dirty p (out_of p hasnt))
-
-      unmapped_at : (p : ℕ) → BesideAt false new unmapped p
-      unmapped_at p =
+      has_dropped : HasDropped st unmapped r.first r.length
+      has_dropped =
           record {
-            dirty = λ _. dirty_then p;
-            words = λ told _ i.
-                let w = s.beside.told told in
-                ap (λ o. if goes o p then 0 else st.flat.words p i) found_then
-                ∙ word_rest w.tells (st.flat.words p i) p i (λ hasnt. w.words p i (out_of p hasnt));
-            copies = λ told _ _.
-                let w = s.beside.told told in
-                rw found_then (copies_rest w.tells (st.flat.copies p) p
-                (λ hasnt. w.copies p (out_of p hasnt) (ap (is_that p) goes_away.none_paged)));
-            copied = λ told _ behind.
-                let w = s.beside.told told in
-                let level : (dirty_at old p && not (is_that p old.paged)) ≡ false =
-                rw (sym (dirty_kept p), goes_away.none_paged) (rw paged_then at behind) in
-                copied_rest w.tells p (λ hasnt. w.copied p (out_of p hasnt) level);
-            tied = λ i word said settled. forgets.word p i ∙ s.beside.tied p i word said (sym (settled_rest p) ∙ settled);
-            untied = λ i pending. absurd (true≢false (sym pending ∙ ap (is_that p) pending_then));
+            dirty = λ p. ap (λ o. if goes o p then false else st.flat.dirty p) found_then;
+            words = λ p i. ap (λ o. if goes o p then 0 else st.flat.words p i) found_then;
+            copies = λ p. ap (λ o. if goes o p then Some (λ i. 0) else st.flat.copies p) found_then;
+            tied = λ p i. refl;
+            told = refl;
           }
 
       unmap_stands : StandsFor new unmapped
@@ -494,14 +584,17 @@ module _ (old new : Kept) (page : ℕ) (r : Region) (goes_away : DropsRegion old
           subst (λ (rs : List Region). AreRights rs (own_in new.table) st.flat.rights) (sym regions_are)
           (unmap_rights old.regions page r (own_in old.table) (own_in new.table)
           (loses_rights old new.table page r goes_away.loses) st.flat.rights s.beside.rights) in
-          let base : (p : ℕ) → unmapped.base p ≡ frame_at new p = λ p. s.base p ∙ sym (frame_kept p) in
+          let base : (p : ℕ) → unmapped.base p ≡ frame_at new p = λ p.
+          s.base p ∙ sym (frame_kept old new r.first r.length pages_go p) in
           let pages : (p : ℕ) → pages_of unmapped p ≡ mapping_in new.table p = λ p.
-          pages_from new unmapped p regions_then (rights_then p) (base p) (λ m is. dirty_then p) (mapped p) in
+          pages_from new unmapped p regions_then (rights_then p) (base p)
+          (λ m is. dirty_then old new r.first r.length pages_go st unmapped s has_dropped p) (mapped p) in
           record {
             beside =
                 subst (λ (o : Option PageRange). StandsBeside (is_in o) new unmapped) (sym (ap (λ (k : Kept). k.clearing) goes_away.same))
                 (beside_each (is_in None) new unmapped regions_then rights_then (λ told. goes_away.drops.tells ∙ (s.beside.told told).tells)
-                (omega (arith, s.beside.highest, goes_away.drops.faults)) unmapped_at);
+                (omega (arith, s.beside.highest, goes_away.drops.faults))
+                (dropped_at old new r.first r.length pages_go st unmapped s has_dropped));
             base = base;
             pages = pages;
             translates = stays old new st unmapped c
@@ -529,10 +622,121 @@ module _ (old new : Kept) (page : ℕ) (r : Region) (goes_away : DropsRegion old
         unwritten = goes_away.unwritten;
         unfailed = goes_away.drops.faults;
         resting = record {
-          none_pending = pending_then;
+          none_pending = pending_then old new r.first r.length pages_go;
           none_clearing = ap (λ (k : Kept). k.clearing) goes_away.same;
-          none_paged = paged_then;
+          none_paged = paged_then old new r.first r.length pages_go;
         };
         allowed = λ st s c n q found next. unmap_allowed mapped st s c n q found next;
         stands = λ st s c n. unmap_stands mapped st s c n;
+      }
+
+-- no page outside of the range is being cleared, where that range alone may be
+out_of_range : (clearing : Option PageRange) (first len : ℕ) → ForSome clearing (λ r. r ≡ range_of first len)
+    → (p : ℕ) → in_range first len p ≡ false → is_in clearing p ≡ false
+out_of_range None first len this p hasnt = refl
+out_of_range (Some r) first len this p hasnt = ap (λ (x : PageRange). in_range x.first x.length p) (this r refl) ∙ hasnt
+
+-- The pages of a range within a region that isn't wired go, and the region stays.
+pub record DropsRange (old new : Kept) (page len : ℕ) : Type 0 where
+  pub may : discard_reply old.regions page len ≡ Done
+  pub none : (p : ℕ) → in_range page len p ≡ true → frame_at old p ≡ None
+  pub none_pending : old.pending ≡ None
+  pub none_paged : old.paged ≡ None
+  pub no_other : ForSome old.clearing (λ r. r ≡ range_of page len)
+  pub drops : DropsCopies page len old.store new.store
+  pub unread : new.reads ≡ old.reads
+  pub unwritten : new.writes ≡ old.writes
+  pub same : new ≡ record old { clearing = None; store = new.store; reads = new.reads; writes = new.writes }
+
+module _ (old new : Kept) (page len : ℕ) (goes_away : DropsRange old new page len) where
+  range_goes : DropsPages old new page len
+  range_goes =
+      record {
+        none = goes_away.none;
+        none_pending = goes_away.none_pending;
+        none_paged = goes_away.none_paged;
+        out_of = out_of_range old.clearing page len goes_away.no_other;
+        pending = ap (λ (k : Kept). k.pending) goes_away.same;
+        paged = ap (λ (k : Kept). k.paged) goes_away.same;
+        mapping = λ p. ap (λ (k : Kept). mapping_in k.table p) goes_away.same;
+        word = λ p i. ap (λ (k : Kept). word_in k.table p i) goes_away.same;
+        drops = goes_away.drops;
+      }
+
+  same_region : SameRegions old new
+  same_region =
+      same_regions old new (ap (λ (k : Kept). k.number) goes_away.same) (ap (λ (k : Kept). k.frames) goes_away.same)
+      (ap (λ (k : Kept). length k.images) goes_away.same) (ap (λ (k : Kept). k.regions) goes_away.same)
+      (λ p. ap (λ (k : Kept). own_in k.table p) goes_away.same)
+
+  -- in each state that the space stood for
+  module _ (mapped : AreMapped new.regions new.table) (st : SpaceState) (s : StandsFor old st) where
+    discarded_then : discard_reply st.flat.regions page len ≡ Done
+    discarded_then = ap (λ rs. discard_reply rs page len) s.beside.regions ∙ goes_away.may
+
+    module _ (c n : ℕ) where
+      abbrev discarded : SpaceState
+      discarded = space_after st (answer_entry c n (Discard old.number page len) done)
+
+      has_discarded : HasDropped st discarded page len
+      has_discarded =
+          record {
+            dirty = λ p. ap (λ r. if is_lawful r && in_range page len p then false else st.flat.dirty p) discarded_then;
+            words = λ p i. ap (λ r. if is_lawful r && in_range page len p then 0 else st.flat.words p i) discarded_then;
+            copies = λ p. ap (λ r. if is_lawful r && in_range page len p then Some (λ i. 0) else st.flat.copies p) discarded_then;
+            tied = λ p i. refl;
+            told = refl;
+          }
+
+      discard_stands : StandsFor new discarded
+      discard_stands =
+          let regions_then : discarded.flat.regions ≡ new.regions = s.beside.regions ∙ sym same_region.regions in
+          let rights_then : (p : ℕ) → is_some (region_at new.regions p) ≡ true → discarded.flat.rights p ≡ rights_at new p =
+          λ p has. s.beside.rights p (ap (λ rs. is_some (region_at rs p)) (sym same_region.regions) ∙ has) ∙ sym (same_region.rights p) in
+          let base : (p : ℕ) → discarded.base p ≡ frame_at new p = λ p. s.base p ∙ sym (frame_kept old new page len range_goes p) in
+          let pages : (p : ℕ) → pages_of discarded p ≡ mapping_in new.table p = λ p.
+          pages_from new discarded p regions_then (rights_then p) (base p)
+          (λ m is. dirty_then old new page len range_goes st discarded s has_discarded p) (mapped p) in
+          record {
+            beside =
+                subst (λ (o : Option PageRange). StandsBeside (is_in o) new discarded) (sym (ap (λ (k : Kept). k.clearing) goes_away.same))
+                (beside_each (is_in None) new discarded regions_then rights_then (λ told. goes_away.drops.tells ∙ (s.beside.told told).tells)
+                (omega (arith, s.beside.highest, goes_away.drops.faults))
+                (dropped_at old new page len range_goes st discarded s has_discarded));
+            base = base;
+            pages = pages;
+            translates = stays old new st discarded c
+                (record {
+                  stands = s;
+                  follows = record { sizes = refl; images = refl; promotions = refl; demotions = refl };
+                  pages = pages;
+                })
+                (record {
+                  sizes = ap (λ (k : Kept). k.table.sizes) goes_away.same;
+                  images = ap (λ (k : Kept). k.images) goes_away.same;
+                  promotions = ap (λ (k : Kept). k.promotions) goes_away.same;
+                  demotions = ap (λ (k : Kept). k.demotions) goes_away.same;
+                }) range_goes.mapping;
+          }
+
+  pub discards : AreMapped new.regions new.table → Discarded old new page len done
+  discards mapped =
+      record {
+        done = refl;
+        same = record { same = same_region; frame = frame_kept old new page len range_goes };
+        unread = goes_away.unread;
+        unwritten = goes_away.unwritten;
+        unfailed = goes_away.drops.faults;
+        resting = record {
+          none_pending = pending_then old new page len range_goes;
+          none_clearing = ap (λ (k : Kept). k.clearing) goes_away.same;
+          none_paged = paged_then old new page len range_goes;
+        };
+        allowed = λ st s c n. record {
+          reply = (discarded_then mapped st s, λ l p has. s.base p ∙ goes_away.none p has);
+          parts = refl;
+          hit = refl;
+          size = refl;
+        };
+        stands = λ st s c n. discard_stands mapped st s c n;
       }

@@ -3,7 +3,7 @@ use Rattle.std.proofs.Common.{◌≡◌, ◌≢◌, ℕ, Bool, true, false, if�
 use Rattle.std.proofs.lemmas.Bool.{cond-false, true≢false, and_parts}
 use Rattle.std.proofs.lemmas.Option.{none-some, same_Some}
 use Rattle.pager_model.specs.declared.call.Call.{Call}
-use Rattle.pager_model.specs.declared.call.Call.TheVariants.{Map, Grow, Unmap, Protect, Load, Store, Sync, Evict}
+use Rattle.pager_model.specs.declared.call.Call.TheVariants.{Map, Grow, Unmap, Protect, Load, Store, Sync, Evict, Discard, Wire, Unwire}
 use Rattle.pager_model.specs.declared.entry.What.TheVariants.{Answer}
 use Rattle.pager_model.specs.declared.region.Region.{Region}
 use Rattle.pager_model.specs.declared.reply.Reply.{Reply}
@@ -11,7 +11,7 @@ use Rattle.pager_model.specs.declared.reply.Reply.TheVariants.{Done, Unmapped, D
 use Rattle.pager_model.specs.declared.tile.Tile.{Tile}
 use Rattle.pager_model.specs.Images.{is_in_image, images_with}
 use Rattle.pager_model.specs.Flat.{Flat, reply_of, is_lawful, after_call, access_reply, page_of, can_read, can_write}
-use Rattle.pager_model.specs.Order.{is_plain, is_no_memory, is_unmapped, is_answered_alone}
+use Rattle.pager_model.specs.Order.{is_plain, is_no_memory, is_unmapped, is_answered_alone, is_refusal as is_denial}
 use Rattle.pager_model.specs.Regions.{region_at, map_reply, grow_reply, grow_reply_at, rights_by}
 use Rattle.pager_model.specs.SpaceStates.{SpaceState, answered_flat, ReplyAllowed, access_page, pages_of, pages_after, tile_at, space_after}
 use Rattle.pager_model.proofs.SpaceEntries.{base-unnamed, frees-unlawful, said-unlawful, served-unlawful}
@@ -73,9 +73,12 @@ plain_refusal NotGrowing h = refl
 plain_refusal RegionsFull h = refl
 plain_refusal r h = cc
 
--- an unmap is refused by one reply alone
+-- an unmap and a wire are refused by one reply alone, a discard and an unwire by two
 abbrev pub IsAlone : Call → Reply → Type 0
 IsAlone (Unmap space page) r = r ≡ Unmapped
+IsAlone (Discard space page len) r = is_denial r ≡ true
+IsAlone (Wire space page) r = r ≡ Unmapped
+IsAlone (Unwire space page) r = is_denial r ≡ true
 IsAlone call r = Unit {0}
 
 alone_from : (call : Call) (r : Reply) → CanBegin call → is_refusal r ≡ true → IsAlone call r → is_answered_alone call r ≡ true
@@ -87,6 +90,9 @@ alone_from (Load space address) r can h a = plain_refusal r h
 alone_from (Store space address word) r can h a = plain_refusal r h
 alone_from (Sync space page) r can h a = ap (λ b. b || is_no_memory r) (plain_refusal r h)
 alone_from (Evict space page) r can h a = ap (λ b. b || is_no_memory r) (plain_refusal r h)
+alone_from (Discard space page len) r can h a = a
+alone_from (Wire space page) r can h a = ap is_unmapped a
+alone_from (Unwire space page) r can h a = a
 
 no_memory_refused : (r : Reply) → is_refusal r ≡ true → r ≢ NoMemory
 no_memory_refused r h e = true≢false (sym h ∙ ap is_refusal e)

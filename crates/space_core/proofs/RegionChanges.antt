@@ -1,33 +1,37 @@
--- What becomes of a space when a region is mapped, grows, or gets new rights, and what an unmap needs first.
-use Rattle.std.proofs.Common.{◌≡◌, ℕ, ◌+◌, true, false, ◌&&◌, if◌then◌else◌, List, Option, Some, None, is_some, option_map, nat_le, refl, sym, ap, inl, inr, ◌∙◌, arith, subst}
-use Rattle.std.proofs.lemmas.Bool.{cases_Bool, cond-true, cond-false}
+-- What becomes of a space when a region is mapped, grows, is pinned, or gets new rights, and what an unmap, a discard, a wire and an unwire
+-- need first.
+use Rattle.std.proofs.Common.{◌≡◌, ℕ, ◌+◌, ◌≤◌, Bool, true, false, ◌&&◌, if◌then◌else◌, List, Option, Some, None, is_some, option_map, nat_le, refl, sym, ap, inl, inr, ◌∙◌, arith, subst}
+use Rattle.std.proofs.lemmas.Bool.{cases_Bool, cond-true, cond-false, le-leb, true≢false}
 use Rattle.std.proofs.lemmas.Bool.Decides.{nat_tests}
 use Rattle.std.proofs.lemmas.Option.{none-some, same_Some}
 use Rattle.pager_model.specs.declared.call.Call.{Call}
-use Rattle.pager_model.specs.declared.call.Call.TheVariants.{Map, Grow, Unmap, Protect}
+use Rattle.pager_model.specs.declared.call.Call.TheVariants.{Map, Grow, Unmap, Protect, Discard, Wire, Unwire}
 use Rattle.pager_model.specs.declared.entry.What.TheVariants.{Answer}
 use Rattle.pager_model.specs.declared.region.Kind.{Kind}
 use Rattle.pager_model.specs.declared.page_range.PageRange.{PageRange}
 use Rattle.pager_model.specs.declared.region.Region.{Region}
 use Rattle.pager_model.specs.declared.region.Rights.{Rights}
+use Rattle.pager_model.specs.declared.region.Rights.TheVariants.{NoAccess}
 use Rattle.pager_model.specs.declared.reply.Answered.{Answered}
 use Rattle.pager_model.specs.declared.reply.Reply.TheVariants.{Done}
 use Rattle.pager_model.specs.declared.tile.Mapping.{Mapping}
 use Rattle.pager_model.specs.CallEntries.{answer_entry}
+use Rattle.pager_model.specs.Bounds.{space_pages}
+use Rattle.pager_model.specs.Flat.{is_lawful}
 use Rattle.pager_model.specs.Options.{is_that}
 use Rattle.pager_model.specs.Order.{is_answered_alone}
-use Rattle.pager_model.specs.Regions.{end_of, in_range, region_at, with_region, grown_regions, map_reply, grow_reply, range_in, rights_by}
-use Rattle.pager_model.specs.SpaceStates.{SpaceState, WhatAllowed, pages_of, space_after}
+use Rattle.pager_model.specs.Regions.{end_of, in_range, region_at, with_region, grown_regions, pinned_regions, map_reply, grow_reply, wire_reply, unwire_reply, discard_reply, range_in, rights_by, is_wired_kind}
+use Rattle.pager_model.specs.SpaceStates.{SpaceState, WhatAllowed, IsPinnedAt, IsRegionOf, MayPin, pages_of, space_after}
 use Rattle.pager_model.specs.Stored.{copy_at}
-use Rattle.region_table.specs.Table.{IsTable, region_of}
-use Rattle.space_core.specs.Beginning.{BeginsAnswered, BeginsClearing}
+use Rattle.region_table.specs.Table.{IsTable, pin_reply, region_of}
+use Rattle.space_core.specs.Beginning.{BeginsAnswered, BeginsClearing, BeginsPinning, Pinned, pinning_call}
 use Rattle.space_core.specs.Keeping.{IsMapped}
 use Rattle.space_core.specs.Pages.{Protects}
 use Rattle.space_core.specs.Standing.{Kept, StandsBeside, StandsFor, IsResting, frame_at, dirty_at, rights_at, is_in}
 use Rattle.space_core.specs.Tables.{Table, mapping_in, word_in, own_in}
 use Rattle.pager_model.proofs.Ranges.{bounds_in}
 use Rattle.pager_laws.proofs.RegionReplies.{Grows, none_meets}
-use Rattle.region_table.proofs.RegionRights.{AreRights, Gains, LiesInRegion, OwnRightsIn, gains_rights, grow_gains, map_gains, protect_rights, rights_alike, start_of, started}
+use Rattle.region_table.proofs.RegionRights.{AreRights, Gains, LiesInRegion, OwnRightsIn, gains_rights, grow_gains, map_gains, none_in_empty, pin_gains, protect_rights, rights_alike, start_of, started}
 use Rattle.region_table.proofs.RegionSearch.{found_from, found_same}
 use Rattle.space_core.specs.Translating.{ChangesPages, Retouches}
 use Rattle.space_core.proofs.SameView.{SameAt, SameStateAt, beside_each, none_in, same_at, with_pages_of}
@@ -41,21 +45,54 @@ pub begins_clearing : (old : Kept) (page : ℕ) (r : Region) → IsTable old.reg
     → BeginsClearing old old (Unmap old.number page) r.first r.length
 begins_clearing old page r ordered h =
     let found = found_from 0 old.regions ordered.in_order page r h in
+    let at_first : region_at old.regions r.first ≡ Some r = found_same 0 old.regions ordered.in_order page r h r.first
+    (bounds_in r.first r.length r.first (omega arith) (omega (arith, found.some))) in
     record {
       same = refl;
-      unmapping = record {
-        space = old.number;
-        page = page;
-        is_unmap = refl;
-        region = r;
-        at = h;
-        first_is = refl;
-        length_is = refl;
+      clears = record {
         in_space = found.in_space;
-        at_first = found_same 0 old.regions ordered.in_order page r h r.first
-            (bounds_in r.first r.length r.first (omega arith) (omega (arith, found.some)));
+        within = ap (range_in r.first r.length) at_first ∙ le-leb (end_of r) (end_of r) (omega arith);
+        is_for = subst (λ (o : Option Region). IsRegionOf o r.first r.length) (sym h) (refl, refl);
       };
     }
+
+-- a discard that isn't refused
+pub begins_discarding : (old : Kept) (page len : ℕ) (r : Region) → IsTable old.regions → region_at old.regions page ≡ Some r
+    → page + len ≤ end_of r → discard_reply old.regions page len ≡ Done
+    → BeginsClearing old old (Discard old.number page len) page len
+begins_discarding old page len r ordered at fits may =
+    record {
+      same = refl;
+      clears = record {
+        in_space = omega (arith, fits, (found_from 0 old.regions ordered.in_order page r at).in_space);
+        within = ap (range_in page len) at ∙ le-leb (page + len) (end_of r) fits;
+        is_for = (refl, refl, may);
+      };
+    }
+
+-- a wire, or an unwire of a region that isn't wired by its kind
+module _ (old : Kept) (page : ℕ) (r : Region) (ordered : IsTable old.regions) (at : region_at old.regions page ≡ Some r) where
+  pinned_here : (wired : Bool) → (wired ≡ false → is_wired_kind r.kind ≡ false)
+      → (r.first + r.length ≤ space_pages) × MayPin (region_at old.regions r.first) r.first r.length wired
+      × MayPin (region_at old.regions page) r.first r.length wired
+  pinned_here wired may =
+      let found = found_from 0 old.regions ordered.in_order page r at in
+      let at_first : region_at old.regions r.first ≡ Some r = found_same 0 old.regions ordered.in_order page r at r.first
+      (bounds_in r.first r.length r.first (omega arith) (omega (arith, found.some))) in (
+        found.in_space,
+        subst (λ (o : Option Region). MayPin o r.first r.length wired) (sym at_first) (refl, refl, may),
+        subst (λ (o : Option Region). MayPin o r.first r.length wired) (sym at) (refl, refl, may),
+      )
+
+  pub begins_wiring : BeginsPinning old old (Wire old.number page) r.first r.length true
+  begins_wiring =
+      let here = pinned_here true (λ off. absurd (true≢false off)) in
+      record { same = refl; pins = record { in_space = here.0; may = here.1; is_for = (refl, here.2) } }
+
+  pub begins_unwiring : is_wired_kind r.kind ≡ false → BeginsPinning old old (Unwire old.number page) r.first r.length false
+  begins_unwiring may =
+      let here = pinned_here false (λ _. may) in
+      record { same = refl; pins = record { in_space = here.0; may = here.1; is_for = (refl, here.2) } }
 
 -- what is kept of regions that changed, where no page is pending and no range is being cleared
 pub changed_kept : (old : Kept) (changed : List Region) (u : Table) (clearing : Option PageRange) (scan scan' : ℕ) → IsKeptAt old scan
@@ -239,6 +276,83 @@ grows_region old page by resting ordered asked grows owned said c =
         follows = record { sizes = refl; images = refl; promotions = refl; demotions = refl };
       },
     ))
+
+-- the region that has the page is pinned, or is no longer
+module _ (old : Kept) (page : ℕ) (pinned : Bool) (resting : IsResting old) (may : pin_reply pinned old.regions page ≡ Done)
+    (owned : OwnRightsIn old.regions (own_in old.table)) (said : AreMapped old.regions old.table) where
+  abbrev pub repinned : Kept
+  repinned = record old { regions = pinned_regions page pinned old.regions }
+
+  repinned_given : GivesRights old repinned 0 0 NoAccess
+  repinned_given = gains_given old repinned.regions 0 0 NoAccess (pin_gains old.regions page pinned) owned said
+
+  pinned_in : (st : SpaceState) (c n : ℕ) (b : Bool) → b ≡ pinned → StandsFor old st
+      → GivesIn st (space_after st (answer_entry c n (pinning_call b old.number page) done)) c repinned.regions 0 0 NoAccess
+  pinned_in st c n true is s =
+      record {
+        regions_are = ap (pinned_regions page true) s.beside.regions ∙ ap (λ b. pinned_regions page b old.regions) is;
+        rights_then = λ p. sym (cond-false _ _ _ (none_in_empty p));
+        told = refl;
+        same = λ p. record { dirty = refl; words = λ i. refl; copies = refl; tied = λ i. refl };
+        base = λ p. refl;
+        highest = refl;
+        follows = record { sizes = refl; images = refl; promotions = refl; demotions = refl };
+      }
+  pinned_in st c n false is s =
+      let lawful : is_lawful (unwire_reply st.flat.regions page) ≡ true =
+      ap (λ rs. is_lawful (unwire_reply rs page)) s.beside.regions
+      ∙ ap (λ b. is_lawful (pin_reply b old.regions page)) is ∙ ap is_lawful may in
+      record {
+        regions_are =
+            cond-true _ _ _ lawful ∙ ap (pinned_regions page false) s.beside.regions
+            ∙ ap (λ b. pinned_regions page b old.regions) is;
+        rights_then = λ p. sym (cond-false _ _ _ (none_in_empty p));
+        told = refl;
+        same = λ p. record { dirty = refl; words = λ i. refl; copies = refl; tied = λ i. refl };
+        base = λ p. refl;
+        highest = refl;
+        follows = record { sizes = refl; images = refl; promotions = refl; demotions = refl };
+      }
+
+  pinned_allowed : (st : SpaceState) → StandsFor old st → (c n : ℕ) (b : Bool) → b ≡ pinned → IsPinnedAt st c b (region_at old.regions page)
+      → WhatAllowed st false c (Answer n (pinning_call b old.number page) done)
+  pinned_allowed st s c n true is here =
+      record {
+        reply = (
+          ap (λ rs. wire_reply rs page) s.beside.regions ∙ ap (λ b. pin_reply b old.regions page) is ∙ may,
+          λ l. subst (λ (rs : List Region). IsPinnedAt st c true (region_at rs page)) (sym s.beside.regions) here,
+        );
+        parts = refl;
+        hit = refl;
+        size = refl;
+      }
+  pinned_allowed st s c n false is here =
+      record {
+        reply = (
+          ap (λ rs. unwire_reply rs page) s.beside.regions ∙ ap (λ b. pin_reply b old.regions page) is ∙ may,
+          λ l. subst (λ (rs : List Region). IsPinnedAt st c false (region_at rs page)) (sym s.beside.regions) here,
+        );
+        parts = refl;
+        hit = refl;
+        size = refl;
+      }
+
+  pub pins_region : Pinned old repinned page pinned done
+  pins_region =
+      record {
+        done = refl;
+        same_number = refl;
+        same_frames = refl;
+        same_processors = refl;
+        frame = λ p. refl;
+        unread = refl;
+        unwritten = refl;
+        unfailed = refl;
+        resting = record { none_pending = resting.none_pending; none_clearing = resting.none_clearing; none_paged = resting.none_paged };
+        allowed = λ st s c n here. pinned_allowed st s c n pinned refl here;
+        stands = λ st s c n. given_stands old repinned 0 0 NoAccess resting repinned_given st
+            (space_after st (answer_entry c n (pinning_call pinned old.number page) done)) c s (pinned_in st c n pinned refl s);
+      }
 
 -- the pages of a range within a region get rights
 module _ (regions : List Region) (t u : Table) (page len : ℕ) (given : Rights) (protects : Protects page len given t u) where

@@ -1,8 +1,8 @@
 -- What the calls of a space promise, for every state that the space stands for. None but a read of the pending page's copy reads the store, and how
 -- often it is written is a clause of each call that may write it.
-use Rattle.std.specs.Prelude.{ℕ, ◌≡◌, ◌≢◌, ◌+◌, ◌<◌, ◌≤◌, Bool, true, false, if◌then◌else◌, length, Some, None, IfSome}
+use Rattle.std.specs.Prelude.{ℕ, ◌≡◌, ◌≢◌, ◌+◌, ◌<◌, ◌≤◌, Bool, true, false, if◌then◌else◌, List, length, Some, None, IfSome}
 use Rattle.pager_model.specs.declared.call.Call.{Call}
-use Rattle.pager_model.specs.declared.call.Call.TheVariants.{Unmap, Evict}
+use Rattle.pager_model.specs.declared.call.Call.TheVariants.{Unmap, Evict, Discard, Wire, Unwire}
 use Rattle.pager_model.specs.declared.entry.Want.{Want}
 use Rattle.pager_model.specs.declared.entry.What.TheVariants.{Answer, Out, Failed, Give}
 use Rattle.pager_model.specs.declared.region.Region.{Region}
@@ -12,10 +12,10 @@ use Rattle.pager_model.specs.declared.reply.Reply.TheVariants.{Done, Clean, Writ
 use Rattle.pager_model.specs.Flat.{reply_of, is_lawful}
 use Rattle.pager_model.specs.Order.{is_answered_alone, is_served}
 use Rattle.pager_model.specs.PreferredSize.{IsWanted}
-use Rattle.pager_model.specs.Regions.{in_range, region_at, wanted}
-use Rattle.pager_model.specs.SpaceStates.{SpaceState, AfterClear, space_after, access_page, Rises, WhatAllowed}
+use Rattle.pager_model.specs.Regions.{in_range, region_at, wanted, range_in, discard_reply}
+use Rattle.pager_model.specs.SpaceStates.{SpaceState, AfterClear, space_after, access_page, Rises, WhatAllowed, IsRegionOf, MayPin, IsPinnedAt}
 use Rattle.space_core.specs.declared.space.Begun.{Begun}
-use Rattle.space_core.specs.declared.space.Begun.TheVariants.{Answered as HasAnswered, NeedsFrame, NeedsClear, NeedsEvict, Failed as HasFailed}
+use Rattle.space_core.specs.declared.space.Begun.TheVariants.{Answered as HasAnswered, NeedsFrame, NeedsClear, NeedsPin, NeedsEvict, Failed as HasFailed}
 use Rattle.space_core.specs.declared.space.Found.{Found}
 use Rattle.space_core.specs.declared.space.Found.TheVariants.{Refused, Absent, Resident}
 use Rattle.space_core.specs.Standing.{Kept, StandsFor, StandsBut, IsResting, MustWrite, range_of, frame_at, rights_at, dirty_at, is_allowed, is_unwired, copied_page}
@@ -103,23 +103,39 @@ Finds kept call page (Refused reply) = NeedsNoFrame kept call × (IsResting kept
 Finds kept call page (Absent want) = NeedsItsFrame kept call page want
 Finds kept call page (Resident found) = (is_allowed kept call ≡ true) × IfSome (access_page call) (λ p. IsMappedBy kept p found)
 
--- the region that the unmap of a page is of, with this range
-pub record IsUnmapping (kept : Kept) (call : Call) (first len : ℕ) : Type 0 where
-  pub space : ℕ
-  pub page : ℕ
-  pub is_unmap : call ≡ Unmap space page
-  pub region : Region
-  pub at : region_at kept.regions page ≡ Some region
-  -- no other region comes before it there
-  pub at_first : region_at kept.regions first ≡ Some region
-  pub first_is : region.first ≡ first
-  pub length_is : region.length ≡ len
-  pub in_space : first + len ≤ space_pages
+-- the call is an unmap of the region with this range, or a discard of the range that isn't refused
+abbrev pub ClearsFor : List Region → Call → ℕ → ℕ → Type 0
+ClearsFor regions (Unmap space page) first len = IsRegionOf (region_at regions page) first len
+ClearsFor regions (Discard space page n) first len = (page ≡ first) × (n ≡ len) × (discard_reply regions page n ≡ Done)
+ClearsFor regions call first len = ⊥
 
--- The call is an unmap of a region that is there. Nothing changed.
+-- The call needs the range cleared, which lies in one region.
+pub record IsToClear (kept : Kept) (call : Call) (first len : ℕ) : Type 0 where
+  pub in_space : first + len ≤ space_pages
+  pub within : range_in first len (region_at kept.regions first) ≡ true
+  pub is_for : ClearsFor kept.regions call first len
+
+-- It does, and nothing changed.
 pub record BeginsClearing (old new : Kept) (call : Call) (first len : ℕ) : Type 0 where
   pub same : new ≡ old
-  pub unmapping : IsUnmapping old call first len
+  pub clears : IsToClear old call first len
+
+-- the call is a wire of the region with this range, or an unwire of it that isn't refused
+abbrev pub PinsFor : List Region → Call → ℕ → ℕ → Bool → Type 0
+PinsFor regions (Wire space page) first len wired = (wired ≡ true) × MayPin (region_at regions page) first len wired
+PinsFor regions (Unwire space page) first len wired = (wired ≡ false) × MayPin (region_at regions page) first len wired
+PinsFor regions call first len wired = ⊥
+
+-- The call needs the frames of the range wired, or wired no longer, and isn't refused.
+pub record IsToPin (kept : Kept) (call : Call) (first len : ℕ) (wired : Bool) : Type 0 where
+  pub in_space : first + len ≤ space_pages
+  pub may : MayPin (region_at kept.regions first) first len wired
+  pub is_for : PinsFor kept.regions call first len wired
+
+-- It does, and nothing changed.
+pub record BeginsPinning (old new : Kept) (call : Call) (first len : ℕ) (wired : Bool) : Type 0 where
+  pub same : new ≡ old
+  pub pins : IsToPin old call first len wired
 
 -- The page is being evicted: it has a region that isn't wired, and a frame.
 pub record IsEvicting (kept : Kept) (page : ℕ) : Type 0 where
@@ -160,6 +176,7 @@ abbrev pub Begins : Kept → Kept → ℕ → Call → Begun → Type 0
 Begins old new c call (HasAnswered a) = BeginsAnswered old new c call a
 Begins old new c call (NeedsFrame page want) = BeginsNeedingFrame old new call page want
 Begins old new c call (NeedsClear first len) = BeginsClearing old new call first len
+Begins old new c call (NeedsPin first len wired) = BeginsPinning old new call first len wired
 Begins old new c call (NeedsEvict page) = BeginsEvicting old new call page
 Begins old new c call (HasFailed page count) = BeginsFailing old new call page count
 
@@ -259,8 +276,8 @@ pub record Evicts (old new : Kept) (page frame : ℕ) (a : Answered) : Type 0 wh
       (space_after st (evict_entry c number old.number page a))
 
 -- no page of the range is resident
-abbrev pub NoneResident : Kept → ℕ → ℕ → Type 0
-NoneResident kept first len = (p : ℕ) → in_range first len p ≡ true → frame_at kept p ≡ None
+abbrev pub AreAbsent : Kept → ℕ → ℕ → Type 0
+AreAbsent kept first len = (p : ℕ) → in_range first len p ≡ true → frame_at kept p ≡ None
 
 -- The lowest resident page of the range gave this frame up, and the space stands for the same list of entries but for the range.
 pub record ClearsOne (old new : Kept) (first len page frame : ℕ) : Type 0 where
@@ -273,7 +290,7 @@ pub record ClearsOne (old new : Kept) (first len page frame : ℕ) : Type 0 wher
 
 -- No page of the range is resident, and the space stands for one clearing more.
 pub record ClearsNone (old new : Kept) (first len : ℕ) : Type 0 where
-  pub none : NoneResident new first len
+  pub none : AreAbsent new first len
   pub clearing : new.clearing ≡ Some (range_of first len)
   pub same_pending : new.pending ≡ old.pending
   pub same_paged : new.paged ≡ old.paged
@@ -295,3 +312,37 @@ pub record Unmapped (old new : Kept) (page : ℕ) (a : Answered) : Type 0 where
       → st.next ≡ AfterClear c r.first r.length → WhatAllowed st false c (Answer number (Unmap old.number page) a)
   pub stands : (st : SpaceState) → StandsFor old st → (c number : ℕ) → StandsFor new
       (space_after st (answer_entry c number (Unmap old.number page) a))
+
+-- The pages of the range, of which none was resident, are new but for their rights.
+pub record Discarded (old new : Kept) (page len : ℕ) (a : Answered) : Type 0 where
+  pub done : a.reply ≡ Done
+  pub same : SameFrames old new
+  pub unread : new.reads ≡ old.reads
+  pub unwritten : new.writes ≡ old.writes
+  pub unfailed : new.store.faults ≡ old.store.faults
+  pub resting : IsResting new
+  pub allowed : (st : SpaceState) → StandsFor old st → (c number : ℕ) → WhatAllowed st false c (Answer number (Discard old.number page len) a)
+  pub stands : (st : SpaceState) → StandsFor old st → (c number : ℕ) → StandsFor new
+      (space_after st (answer_entry c number (Discard old.number page len) a))
+
+-- the call that pins, or that leaves pinned no longer
+abbrev pub pinning_call : Bool → ℕ → ℕ → Call
+pinning_call true space page = Wire space page
+pinning_call false space page = Unwire space page
+
+-- The region that has the page is pinned, or is no longer, in each state in which the pin of its range was the last entry and this
+-- processor's.
+pub record Pinned (old new : Kept) (page : ℕ) (pinned : Bool) (a : Answered) : Type 0 where
+  pub done : a.reply ≡ Done
+  pub same_number : new.number ≡ old.number
+  pub same_frames : new.frames ≡ old.frames
+  pub same_processors : length new.images ≡ length old.images
+  pub frame : (p : ℕ) → frame_at new p ≡ frame_at old p
+  pub unread : new.reads ≡ old.reads
+  pub unwritten : new.writes ≡ old.writes
+  pub unfailed : new.store.faults ≡ old.store.faults
+  pub resting : IsResting new
+  pub allowed : (st : SpaceState) → StandsFor old st → (c number : ℕ) → IsPinnedAt st c pinned (region_at old.regions page)
+      → WhatAllowed st false c (Answer number (pinning_call pinned old.number page) a)
+  pub stands : (st : SpaceState) → StandsFor old st → (c number : ℕ) → StandsFor new
+      (space_after st (answer_entry c number (pinning_call pinned old.number page) a))

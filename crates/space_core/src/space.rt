@@ -1,14 +1,16 @@
 ghost use Rattle.std.specs.Prelude.{◌≡◌, ◌≢◌, ◌∷◌, [], length, map, ℕ, ◌+◌, ◌<◌, ◌≤◌, Bool, true, false, Some, None, IfOk, IfErr, IfSome, IfNone, IsSome};
+ghost use Rattle.std.specs.Option.{ForSome};
 ghost use Rattle.pager_model.specs.declared.region.Region.{Region as Item};
 ghost use Rattle.pager_model.specs.Flat.{page_of, space_of_call};
 ghost use Rattle.pager_model.specs.Order.{is_access};
 ghost use Rattle.pager_model.specs.Images.{is_in_image, still_tiles, touched};
-ghost use Rattle.pager_model.specs.Regions.{region_at, rights_by};
+ghost use Rattle.pager_model.specs.Regions.{region_at, rights_by, discard_reply, is_wired_kind};
+ghost use Rattle.region_table.specs.Table.{pin_reply};
 ghost use Rattle.pager_model.specs.Tiles.{tile_count_in};
 ghost use Rattle.pager_model.specs.SpaceStates.{empty_state, access_page};
 ghost use Rattle.pager_model.specs.Stored.{TellsZero};
 ghost use Rattle.space_core.specs.Beginning.{Begins, Finds, IsMappedBy, NeedsItsFrame, NeedsNoFrame, Places, ReadsIn, FailsToRead, Finishes, WritesOut, FailsToWrite, LeavesUnwritten, Removes, IsEvicting, Evicts, copied_reply};
-ghost use Rattle.space_core.specs.Beginning.{NoneResident, ClearsOne, ClearsNone, Unmapped};
+ghost use Rattle.space_core.specs.Beginning.{AreAbsent, ClearsOne, ClearsNone, Unmapped, Discarded, Pinned};
 ghost use Rattle.space_core.specs.Pages.{Maps};
 ghost use Rattle.space_core.specs.Saving.{Saves, FailsToSave, LacksRoom, HadMemory, unwritten_by};
 ghost use Rattle.space_core.specs.Standing.{Kept, StandsFor, IsResting, range_of, frame_at, dirty_at, image_at, is_allowed, must_write, one_more_if, CanBegin};
@@ -35,13 +37,30 @@ pub enum Begun {
     /// The whole answer, with its effect.
     Answered(Answered),
     /// A lawful load or store, whose page isn't resident.
-    NeedsFrame { page: u32, want: Want },
-    /// An unmap, whose region's pages have to give their frames up.
-    NeedsClear { first: u32, length: u32 },
+    NeedsFrame {
+        page: u32,
+        want: Want,
+    },
+    /// An unmap, whose region's pages have to give their frames up, or a discard, whose range's have to.
+    NeedsClear {
+        first: u32,
+        length: u32,
+    },
+    /// A wire or an unwire, whose region's frames have to be wired, or to be so no longer.
+    NeedsPin {
+        first: u32,
+        length: u32,
+        wired: bool,
+    },
     /// An evict of a page that has to give its frame up, and whose copy was written where it was dirty.
-    NeedsEvict { page: u32 },
+    NeedsEvict {
+        page: u32,
+    },
     /// A sync or an evict, where writing the page's copy failed; the store's count of faults is this now.
-    Failed { page: u32, count: u64 },
+    Failed {
+        page: u32,
+        count: u64,
+    },
 }
 
 /// What there is at the page of a load or a store.
@@ -179,6 +198,9 @@ impl<S: Store + Send + Drop> Space<S> {
             Call::Load { .. } | Call::Store { .. } => self.begin_access(processor, call),
             Call::Sync { page, .. } => self.begin_sync(page),
             Call::Evict { page, .. } => self.begin_evict(page),
+            Call::Discard { page, length, .. } => self.begin_discard(page, length),
+            Call::Wire { page, .. } => self.begin_wire(page),
+            Call::Unwire { page, .. } => self.begin_unwire(page),
         }
     }
 
@@ -294,14 +316,14 @@ impl<S: Store + Send + Drop> Space<S> {
         (self.take(page), answered(reply))
     }
 
-    /// The lowest resident page of a range, with its frame, which it gives up. `None` exactly where no page of the range is resident; where
-    /// a region has that range, the space then waits for its unmap.
+    /// The lowest resident page of a range, with its frame, which it gives up. `None` exactly where no page of the range is resident; the
+    /// space then waits for the unmap of the region that has that range, or for the discard of the range.
     pub fn clear_next(&mut self, range: PageRange) -> Option<(u32, Frame)>
         requires in_space { range.first + range.length ≤ space_pages }
         requires none_pending { self.old.pending ≡ None }
         ensures some { IfSome result (λ given. ClearsOne self.old self.new range.first range.length given.0 given.1.number) }
         ensures none { IfNone result (ClearsNone self.old self.new range.first range.length) }
-        ensures none_left { NoneResident self.old range.first range.length → result ≡ None }
+        ensures none_left { AreAbsent self.old range.first range.length → result ≡ None }
     {
         let from = self.begin_clearing(range);
         let end = range.first + range.length;
@@ -319,7 +341,7 @@ impl<S: Store + Send + Drop> Space<S> {
     pub fn unmap(&mut self, page: u32) -> Answered
         requires none_pending { self.old.pending ≡ None }
         requires none_paged { self.old.paged ≡ None }
-        requires cleared { (r : Item) × (region_at self.old.regions page ≡ Some r) × (self.old.clearing ≡ Some (range_of r.first r.length)) × NoneResident self.old r.first r.length }
+        requires cleared { (r : Item) × (region_at self.old.regions page ≡ Some r) × (self.old.clearing ≡ Some (range_of r.first r.length)) × AreAbsent self.old r.first r.length }
         ensures { Unmapped self.old self.new page result }
     {
         let Ok(region) = self.regions.unmap(page) else {
@@ -328,6 +350,33 @@ impl<S: Store + Send + Drop> Space<S> {
         self.table.forget_rights(region.first, region.length);
         self.store.drop_pages(region.first, region.length);
         self.clearing = None;
+        answered(Reply::Done)
+    }
+
+    /// Drops the copies of a range's pages, none of which is resident: they are new but for their rights. Where a range is being cleared,
+    /// it is this one.
+    pub fn discard(&mut self, page: u32, length: u32) -> Answered
+        requires none_pending { self.old.pending ≡ None }
+        requires none_paged { self.old.paged ≡ None }
+        requires no_other { ForSome self.old.clearing (λ r. r ≡ range_of page length) }
+        requires may { discard_reply self.old.regions page length ≡ Reply.Done }
+        requires absent { AreAbsent self.old page length }
+        ensures { Discarded self.old self.new page length result }
+    {
+        self.store.drop_pages(page, length);
+        self.clearing = None;
+        answered(Reply::Done)
+    }
+
+    /// Pins the region that has the page, or leaves it pinned no longer.
+    pub fn pin(&mut self, page: u32, pinned: bool) -> Answered
+        requires resting { IsResting self.old }
+        requires may { pin_reply pinned self.old.regions page ≡ Reply.Done }
+        ensures { Pinned self.old self.new page pinned result }
+    {
+        let Ok(_) = self.regions.pin(page, pinned) else {
+            unreachable!();
+        };
         answered(Reply::Done)
     }
 
@@ -394,6 +443,65 @@ impl<S: Store + Send + Drop> Space<S> {
                 length: region.length,
             },
             None => Begun::Answered(answered(Reply::Unmapped)),
+        }
+    }
+
+    /// Begins a discard, whose range's pages have to give their frames up first.
+    fn begin_discard(&mut self, page: u32, length: u32) -> Begun
+        requires resting { IsResting self.old }
+        requires can { CanBegin (Call.Discard self.old.number page length) }
+        ensures begins { (c : ℕ) → Begins self.old self.new c (Call.Discard self.old.number page length) result }
+        ensures unwritten { self.new.writes ≡ self.old.writes }
+    {
+        let Some(region) = self.regions.find(page) else {
+            return Begun::Answered(answered(Reply::Unmapped));
+        };
+        if page + length > region.first + region.length {
+            return Begun::Answered(answered(Reply::Unmapped));
+        }
+        if region.is_wired() {
+            return Begun::Answered(answered(Reply::Denied));
+        }
+        Begun::NeedsClear {
+            first: page,
+            length,
+        }
+    }
+
+    /// Begins a wire, whose region's frames have to be wired first.
+    fn begin_wire(&mut self, page: u32) -> Begun
+        requires resting { IsResting self.old }
+        requires can { CanBegin (Call.Wire self.old.number page) }
+        ensures begins { (c : ℕ) → Begins self.old self.new c (Call.Wire self.old.number page) result }
+        ensures unwritten { self.new.writes ≡ self.old.writes }
+    {
+        let Some(region) = self.regions.find(page) else {
+            return Begun::Answered(answered(Reply::Unmapped));
+        };
+        Begun::NeedsPin {
+            first: region.first,
+            length: region.length,
+            wired: true,
+        }
+    }
+
+    /// Begins an unwire, whose region's frames have to be wired no longer first.
+    fn begin_unwire(&mut self, page: u32) -> Begun
+        requires resting { IsResting self.old }
+        requires can { CanBegin (Call.Unwire self.old.number page) }
+        ensures begins { (c : ℕ) → Begins self.old self.new c (Call.Unwire self.old.number page) result }
+        ensures unwritten { self.new.writes ≡ self.old.writes }
+    {
+        let Some(region) = self.regions.find(page) else {
+            return Begun::Answered(answered(Reply::Unmapped));
+        };
+        if has_wired_kind(&region) {
+            return Begun::Answered(answered(Reply::Denied));
+        }
+        Begun::NeedsPin {
+            first: region.first,
+            length: region.length,
+            wired: false,
         }
     }
 
@@ -707,6 +815,13 @@ fn keep_untouched(images: &mut Images, table: &PageTable, range: PageRange)
     ensures { images.new ≡ map (untouched_tiles table.now.sizes range (mapping_in table.now)) images.old }
 {
     images.retain_in(range, |tile| table.is_tile(tile));
+}
+
+/// Whether the region is wired by its kind, and so stays wired.
+fn has_wired_kind(region: &Region) -> bool
+    ensures { result ≡ is_wired_kind region.now.kind }
+{
+    region.kind == Kind::Wired
 }
 
 /// Written where the page was dirty, and else clean.

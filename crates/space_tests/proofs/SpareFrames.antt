@@ -1,5 +1,5 @@
 -- What is left of the spare frames when the last of them is taken.
-use Rattle.std.proofs.Common.{◌≡◌, ℕ, ◌&&◌, is_some, false, Some, ◌+◌, ◌<◌, ◌≤◌, List, [], ◌∷◌, ◌++◌, length, map, get_or, refl, sym, ap, ◌∙◌, inl, inr, arith}
+use Rattle.std.proofs.Common.{◌≡◌, ℕ, ◌&&◌, is_some, false, Some, ◌+◌, ◌<◌, ◌≤◌, List, [], ◌∷◌, ◌++◌, length, map, get_or, refl, sym, ap, ◌∙◌, inl, inr, arith, subst}
 use Rattle.std.specs.List.{range_with_len}
 use Rattle.std.proofs.lemmas.Bool.{cases_eq}
 use Rattle.std.proofs.lemmas.Option.{none-some}
@@ -11,9 +11,10 @@ use Rattle.pager_model.specs.Regions.{region_at}
 use Rattle.pager_model.specs.SizeSets.{SizeSet}
 use Rattle.pager_model.specs.declared.call.Call.{Call}
 use Rattle.pager_model.specs.declared.call.Call.TheVariants.{Load, Store}
-use Rattle.pager_model.specs.SpaceStates.{SpaceState, empty_state}
-use Rattle.space_core.specs.Beginning.{GaveUp, SameRegions}
-use Rattle.space_tests.specs.Spares.{HasSpare}
+use Rattle.pager_model.specs.CallEntries.{clear_entry}
+use Rattle.pager_model.specs.SpaceStates.{SpaceState, empty_state, space_after}
+use Rattle.space_core.specs.Beginning.{ClearsNone, ClearsOne, GaveUp, SameRegions}
+use Rattle.space_tests.specs.Spares.{HasSpare, IsEmptied, IsEmptying}
 use Rattle.space_core.specs.Standing.{Kept, StandsFor, IsResting, frame_at, is_allowed, rights_at}
 
 pub record IsPopped (spare rest : List Framed) (frame : Framed) : Type 0 where
@@ -101,3 +102,38 @@ allowed_same was now (Store space address word) same =
     ap (λ rs. is_some (region_at rs (page_of address)) && can_write (rights_at now (page_of address))) same.regions
     ∙ ap (λ r. is_some (region_at was.regions (page_of address)) && can_write r) (same.rights (page_of address))
 allowed_same was now call same = refl
+
+same_through : (old mid new : Kept) → SameRegions old mid → SameRegions mid new → SameRegions old new
+same_through old mid new first then =
+    record {
+      number = then.number ∙ first.number;
+      frames = then.frames ∙ first.frames;
+      processors = then.processors ∙ first.processors;
+      regions = then.regions ∙ first.regions;
+      rights = λ p. then.rights p ∙ first.rights p;
+    }
+
+-- the pages of a range give their frames up one after another, until none has one
+pub emptying_one : (old mid new : Kept) (first len page frame : ℕ) → IsEmptying old mid first len → ClearsOne mid new first len page frame
+    → IsEmptying old new first len
+emptying_one old mid new first len page frame so_far clears =
+    record {
+      same = same_through old mid new so_far.same clears.gave.same;
+      same_pending = clears.same_pending ∙ so_far.same_pending;
+      same_paged = clears.same_paged ∙ so_far.same_paged;
+      frames = λ p number has. so_far.frames p number (kept_others mid new page frame clears.gave p number has);
+      stands = λ st is. clears.stands st (so_far.stands st is);
+    }
+
+pub emptied : (old mid new : Kept) (first len : ℕ) → IsEmptying old mid first len → ClearsNone mid new first len → IsEmptied old new first len
+emptied old mid new first len so_far clears =
+    record {
+      same = same_through old mid new so_far.same clears.same.same;
+      same_pending = clears.same_pending ∙ so_far.same_pending;
+      same_paged = clears.same_paged ∙ so_far.same_paged;
+      clearing = clears.clearing;
+      none = clears.none;
+      frames = λ p number has. so_far.frames p number (sym (clears.same.frame p) ∙ has);
+      stands = λ st c is. subst (λ n. StandsFor new (space_after st (clear_entry c n first len))) so_far.same.number
+          (clears.stands st c (so_far.stands st is));
+    }

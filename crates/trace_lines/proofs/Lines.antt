@@ -1,15 +1,15 @@
 -- A line that a trace may hold has no fault.
 use Rattle.std.proofs.Common.{◌≡◌, ℕ, ◌^◌, ◌<◌, ◌≤◌, ◌%◌, Bool, true, false, ◌∷◌, Some, None, Ok, decimal, refl, arith, lit≤, inl, inr}
-use Rattle.std.proofs.lemmas.Bool.{eq-eqb, ne_eqb}
+use Rattle.std.proofs.lemmas.Bool.{eq-eqb, ne_eqb, le-ltb}
 use Rattle.pager_model.specs.declared.call.Call.{Call}
-use Rattle.pager_model.specs.declared.call.Call.TheVariants.{Map, Grow, Unmap, Protect, Load, Store, Sync, Evict}
+use Rattle.pager_model.specs.declared.call.Call.TheVariants.{Map, Grow, Unmap, Protect, Load, Store, Sync, Evict, Discard, Wire, Unwire}
 use Rattle.pager_model.specs.declared.call.Line.{Line}
 use Rattle.pager_model.specs.declared.region.Kind.{Kind}
 use Rattle.pager_model.specs.declared.region.Kind.TheVariants.{Fixed, Growing, Wired}
 use Rattle.pager_model.specs.declared.region.Rights.{Rights}
 use Rattle.pager_model.specs.declared.region.Rights.TheVariants.{NoAccess, Read, Write}
 use Rattle.pager_model.specs.declared.trace.Daemon.{Daemon}
-use Rattle.pager_model.specs.TraceText.{kind_word, rights_word, sizes_word, call_words, daemon_words, line_words, first_words, IsCall, IsDaemon, IsLine}
+use Rattle.pager_model.specs.TraceText.{kind_word, rights_word, sizes_word, call_words, daemon_words, line_words, first_words, HasLine, IsCall, IsDaemon, IsLine}
 use Rattle.trace_lines.specs.declared.line.Head.{Head}
 use Rattle.trace_lines.specs.Forms.{may_stand, any_kind, any_rights, any_sizes, number_in, leftmost, line_fault, first_forms, daemon_form, call_forms}
 use Rattle.trace_lines.specs.Heads.{IsInRange}
@@ -35,9 +35,9 @@ some_pages n low high = number_in_again 1 1 1048577 n (omega arith) low (omega a
 an_address : (n : ℕ) → n % 8 ≡ 0 → n < 8589934592 → number_in 8 0 8589934592 (decimal n) ≡ Ok n
 an_address n whole high = number_in_again 8 0 8589934592 n whole (omega arith) high (omega arith)
 
-call_is_lawful : (processors spaces processor : ℕ) (call : Call) → processors ≤ 2 ^ 64 → spaces ≤ 2 ^ 64 → processor < processors
-    → IsCall spaces call → line_fault (call_forms processors spaces) (decimal processor ∷ call_words call) ≡ None
-call_is_lawful processors spaces processor (Map space page len kind rights) few small of is =
+call_is_lawful : (version processors spaces processor : ℕ) (call : Call) → processors ≤ 2 ^ 64 → spaces ≤ 2 ^ 64 → processor < processors
+    → IsCall spaces call → HasLine version call → line_fault (call_forms version processors spaces) (decimal processor ∷ call_words call) ≡ None
+call_is_lawful version processors spaces processor (Map space page len kind rights) few small of is has =
     rw (
       kind_stands kind,
       rights_stand rights,
@@ -46,11 +46,11 @@ call_is_lawful processors spaces processor (Map space page len kind rights) few 
       below 1048576 page (lit≤ tt) is.1,
       some_pages len is.2 is.3,
     ) refl
-call_is_lawful processors spaces processor (Grow space page by) few small of is =
+call_is_lawful version processors spaces processor (Grow space page by) few small of is has =
     rw (below processors processor few of, below spaces space small is.0, below 1048576 page (lit≤ tt) is.1, some_pages by is.2 is.3) refl
-call_is_lawful processors spaces processor (Unmap space page) few small of is =
+call_is_lawful version processors spaces processor (Unmap space page) few small of is has =
     rw (below processors processor few of, below spaces space small is.0, below 1048576 page (lit≤ tt) is.1) refl
-call_is_lawful processors spaces processor (Protect space page len rights) few small of is =
+call_is_lawful version processors spaces processor (Protect space page len rights) few small of is has =
     rw (
       rights_stand rights,
       below processors processor few of,
@@ -58,23 +58,36 @@ call_is_lawful processors spaces processor (Protect space page len rights) few s
       below 1048576 page (lit≤ tt) is.1,
       some_pages len is.2 is.3,
     ) refl
-call_is_lawful processors spaces processor (Load space address) few small of is =
+call_is_lawful version processors spaces processor (Load space address) few small of is has =
     rw (below processors processor few of, below spaces space small is.0, an_address address is.1 is.2) refl
-call_is_lawful processors spaces processor (Store space address word) few small of is =
+call_is_lawful version processors spaces processor (Store space address word) few small of is has =
     rw (
       below processors processor few of,
       below spaces space small is.0,
       an_address address is.1 is.2,
       below (2 ^ 64) word (lit≤ tt) is.3,
     ) refl
-call_is_lawful processors spaces processor (Sync space page) few small of is =
+call_is_lawful version processors spaces processor (Sync space page) few small of is has =
     rw (below processors processor few of, below spaces space small is.0, below 1048576 page (lit≤ tt) is.1) refl
-call_is_lawful processors spaces processor (Evict space page) few small of is =
+call_is_lawful version processors spaces processor (Evict space page) few small of is has =
     rw (below processors processor few of, below spaces space small is.0, below 1048576 page (lit≤ tt) is.1) refl
+call_is_lawful version processors spaces processor (Discard space page len) few small of is has =
+    rw (
+      le-ltb version 3 has,
+      below processors processor few of,
+      below spaces space small is.0,
+      below 1048576 page (lit≤ tt) is.1,
+      some_pages len is.2 is.3,
+    ) refl
+call_is_lawful version processors spaces processor (Wire space page) few small of is has =
+    rw (le-ltb version 3 has, below processors processor few of, below spaces space small is.0, below 1048576 page (lit≤ tt) is.1) refl
+call_is_lawful version processors spaces processor (Unwire space page) few small of is has =
+    rw (le-ltb version 3 has, below processors processor few of, below spaces space small is.0, below 1048576 page (lit≤ tt) is.1) refl
 
-pub line_is_lawful : (processors spaces : ℕ) (line : Line) → processors ≤ 2 ^ 64 → spaces ≤ 2 ^ 64 → IsLine processors spaces line
-    → line_fault (call_forms processors spaces) (line_words line) ≡ None
-line_is_lawful processors spaces line few small is = call_is_lawful processors spaces line.processor line.call few small is.0 is.1
+pub line_is_lawful : (version processors spaces : ℕ) (line : Line) → processors ≤ 2 ^ 64 → spaces ≤ 2 ^ 64
+    → IsLine version processors spaces line → line_fault (call_forms version processors spaces) (line_words line) ≡ None
+line_is_lawful version processors spaces line few small is =
+    call_is_lawful version processors spaces line.processor line.call few small is.0 is.1 is.2
 
 sizes_stand : (one two three : Bool) → may_stand any_sizes (sizes_word (record { one = one; two = two; three = three })) ≡ true
 sizes_stand false false false = refl
@@ -100,11 +113,13 @@ first_is_lawful head is =
           let version : number_in 1 1 2 (decimal head.version) ≡ Ok head.version =
           number_in_again 1 1 2 head.version (omega arith) (omega (arith, one.0)) (omega (arith, one.0)) (omega (arith, one.0)) in
           rw (eq-eqb head.version 1 one.0, version, frames, processors, spaces) refl
-      | inr two ↦
-          let version : number_in 1 2 3 (decimal head.version) ≡ Ok head.version =
-          number_in_again 1 2 3 head.version (omega arith) (omega (arith, two)) (omega (arith, two)) (omega (arith, two)) in
+      | inr later ↦
+          let bounds : (2 ≤ head.version) × (head.version < 4) =
+          elim later [ inl two ↦ (omega (arith, two), omega (arith, two)) | inr three ↦ (omega (arith, three), omega (arith, three)) ] in
+          let version : number_in 1 2 4 (decimal head.version) ≡ Ok head.version =
+          number_in_again 1 2 4 head.version (omega arith) bounds.0 bounds.1 (omega (arith, bounds.1)) in
           rw (
-            ne_eqb head.version 1 (λ e. omega (arith, two, e)),
+            ne_eqb head.version 1 (λ e. omega (arith, bounds.0, e)),
             sizes_stand head.sizes.one head.sizes.two head.sizes.three,
             version,
             frames,

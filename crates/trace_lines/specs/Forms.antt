@@ -1,5 +1,5 @@
 -- The forms of a text's lines, and what is wrong with a line that fills none.
-use Rattle.std.specs.Prelude.{ℕ, ◌^◌, ◌%◌, ◌==◌, ◌&&◌, nat_lt, nat_le, Bool, true, List, [], ◌∷◌, Option, Some, None, Result, Ok, Err, decimal, codes, if◌then◌else◌}
+use Rattle.std.specs.Prelude.{ℕ, ◌^◌, ◌%◌, ◌==◌, ◌&&◌, nat_lt, nat_le, Bool, true, List, [], ◌∷◌, ◌++◌, Option, Some, None, Result, Ok, Err, decimal, codes, if◌then◌else◌}
 use Rattle.std.specs.Cmp.Lexicographic.{pointwise}
 use Rattle.std.specs.List.{list_any}
 use Rattle.std.specs.Option.{option_or}
@@ -68,9 +68,9 @@ first_form = Word (codes "trace") ∷ Number 1 1 2 ∷ first_places []
 abbrev pub any_sizes : Place
 any_sizes = OneOf (codes "0" ∷ codes "01" ∷ codes "02" ∷ codes "03" ∷ codes "012" ∷ codes "013" ∷ codes "023" ∷ codes "0123" ∷ [])
 
--- the first line of version 2, which names its page sizes
+-- the first line of versions 2 and 3, which name their page sizes
 abbrev pub sized_form : List Place
-sized_form = Word (codes "trace") ∷ Number 1 2 3 ∷ first_places (any_sizes ∷ [])
+sized_form = Word (codes "trace") ∷ Number 1 2 4 ∷ first_places (any_sizes ∷ [])
 
 abbrev pub first_forms : List (List Place)
 first_forms = first_form ∷ sized_form ∷ []
@@ -122,7 +122,24 @@ sync_form = call_form (codes "sync") (page ∷ [])
 abbrev pub evict_form : ℕ → ℕ → List Place
 evict_form = call_form (codes "evict") (page ∷ [])
 
-abbrev pub call_forms : ℕ → ℕ → List (List Place)
-call_forms processors spaces =
+abbrev pub discard_form : ℕ → ℕ → List Place
+discard_form = call_form (codes "discard") (page ∷ pages ∷ [])
+
+abbrev pub wire_form : ℕ → ℕ → List Place
+wire_form = call_form (codes "wire") (page ∷ [])
+
+abbrev pub unwire_form : ℕ → ℕ → List Place
+unwire_form = call_form (codes "unwire") (page ∷ [])
+
+-- the forms of the calls that each version has, and of those from version 3 on
+abbrev pub early_forms : ℕ → ℕ → List (List Place)
+early_forms processors spaces =
     map_form processors spaces ∷ grow_form processors spaces ∷ unmap_form processors spaces ∷ protect_form processors spaces
     ∷ load_form processors spaces ∷ store_form processors spaces ∷ sync_form processors spaces ∷ evict_form processors spaces ∷ []
+
+abbrev pub later_forms : ℕ → ℕ → List (List Place)
+later_forms processors spaces = discard_form processors spaces ∷ wire_form processors spaces ∷ unwire_form processors spaces ∷ []
+
+abbrev pub call_forms : ℕ → ℕ → ℕ → List (List Place)
+call_forms version processors spaces =
+    early_forms processors spaces ++ (if nat_lt version 3 then [] else later_forms processors spaces)

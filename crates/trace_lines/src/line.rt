@@ -1,10 +1,10 @@
 //! Lines: the first one, a daemon's, and those of calls.
-ghost use Rattle.std.specs.Prelude.{◌≡◌, ◌<◌, ◌≤◌, ◌∷◌, [], List, ℕ, false, Some, IfSome, IfNone, Ok, IfOk, IfErr, codes, decimal};
+ghost use Rattle.std.specs.Prelude.{◌≡◌, ◌<◌, ◌≤◌, ◌∷◌, [], List, ℕ, false, true, Some, IfSome, IfNone, Ok, IfOk, IfErr, codes, decimal};
 ghost use Rattle.std.specs.Str.{bytes_eq};
 ghost use Rattle.pager_model.specs.TraceText.{IsDaemon, IsVersion, first_words, daemon_words};
-ghost use Rattle.trace_lines.specs.Forms.{Place, Number, number_in, fits, leftmost, line_fault, first_forms, first_places, daemon_form, page, pages, map_form, grow_form, protect_form, load_form, store_form, call_forms};
+ghost use Rattle.trace_lines.specs.Forms.{Place, Number, number_in, fits, leftmost, line_fault, first_forms, first_places, daemon_form, page, pages, map_form, grow_form, protect_form, load_form, store_form, discard_form, call_forms};
 ghost use Rattle.trace_lines.specs.declared.line.Name.{Name};
-ghost use Rattle.trace_lines.specs.Heads.{IsInRange, IsRead, word_of_name};
+ghost use Rattle.trace_lines.specs.Heads.{HasName, IsInRange, IsRead, is_later, word_of_name};
 ghost use Rattle.trace_lines.specs.Words.{seen, words_of};
 
 use crate::cause::LineCause;
@@ -23,7 +23,7 @@ const ADDRESSES: u64 = 8_589_934_592;
 /// What a trace's first line says.
 #[derive(Drop)]
 pub struct Head {
-    /// 1 or 2.
+    /// 1, 2 or 3.
     pub version: u32,
     /// A multiple of 512, from 512 to 32,768.
     pub frames: u32,
@@ -67,7 +67,7 @@ fn first_of(name: &[u8], others: &[&[u8]]) -> Result<Head, LineCause>
 }
 
 /// What the first line of a trace says by the words behind its first one: four numbers in version 1, which has all four page sizes, and in
-/// version 2 the word of the sizes behind them.
+/// versions 2 and 3 the word of the sizes behind them.
 fn first_words(words: &[&[u8]]) -> Result<Head, LineCause>
     ensures range { IfOk result (λ head. IsInRange head) }
     ensures text { IfOk result (λ head. codes "trace" ∷ seen words.now
@@ -84,7 +84,7 @@ fn first_words(words: &[&[u8]]) -> Result<Head, LineCause>
             let Some(sizes) = page_sizes(sizes) else {
                 return Err(LineCause::Form);
             };
-            let version = small(version, 1, 2..3)?;
+            let version = small(version, 1, 2..4)?;
             head_of(version, frames, processors, spaces, sizes)
         }
         _ => Err(LineCause::Form),
@@ -142,7 +142,7 @@ pub fn daemon(low: &[u8], turns: &[u8]) -> Result<Daemon, LineCause>
 
 /// The call that a line says, in a trace with this first line.
 pub fn call(line: &[u8], head: &Head) -> Result<Line, LineCause>
-    ensures { IsRead head.now (call_forms head.now.processors head.now.spaces) (words_of line.now) result }
+    ensures { IsRead head.now (call_forms head.now.version head.now.processors head.now.spaces) (words_of line.now) result }
 {
     let Some(words) = words(line) else {
         return Err(LineCause::Form);
@@ -160,9 +160,9 @@ fn call_of(
     name: &[u8],
     arguments: &[&[u8]],
 ) -> Result<Line, LineCause>
-    ensures { IsRead head.now (call_forms head.now.processors head.now.spaces) (processor.now ∷ name.now ∷ seen arguments.now) result }
+    ensures { IsRead head.now (call_forms head.now.version head.now.processors head.now.spaces) (processor.now ∷ name.now ∷ seen arguments.now) result }
 {
-    match name_of(name) {
+    match name_of(head.version, name) {
         Some(Name::Map) => map(head, processor, arguments),
         Some(Name::Grow) => grow(head, processor, arguments),
         Some(Name::Unmap) => {
@@ -195,6 +195,25 @@ fn call_of(
             let call = Call::Evict { space, page };
             Ok(Line { processor, call })
         }
+        Some(Name::Discard) => discard(head, processor, arguments),
+        Some(Name::Wire) => {
+            let OnePage {
+                processor,
+                space,
+                page,
+            } = one_page(head, processor, arguments)?;
+            let call = Call::Wire { space, page };
+            Ok(Line { processor, call })
+        }
+        Some(Name::Unwire) => {
+            let OnePage {
+                processor,
+                space,
+                page,
+            } = one_page(head, processor, arguments)?;
+            let call = Call::Unwire { space, page };
+            Ok(Line { processor, call })
+        }
         None => Err(LineCause::Form),
     }
 }
@@ -210,12 +229,26 @@ enum Name {
     Store,
     Sync,
     Evict,
+    Discard,
+    Wire,
+    Unwire,
 }
 
-/// The name that a word is.
-fn name_of(word: &[u8]) -> Option<Name>
-    ensures some { IfSome result (λ name. word.now ≡ word_of_name name) }
-    ensures none { IfNone result ((name : Name) → bytes_eq word.now (word_of_name name) ≡ false) }
+/// The name that a word is in a text of this version.
+fn name_of(version: u32, word: &[u8]) -> Option<Name>
+    ensures some { IfSome result (λ name. (word.now ≡ word_of_name name) × HasName version name) }
+    ensures none { IfNone result ((name : Name) → HasName version name → bytes_eq word.now (word_of_name name) ≡ false) }
+{
+    match early_name_of(word) {
+        None if version >= 3 => later_name_of(word),
+        name => name,
+    }
+}
+
+/// The name that a word is in each version.
+fn early_name_of(word: &[u8]) -> Option<Name>
+    ensures some { IfSome result (λ name. (word.now ≡ word_of_name name) × (is_later name ≡ false)) }
+    ensures none { IfNone result ((name : Name) → is_later name ≡ false → bytes_eq word.now (word_of_name name) ≡ false) }
 {
     if word == b"map".as_slice() {
         Some(Name::Map)
@@ -233,6 +266,22 @@ fn name_of(word: &[u8]) -> Option<Name>
         Some(Name::Sync)
     } else if word == b"evict".as_slice() {
         Some(Name::Evict)
+    } else {
+        None
+    }
+}
+
+/// The name that a word is from version 3 on alone.
+fn later_name_of(word: &[u8]) -> Option<Name>
+    ensures some { IfSome result (λ name. (word.now ≡ word_of_name name) × (is_later name ≡ true)) }
+    ensures none { IfNone result ((name : Name) → is_later name ≡ true → bytes_eq word.now (word_of_name name) ≡ false) }
+{
+    if word == b"discard".as_slice() {
+        Some(Name::Discard)
+    } else if word == b"wire".as_slice() {
+        Some(Name::Wire)
+    } else if word == b"unwire".as_slice() {
+        Some(Name::Unwire)
     } else {
         None
     }
@@ -358,6 +407,28 @@ fn protect(head: &Head, processor: &[u8], arguments: &[&[u8]]) -> Result<Line, L
         page,
         length,
         rights,
+    };
+    Ok(Line { processor, call })
+}
+
+/// The call `discard` of this processor, with these arguments, in a trace whose version has it.
+fn discard(head: &Head, processor: &[u8], arguments: &[&[u8]]) -> Result<Line, LineCause>
+    requires { 3 ≤ head.now.version }
+    ensures { IsRead head.now (discard_form head.now.processors head.now.spaces ∷ []) (processor.now ∷ codes "discard" ∷ seen arguments.now) result }
+{
+    let [space, first, count] = arguments else {
+        return Err(LineCause::Form);
+    };
+    let Pages {
+        processor,
+        space,
+        page,
+        length,
+    } = pages_of(head, processor, space, first, count)?;
+    let call = Call::Discard {
+        space,
+        page,
+        length,
     };
     Ok(Line { processor, call })
 }

@@ -5,7 +5,7 @@ use Rattle.std.proofs.lemmas.List.Elements.{All-append, All-from_get_or, All-fro
 use Rattle.std.proofs.lemmas.List.FromFn.{length-map-range_with_len, get_or-map-range_with_len}
 use Rattle.std.proofs.lemmas.Nat.{mod_below}
 use Rattle.pager_model.specs.declared.call.Line.{Line}
-use Rattle.pager_model.specs.TraceText.{HasText, IsCall, IsLine}
+use Rattle.pager_model.specs.TraceText.{HasLine, HasText, IsCall, IsLine}
 use Rattle.pager_model.specs.TurnOrders.{next_state, drawn}
 use Rattle.trace_make.specs.Made.{CanMake, after_line, call_of_kind, drawn_address, drawn_call, drawn_line, drawn_lines, drawn_page, made, map_line}
 
@@ -61,7 +61,15 @@ call_is spaces space page kind x below within =
     (either (IsCall spaces) (ltb kind 62) _ _ (below, here)
     (below, omega (arith, here), omega arith, omega arith))))
 
-line_is : (processors spaces x : ℕ) → 0 < processors → 0 < spaces → IsLine processors spaces (drawn_line processors spaces x)
+-- a drawn call has a line in each version
+call_has_line : (space page kind x : ℕ) → HasLine 1 (call_of_kind space page kind x)
+call_has_line space page kind x =
+    either (HasLine 1) (ltb kind 40) _ _ tt
+    (either (HasLine 1) (ltb kind 58) _ _ tt
+    (either (HasLine 1) (ltb kind 60) _ _ tt
+    (either (HasLine 1) (ltb kind 62) _ _ tt tt)))
+
+line_is : (processors spaces x : ℕ) → 0 < processors → 0 < spaces → IsLine 1 processors spaces (drawn_line processors spaces x)
 unfolding drawn_line drawn_call
 line_is processors spaces x some own =
     let second = next_state x in
@@ -70,10 +78,11 @@ line_is processors spaces x some own =
       mod_below (second / 2 ^ 33) processors some,
       call_is spaces (drawn second spaces) (drawn_page third) (drawn fifth 64) (next_state fifth) (mod_below (third / 2 ^ 33) spaces own)
           (page_within third),
+      call_has_line (drawn second spaces) (drawn_page third) (drawn fifth 64) (next_state fifth),
     )
 
 lines_are : (processors spaces count x : ℕ) → 0 < processors → 0 < spaces
-    → AllByRecursion (IsLine processors spaces) (drawn_lines processors spaces count x)
+    → AllByRecursion (IsLine 1 processors spaces) (drawn_lines processors spaces count x)
 lines_are processors spaces zero x some own = tt
 lines_are processors spaces (suc n) x some own =
     (line_is processors spaces x some own, lines_are processors spaces n (after_line x) some own)
@@ -82,9 +91,9 @@ drawn_count : (processors spaces count x : ℕ) → length (drawn_lines processo
 drawn_count processors spaces zero x = refl
 drawn_count processors spaces (suc n) x = ap suc (drawn_count processors spaces n (after_line x))
 
-map_is : (processors spaces space : ℕ) → 0 < processors → space < spaces → IsLine processors spaces (map_line processors space)
+map_is : (processors spaces space : ℕ) → 0 < processors → space < spaces → IsLine 1 processors spaces (map_line processors space)
 unfolding map_line
-map_is processors spaces space some below = (mod_below space processors some, (below, omega arith, omega arith, omega arith))
+map_is processors spaces space some below = (mod_below space processors some, (below, omega arith, omega arith, omega arith), tt)
 
 pub HasText-made : (number calls processors spaces frames : ℕ) → CanMake calls processors spaces frames
     → HasText (made number calls processors spaces frames)
@@ -101,12 +110,12 @@ HasText-made number calls processors spaces frames can =
       processors_in = can.processors_in;
       spaces_in = can.spaces_in;
       daemon_in = tt;
-      lines = All-append (IsLine processors spaces) maps lines
-          (All-from_get_or (IsLine processors spaces) maps (map_line processors 0) (λ i below.
-          subst (IsLine processors spaces)
+      lines = All-append (IsLine 1 processors spaces) maps lines
+          (All-from_get_or (IsLine 1 processors spaces) maps (map_line processors 0) (λ i below.
+          subst (IsLine 1 processors spaces)
           (sym (get_or-map-range_with_len (map_line processors) 0 spaces i i (map_line processors 0) (omega (arith, below, long))
           (omega arith))) (map_is processors spaces i some (omega (arith, below, long)))))
-          (All-from_recursion (IsLine processors spaces) lines (lines_are processors spaces (calls - spaces) number some own));
+          (All-from_recursion (IsLine 1 processors spaces) lines (lines_are processors spaces (calls - spaces) number some own));
       few = omega (
         arith,
         length-append maps lines,

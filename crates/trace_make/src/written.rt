@@ -185,6 +185,13 @@ fn add_call(line: &mut TextLine, call: &Call)
         }
         Call::Sync { space, page } => line.add("sync", &[space, page]),
         Call::Evict { space, page } => line.add("evict", &[space, page]),
+        Call::Discard {
+            space,
+            page,
+            length,
+        } => line.add("discard", &[space, page, length]),
+        Call::Wire { space, page } => line.add("wire", &[space, page]),
+        Call::Unwire { space, page } => line.add("unwire", &[space, page]),
     }
 }
 

@@ -10,7 +10,7 @@ use Rattle.std.proofs.lemmas.List.Splits.{slice_split_at, slice_split_none}
 use Rattle.std.proofs.lemmas.Slice.Eq.{bytes_eq-Decides}
 use Rattle.std.proofs.lemmas.Str.Parse.{digit_from_value}
 use Rattle.pager_model.specs.declared.call.Call.{Call}
-use Rattle.pager_model.specs.declared.call.Call.TheVariants.{Map, Grow, Unmap, Protect, Load, Store, Sync, Evict}
+use Rattle.pager_model.specs.declared.call.Call.TheVariants.{Map, Grow, Unmap, Protect, Load, Store, Sync, Evict, Discard, Wire, Unwire}
 use Rattle.pager_model.specs.declared.call.Line.{Line}
 use Rattle.pager_model.specs.declared.region.Kind.{Kind}
 use Rattle.pager_model.specs.declared.region.Kind.TheVariants.{Fixed, Growing, Wired}
@@ -105,10 +105,16 @@ call_words_are spaces (Sync space page) few is =
     (is_word (codes "sync") refl, (decimal_is space (omega arith), (decimal_is page (omega arith), tt)))
 call_words_are spaces (Evict space page) few is =
     (is_word (codes "evict") refl, (decimal_is space (omega arith), (decimal_is page (omega arith), tt)))
+call_words_are spaces (Discard space page len) few is =
+    (is_word (codes "discard") refl, (decimal_is space (omega arith), (decimal_is page (omega arith), (decimal_is len (omega arith), tt))))
+call_words_are spaces (Wire space page) few is =
+    (is_word (codes "wire") refl, (decimal_is space (omega arith), (decimal_is page (omega arith), tt)))
+call_words_are spaces (Unwire space page) few is =
+    (is_word (codes "unwire") refl, (decimal_is space (omega arith), (decimal_is page (omega arith), tt)))
 
-line_words_are : (processors spaces : ℕ) (line : Line) → processors ≤ 2 ^ 64 → spaces ≤ 2 ^ 64 → IsLine processors spaces line
+line_words_are : (version processors spaces : ℕ) (line : Line) → processors ≤ 2 ^ 64 → spaces ≤ 2 ^ 64 → IsLine version processors spaces line
     → AllByRecursion IsWord (line_words line)
-line_words_are processors spaces line some few is =
+line_words_are version processors spaces line some few is =
     (decimal_is line.processor (omega (arith, is.0)), call_words_are spaces line.call few is.1)
 
 first_words_are : (plan : Plan) → HasText plan → AllByRecursion IsWord
@@ -178,17 +184,17 @@ calls_text-cons call calls =
     ap (λ (x : List ℕ). x ++ end_line) (flat_map-cons call_line call calls)
     ∙ append_assoc (call_line call) (flat_map call_line calls) end_line
 
-pub call_again : (processors spaces : ℕ) (call : Line) (calls : List Line) → processors ≤ 2 ^ 64 → spaces ≤ 2 ^ 64
-    → IsLine processors spaces call
+pub call_again : (version processors spaces : ℕ) (call : Line) (calls : List Line) → processors ≤ 2 ^ 64 → spaces ≤ 2 ^ 64
+    → IsLine version processors spaces call
     → lines_of (calls_text (call ∷ calls)) ≡ join_with_byte 32 (line_words call) ∷ lines_of (calls_text calls)
-call_again processors spaces call calls some few is =
+call_again version processors spaces call calls some few is =
     ap lines_of (calls_text-cons call calls) ∙ line_again (line_words call) (calls_text calls)
-    (line_words_are processors spaces call some few is)
+    (line_words_are version processors spaces call some few is)
 
-pub call_words_again : (processors spaces : ℕ) (call : Line) → processors ≤ 2 ^ 64 → spaces ≤ 2 ^ 64 → IsLine processors spaces call
+pub call_words_again : (version processors spaces : ℕ) (call : Line) → processors ≤ 2 ^ 64 → spaces ≤ 2 ^ 64 → IsLine version processors spaces call
     → words_of (join_with_byte 32 (line_words call)) ≡ line_words call
-call_words_again processors spaces call some few is = words_again (decimal call.processor) (call_words call.call)
-    (line_words_are processors spaces call some few is)
+call_words_again version processors spaces call some few is = words_again (decimal call.processor) (call_words call.call)
+    (line_words_are version processors spaces call some few is)
 
 three_words : (call : Call) → 3 ≤ length (call_words call)
 three_words (Map space page len kind rights) = omega arith
@@ -199,30 +205,33 @@ three_words (Load space address) = omega arith
 three_words (Store space address word) = omega arith
 three_words (Sync space page) = omega arith
 three_words (Evict space page) = omega arith
+three_words (Discard space page len) = omega arith
+three_words (Wire space page) = omega arith
+three_words (Unwire space page) = omega arith
 
 -- a call has more words than the end
-pub call_is_not_end : (processors spaces : ℕ) (call : Line) → processors ≤ 2 ^ 64 → spaces ≤ 2 ^ 64 → IsLine processors spaces call
+pub call_is_not_end : (version processors spaces : ℕ) (call : Line) → processors ≤ 2 ^ 64 → spaces ≤ 2 ^ 64 → IsLine version processors spaces call
     → bytes_eq (join_with_byte 32 (line_words call)) (codes "end") ≡ false
-call_is_not_end processors spaces call some few is =
+call_is_not_end version processors spaces call some few is =
     elim (cases_Bool (bytes_eq (join_with_byte 32 (line_words call)) (codes "end"))) [
       | inl same ↦
           let e = (bytes_eq-Decides (join_with_byte 32 (line_words call)) (codes "end")).0 same in
-          let words : line_words call ≡ codes "end" ∷ [] = sym (call_words_again processors spaces call some few is) ∙ ap words_of e in
+          let words : line_words call ≡ codes "end" ∷ [] = sym (call_words_again version processors spaces call some few is) ∙ ap words_of e in
           absurd (omega (arith, ap length words, three_words call.call))
       | inr other ↦ other
     ]
 
-calls_are_lawful : (processors spaces number before : ℕ) (calls : List Line) → processors ≤ 2 ^ 64 → spaces ≤ 2 ^ 64
-    → AllByRecursion (IsLine processors spaces) calls → before + length calls ≤ 262144
-    → calls_refusal (call_forms processors spaces) number before (lines_of (calls_text calls)) ≡ None
-calls_are_lawful processors spaces number before [] some few are in' = refl
-calls_are_lawful processors spaces number before (call ∷ calls) some few are in' =
-    let lawful : line_fault (call_forms processors spaces) (words_of (join_with_byte 32 (line_words call))) ≡ None =
-    rw (call_words_again processors spaces call some few are.0) (line_is_lawful processors spaces call some few are.0) in
-    let next = goes_on (call_forms processors spaces) number before (calls_text (call ∷ calls)) (join_with_byte 32 (line_words call))
-    (calls_text calls) (call_again processors spaces call calls some few are.0)
-    (call_is_not_end processors spaces call some few are.0) lawful (λ e. omega arith) in
-    next ∙ calls_are_lawful processors spaces (number + 1) (before + 1) calls some few are.1 (omega arith)
+calls_are_lawful : (version processors spaces number before : ℕ) (calls : List Line) → processors ≤ 2 ^ 64 → spaces ≤ 2 ^ 64
+    → AllByRecursion (IsLine version processors spaces) calls → before + length calls ≤ 262144
+    → calls_refusal (call_forms version processors spaces) number before (lines_of (calls_text calls)) ≡ None
+calls_are_lawful version processors spaces number before [] some few are in' = refl
+calls_are_lawful version processors spaces number before (call ∷ calls) some few are in' =
+    let lawful : line_fault (call_forms version processors spaces) (words_of (join_with_byte 32 (line_words call))) ≡ None =
+    rw (call_words_again version processors spaces call some few are.0) (line_is_lawful version processors spaces call some few are.0) in
+    let next = goes_on (call_forms version processors spaces) number before (calls_text (call ∷ calls)) (join_with_byte 32 (line_words call))
+    (calls_text calls) (call_again version processors spaces call calls some few are.0)
+    (call_is_not_end version processors spaces call some few are.0) lawful (λ e. omega arith) in
+    next ∙ calls_are_lawful version processors spaces (number + 1) (before + 1) calls some few are.1 (omega arith)
 
 -- ---- the second line
 
@@ -242,30 +251,30 @@ pub daemon_words_again : (d : Daemon) → IsDaemon (Some d) → words_of (join_w
 daemon_words_again d is = words_again (codes "daemon") (decimal d.low ∷ decimal d.turns ∷ []) (daemon_words_are d is)
 
 -- a call has more words than a daemon's line
-pub call_is_no_daemons : (processors spaces : ℕ) (call : Line) → processors ≤ 2 ^ 64 → spaces ≤ 2 ^ 64 → IsLine processors spaces call
+pub call_is_no_daemons : (version processors spaces : ℕ) (call : Line) → processors ≤ 2 ^ 64 → spaces ≤ 2 ^ 64 → IsLine version processors spaces call
     → fits daemon_form (words_of (join_with_byte 32 (line_words call))) ≡ false
-call_is_no_daemons processors spaces call some few is =
+call_is_no_daemons version processors spaces call some few is =
     elim (cases_Bool (fits daemon_form (words_of (join_with_byte 32 (line_words call))))) [
       | inl same ↦
           absurd (omega (
             arith,
             fits_length daemon_form (words_of (join_with_byte 32 (line_words call))) same,
-            ap length (call_words_again processors spaces call some few is),
+            ap length (call_words_again version processors spaces call some few is),
             three_words call.call,
           ))
       | inr other ↦ other
     ]
 
-daemon_is_lawful : (processors spaces : ℕ) (daemon : Option Daemon) (calls : List Line) → processors ≤ 2 ^ 64 → spaces ≤ 2 ^ 64
-    → IsDaemon daemon → AllByRecursion (IsLine processors spaces) calls
-    → second_refusal (call_forms processors spaces) (lines_of (behind_text daemon calls)) ≡ calls_refusal (call_forms processors spaces)
+daemon_is_lawful : (version processors spaces : ℕ) (daemon : Option Daemon) (calls : List Line) → processors ≤ 2 ^ 64 → spaces ≤ 2 ^ 64
+    → IsDaemon daemon → AllByRecursion (IsLine version processors spaces) calls
+    → second_refusal (call_forms version processors spaces) (lines_of (behind_text daemon calls)) ≡ calls_refusal (call_forms version processors spaces)
     (first_call daemon) 0 (lines_of (calls_text calls))
-daemon_is_lawful processors spaces None [] some few is are = refl
-daemon_is_lawful processors spaces None (call ∷ calls) some few is are =
-    no_daemon (call_forms processors spaces) (calls_text (call ∷ calls)) (join_with_byte 32 (line_words call)) (calls_text calls)
-    (call_again processors spaces call calls some few are.0) (call_is_no_daemons processors spaces call some few are.0)
-daemon_is_lawful processors spaces (Some d) calls some few is are =
-    behind_daemon (call_forms processors spaces) (behind_text (Some d) calls) (join_with_byte 32 (daemon_words d)) (calls_text calls) d
+daemon_is_lawful version processors spaces None [] some few is are = refl
+daemon_is_lawful version processors spaces None (call ∷ calls) some few is are =
+    no_daemon (call_forms version processors spaces) (calls_text (call ∷ calls)) (join_with_byte 32 (line_words call)) (calls_text calls)
+    (call_again version processors spaces call calls some few are.0) (call_is_no_daemons version processors spaces call some few are.0)
+daemon_is_lawful version processors spaces (Some d) calls some few is are =
+    behind_daemon (call_forms version processors spaces) (behind_text (Some d) calls) (join_with_byte 32 (daemon_words d)) (calls_text calls) d
     (daemon_again d calls is) (daemon_words_again d is) is
 
 -- ---- the whole text
@@ -306,7 +315,7 @@ not_refused plan has =
     (join_with_byte 32 (first_words plan.version plan.frames plan.processors plan.spaces plan.sizes))
     (behind_text plan.daemon plan.calls) (head_of plan) (text_is_short plan has) (first_again plan has)
     (first_words_again plan has) is in
-    let second = daemon_is_lawful plan.processors plan.spaces plan.daemon plan.calls (omega (arith, has.processors_in))
+    let second = daemon_is_lawful plan.version plan.processors plan.spaces plan.daemon plan.calls (omega (arith, has.processors_in))
     (omega (arith, has.spaces_in)) has.daemon_in lines in
-    behind ∙ second ∙ calls_are_lawful plan.processors plan.spaces (first_call plan.daemon) 0 plan.calls (omega (arith, has.processors_in))
+    behind ∙ second ∙ calls_are_lawful plan.version plan.processors plan.spaces (first_call plan.daemon) 0 plan.calls (omega (arith, has.processors_in))
     (omega (arith, has.spaces_in)) lines (omega (arith, has.few))

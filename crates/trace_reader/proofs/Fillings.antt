@@ -1,14 +1,14 @@
 -- A line without a fault is filled with numbers and words of its form, and so is a line of a trace. A text without a refusal is a trace's.
-use Rattle.std.proofs.Common.{◌≡◌, ◌≢◌, ℕ, ◌+◌, ◌%◌, ◌^◌, ◌<◌, ◌≤◌, ◌⊎◌, Bool, true, false, map, cond, eqb, List, [], ◌∷◌, ◌++◌, length, Option, Some, None, Result, Ok, Err, decimal, codes, refl, sym, ap, subst, ◌∙◌, arith, inl, inr}
+use Rattle.std.proofs.Common.{◌≡◌, ◌≢◌, ℕ, ◌+◌, ◌%◌, ◌^◌, ◌<◌, ◌≤◌, ◌⊎◌, Bool, true, false, map, cond, eqb, ltb, List, [], ◌∷◌, ◌++◌, length, Option, Some, None, Result, Ok, Err, decimal, codes, refl, sym, ap, subst, ◌∙◌, arith, inl, inr}
 use Rattle.std.specs.List.{join_with_byte, list_any, AllByRecursion}
 use Rattle.std.specs.Option.{option_or}
 use Rattle.std.specs.Result.{result_err}
 use Rattle.std.specs.Str.{bytes_eq}
-use Rattle.std.proofs.lemmas.Bool.{and_parts, or_cases, cases_Bool, cases_lt, eq-eqb, ne_eqb}
+use Rattle.std.proofs.lemmas.Bool.{and_parts, or_cases, cases_Bool, cases_lt, eq-eqb, ne_eqb, ltb-false}
 use Rattle.std.proofs.lemmas.List.Elements.{All-from_recursion}
 use Rattle.std.proofs.lemmas.List.Splits.{join_with_byte-slice_split}
 use Rattle.std.proofs.lemmas.Slice.Eq.{bytes_eq-Decides}
-use Rattle.pager_model.specs.declared.call.Call.TheVariants.{Map, Grow, Unmap, Protect, Load, Store, Sync, Evict}
+use Rattle.pager_model.specs.declared.call.Call.TheVariants.{Map, Grow, Unmap, Protect, Load, Store, Sync, Evict, Discard, Wire, Unwire}
 use Rattle.pager_model.specs.declared.call.Line.{Line}
 use Rattle.pager_model.specs.declared.region.Kind.{Kind}
 use Rattle.pager_model.specs.declared.region.Kind.TheVariants.{Fixed, Growing, Wired}
@@ -21,7 +21,7 @@ use Rattle.pager_model.specs.TraceText.{kind_word, rights_word, sizes_word, line
 use Rattle.trace_lines.specs.declared.cause.LineCause.{LineCause}
 use Rattle.trace_reader.specs.declared.fault.TraceFault.TheVariants.{TooManyCalls}
 use Rattle.trace_lines.specs.declared.line.Head.{Head}
-use Rattle.trace_lines.specs.Forms.{Place, Word, OneOf, Number, number_in, fits, leftmost, line_fault, first_form, sized_form, first_forms, daemon_form, map_form, grow_form, unmap_form, protect_form, load_form, store_form, sync_form, evict_form, call_forms}
+use Rattle.trace_lines.specs.Forms.{Place, Word, OneOf, Number, number_in, fits, leftmost, line_fault, first_form, sized_form, first_forms, daemon_form, map_form, grow_form, unmap_form, protect_form, load_form, store_form, sync_form, evict_form, discard_form, wire_form, unwire_form, later_forms, call_forms}
 use Rattle.trace_lines.specs.Heads.{IsInRange}
 use Rattle.trace_reader.specs.Refusals.{lines_of, end_refusal, at_line, calls_refusal, second_refusal, forms_behind, refusal_of_lines, refusal_of}
 use Rattle.trace_lines.specs.Words.{words_of}
@@ -119,8 +119,8 @@ fills_one (form ∷ forms) words none =
 -- ---- lines
 
 -- the words are those of a line that may stand
-abbrev Says : ℕ → ℕ → List (List ℕ) → Type 0
-Says processors spaces words = (line : Line) × IsLine processors spaces line × (words ≡ line_words line)
+abbrev Says : ℕ → ℕ → ℕ → List (List ℕ) → Type 0
+Says version processors spaces words = (line : Line) × IsLine version processors spaces line × (words ≡ line_words line)
 
 -- which one of the things it is whose word is chosen
 named : {A : Type 0} (word_of : A → List ℕ) (all : List A) (word : List ℕ) → IsOneOf (map word_of all) word → (x : A) × (word ≡ word_of x)
@@ -146,73 +146,111 @@ size_sets =
 sizes_of : (chosen : Chosen (map sizes_word size_sets)) → (z : SizeSet) × (chosen.0 ≡ sizes_word z)
 sizes_of chosen = named sizes_word size_sets chosen.0 chosen.1
 
-map_says : (processors spaces : ℕ) (words : List (List ℕ)) → Fills (map_form processors spaces) words → Says processors spaces words
-map_says processors spaces words (f, e) =
+map_says : (version processors spaces : ℕ) (words : List (List ℕ)) → Fills (map_form processors spaces) words → Says version processors spaces words
+map_says version processors spaces words (f, e) =
     let kind = kind_of f.1.1.1.1.0 in
     let rights = rights_of f.1.1.1.1.1.0 in (
       record { processor = f.0.n; call = Map f.1.0.n f.1.1.0.n f.1.1.1.0.n kind.0 rights.0 },
-      (f.0.end_in, (f.1.0.end_in, f.1.1.0.end_in, f.1.1.1.0.low_in, omega (arith, f.1.1.1.0.end_in))),
+      (f.0.end_in, (f.1.0.end_in, f.1.1.0.end_in, f.1.1.1.0.low_in, omega (arith, f.1.1.1.0.end_in)), tt),
       e
           ∙ ap (λ (w : List ℕ). decimal f.0.n ∷ codes "map" ∷ decimal f.1.0.n ∷ decimal f.1.1.0.n ∷ decimal f.1.1.1.0.n ∷ w ∷ f.1.1.1.1.1.0.0 ∷ []) kind.1
           ∙ ap (λ (w : List ℕ). decimal f.0.n ∷ codes "map" ∷ decimal f.1.0.n ∷ decimal f.1.1.0.n ∷ decimal f.1.1.1.0.n ∷ kind_word kind.0 ∷ w ∷ []) rights.1,
     )
 
-grow_says : (processors spaces : ℕ) (words : List (List ℕ)) → Fills (grow_form processors spaces) words → Says processors spaces words
-grow_says processors spaces words (f, e) = (
+grow_says : (version processors spaces : ℕ) (words : List (List ℕ)) → Fills (grow_form processors spaces) words → Says version processors spaces words
+grow_says version processors spaces words (f, e) = (
   record { processor = f.0.n; call = Grow f.1.0.n f.1.1.0.n f.1.1.1.0.n },
-  (f.0.end_in, (f.1.0.end_in, f.1.1.0.end_in, f.1.1.1.0.low_in, omega (arith, f.1.1.1.0.end_in))),
+  (f.0.end_in, (f.1.0.end_in, f.1.1.0.end_in, f.1.1.1.0.low_in, omega (arith, f.1.1.1.0.end_in)), tt),
   e,
 )
 
-unmap_says : (processors spaces : ℕ) (words : List (List ℕ)) → Fills (unmap_form processors spaces) words → Says processors spaces words
-unmap_says processors spaces words (f, e) =
-    (record { processor = f.0.n; call = Unmap f.1.0.n f.1.1.0.n }, (f.0.end_in, (f.1.0.end_in, f.1.1.0.end_in)), e)
+unmap_says : (version processors spaces : ℕ) (words : List (List ℕ)) → Fills (unmap_form processors spaces) words → Says version processors spaces words
+unmap_says version processors spaces words (f, e) =
+    (record { processor = f.0.n; call = Unmap f.1.0.n f.1.1.0.n }, (f.0.end_in, (f.1.0.end_in, f.1.1.0.end_in), tt), e)
 
-protect_says : (processors spaces : ℕ) (words : List (List ℕ)) → Fills (protect_form processors spaces) words → Says processors spaces words
-protect_says processors spaces words (f, e) =
+protect_says : (version processors spaces : ℕ) (words : List (List ℕ)) → Fills (protect_form processors spaces) words → Says version processors spaces words
+protect_says version processors spaces words (f, e) =
     let rights = rights_of f.1.1.1.1.0 in (
       record { processor = f.0.n; call = Protect f.1.0.n f.1.1.0.n f.1.1.1.0.n rights.0 },
-      (f.0.end_in, (f.1.0.end_in, f.1.1.0.end_in, f.1.1.1.0.low_in, omega (arith, f.1.1.1.0.end_in))),
+      (f.0.end_in, (f.1.0.end_in, f.1.1.0.end_in, f.1.1.1.0.low_in, omega (arith, f.1.1.1.0.end_in)), tt),
       e ∙ ap (λ (w : List ℕ). decimal f.0.n ∷ codes "protect" ∷ decimal f.1.0.n ∷ decimal f.1.1.0.n ∷ decimal f.1.1.1.0.n ∷ w ∷ []) rights.1,
     )
 
-load_says : (processors spaces : ℕ) (words : List (List ℕ)) → Fills (load_form processors spaces) words → Says processors spaces words
-load_says processors spaces words (f, e) =
-    (record { processor = f.0.n; call = Load f.1.0.n f.1.1.0.n }, (f.0.end_in, (f.1.0.end_in, f.1.1.0.step_in, f.1.1.0.end_in)), e)
+load_says : (version processors spaces : ℕ) (words : List (List ℕ)) → Fills (load_form processors spaces) words → Says version processors spaces words
+load_says version processors spaces words (f, e) =
+    (record { processor = f.0.n; call = Load f.1.0.n f.1.1.0.n }, (f.0.end_in, (f.1.0.end_in, f.1.1.0.step_in, f.1.1.0.end_in), tt), e)
 
-store_says : (processors spaces : ℕ) (words : List (List ℕ)) → Fills (store_form processors spaces) words → Says processors spaces words
-store_says processors spaces words (f, e) = (
+store_says : (version processors spaces : ℕ) (words : List (List ℕ)) → Fills (store_form processors spaces) words → Says version processors spaces words
+store_says version processors spaces words (f, e) = (
   record { processor = f.0.n; call = Store f.1.0.n f.1.1.0.n f.1.1.1.0.n },
-  (f.0.end_in, (f.1.0.end_in, f.1.1.0.step_in, f.1.1.0.end_in, f.1.1.1.0.end_in)),
+  (f.0.end_in, (f.1.0.end_in, f.1.1.0.step_in, f.1.1.0.end_in, f.1.1.1.0.end_in), tt),
   e,
 )
 
-sync_says : (processors spaces : ℕ) (words : List (List ℕ)) → Fills (sync_form processors spaces) words → Says processors spaces words
-sync_says processors spaces words (f, e) =
-    (record { processor = f.0.n; call = Sync f.1.0.n f.1.1.0.n }, (f.0.end_in, (f.1.0.end_in, f.1.1.0.end_in)), e)
+sync_says : (version processors spaces : ℕ) (words : List (List ℕ)) → Fills (sync_form processors spaces) words → Says version processors spaces words
+sync_says version processors spaces words (f, e) =
+    (record { processor = f.0.n; call = Sync f.1.0.n f.1.1.0.n }, (f.0.end_in, (f.1.0.end_in, f.1.1.0.end_in), tt), e)
 
-evict_says : (processors spaces : ℕ) (words : List (List ℕ)) → Fills (evict_form processors spaces) words → Says processors spaces words
-evict_says processors spaces words (f, e) =
-    (record { processor = f.0.n; call = Evict f.1.0.n f.1.1.0.n }, (f.0.end_in, (f.1.0.end_in, f.1.1.0.end_in)), e)
+evict_says : (version processors spaces : ℕ) (words : List (List ℕ)) → Fills (evict_form processors spaces) words → Says version processors spaces words
+evict_says version processors spaces words (f, e) =
+    (record { processor = f.0.n; call = Evict f.1.0.n f.1.1.0.n }, (f.0.end_in, (f.1.0.end_in, f.1.1.0.end_in), tt), e)
 
-line_says : (processors spaces : ℕ) (words : List (List ℕ)) → line_fault (call_forms processors spaces) words ≡ None
-    → Says processors spaces words
-line_says processors spaces words none =
-    elim (fills_one (call_forms processors spaces) words none) [
-      | inl map ↦ map_says processors spaces words map
+discard_says : (version processors spaces : ℕ) (words : List (List ℕ)) → 3 ≤ version → Fills (discard_form processors spaces) words
+    → Says version processors spaces words
+discard_says version processors spaces words has (f, e) = (
+  record { processor = f.0.n; call = Discard f.1.0.n f.1.1.0.n f.1.1.1.0.n },
+  (f.0.end_in, (f.1.0.end_in, f.1.1.0.end_in, f.1.1.1.0.low_in, omega (arith, f.1.1.1.0.end_in)), has),
+  e,
+)
+
+wire_says : (version processors spaces : ℕ) (words : List (List ℕ)) → 3 ≤ version → Fills (wire_form processors spaces) words
+    → Says version processors spaces words
+wire_says version processors spaces words has (f, e) =
+    (record { processor = f.0.n; call = Wire f.1.0.n f.1.1.0.n }, (f.0.end_in, (f.1.0.end_in, f.1.1.0.end_in), has), e)
+
+unwire_says : (version processors spaces : ℕ) (words : List (List ℕ)) → 3 ≤ version → Fills (unwire_form processors spaces) words
+    → Says version processors spaces words
+unwire_says version processors spaces words has (f, e) =
+    (record { processor = f.0.n; call = Unwire f.1.0.n f.1.1.0.n }, (f.0.end_in, (f.1.0.end_in, f.1.1.0.end_in), has), e)
+
+-- a later form is filled where the version has it
+later_says : (version processors spaces : ℕ) (words : List (List ℕ)) (early : Bool) → ltb version 3 ≡ early
+    → FillsOne (cond early [] (later_forms processors spaces)) words → Says version processors spaces words
+later_says version processors spaces words true is fills = absurd fills
+later_says version processors spaces words false is fills =
+    let has : 3 ≤ version = ltb-false version 3 is in
+    elim fills [
+      | inl discard ↦ discard_says version processors spaces words has discard
+      | inr rest ↦ elim rest [
+        | inl wire ↦ wire_says version processors spaces words has wire
+        | inr last ↦ elim last [
+          | inl unwire ↦ unwire_says version processors spaces words has unwire
+          | inr none_left ↦ absurd none_left
+        ]
+      ]
+    ]
+
+line_says : (version processors spaces : ℕ) (words : List (List ℕ)) → line_fault (call_forms version processors spaces) words ≡ None
+    → Says version processors spaces words
+line_says version processors spaces words none =
+    elim (fills_one (call_forms version processors spaces) words none) [
+      | inl map ↦ map_says version processors spaces words map
       | inr a ↦ elim a [
-        | inl grow ↦ grow_says processors spaces words grow
+        | inl grow ↦ grow_says version processors spaces words grow
         | inr b ↦ elim b [
-          | inl unmap ↦ unmap_says processors spaces words unmap
+          | inl unmap ↦ unmap_says version processors spaces words unmap
           | inr c ↦ elim c [
-            | inl protect ↦ protect_says processors spaces words protect
+            | inl protect ↦ protect_says version processors spaces words protect
             | inr d ↦ elim d [
-              | inl load ↦ load_says processors spaces words load
+              | inl load ↦ load_says version processors spaces words load
               | inr e ↦ elim e [
-                | inl store ↦ store_says processors spaces words store
+                | inl store ↦ store_says version processors spaces words store
                 | inr f ↦ elim f [
-                  | inl sync ↦ sync_says processors spaces words sync
-                  | inr g ↦ elim g [ inl evict ↦ evict_says processors spaces words evict | inr none_left ↦ absurd none_left ]
+                  | inl sync ↦ sync_says version processors spaces words sync
+                  | inr g ↦ elim g [
+                    | inl evict ↦ evict_says version processors spaces words evict
+                    | inr later ↦ later_says version processors spaces words (ltb version 3) refl later
+                  ]
                 ]
               ]
             ]
@@ -241,17 +279,20 @@ one_says words (f, e) =
 
 two_says : (words : List (List ℕ)) → Fills sized_form words → SaysFirst words
 two_says words (f, e) =
-    let two : f.0.n ≡ 2 = omega (arith, f.0.low_in, f.0.end_in) in
+    let later : (f.0.n ≡ 2) ⊎ (f.0.n ≡ 3) = elim (cases_lt f.0.n 3) [
+      | inl below ↦ inl (omega (arith, f.0.low_in, below))
+      | inr above ↦ inr (omega (arith, f.0.end_in, above))
+    ] in
     let z = sizes_of f.1.1.1.1.0 in (
       record { version = f.0.n; frames = f.1.0.n; processors = f.1.1.0.n; spaces = f.1.1.1.0.n; sizes = z.0 },
       (
-        inr two,
+        inr later,
         (f.1.0.low_in, omega (arith, f.1.0.end_in)),
         f.1.0.step_in,
         (f.1.1.0.low_in, omega (arith, f.1.1.0.end_in)),
         (f.1.1.1.0.low_in, omega (arith, f.1.1.1.0.end_in)),
       ),
-      rw (ne_eqb f.0.n 1 (λ one. omega (arith, two, one)))
+      rw (ne_eqb f.0.n 1 (λ one. omega (arith, f.0.low_in, one)))
           (e ∙ ap (λ (w : List ℕ). codes "trace" ∷ decimal f.0.n ∷ decimal f.1.0.n ∷ decimal f.1.1.0.n ∷ decimal f.1.1.1.0.n ∷ w ∷ []) z.1),
     )
 
@@ -282,8 +323,8 @@ nothing_behind number (b ∷ next) [] e = absurd cc
 nothing_behind number (b ∷ next) (line ∷ lines) e = absurd cc
 
 -- the lines are those of some calls, up to the end
-abbrev SayCalls : ℕ → ℕ → ℕ → List (List ℕ) → Type 0
-SayCalls processors spaces before lines = (calls : List Line) × AllByRecursion (IsLine processors spaces) calls
+abbrev SayCalls : ℕ → ℕ → ℕ → ℕ → List (List ℕ) → Type 0
+SayCalls version processors spaces before lines = (calls : List Line) × AllByRecursion (IsLine version processors spaces) calls
     × (before + length calls ≤ 262144) × (join_with_byte 10 lines ≡ calls_text calls)
 
 one_call_more : (line behind : List ℕ) (call : Line) (calls : List Line) → words_of line ≡ line_words call → behind ≡ calls_text calls
@@ -292,11 +333,11 @@ one_call_more line behind call calls words is =
     line_is (line ++ 10 ∷ behind) line behind (line_words call) refl words ∙ ap (λ (t : List ℕ). call_line call ++ t) is
     ∙ sym (calls_text-cons call calls)
 
-calls_say : (processors spaces number before : ℕ) (lines : List (List ℕ)) → before ≤ 262144
-    → calls_refusal (call_forms processors spaces) number before lines ≡ None → SayCalls processors spaces before lines
-calls_say processors spaces number before [] few none = absurd cc
-calls_say processors spaces number before (line ∷ []) few none = absurd cc
-calls_say processors spaces number before (line ∷ next ∷ lines) few none =
+calls_say : (version processors spaces number before : ℕ) (lines : List (List ℕ)) → before ≤ 262144
+    → calls_refusal (call_forms version processors spaces) number before lines ≡ None → SayCalls version processors spaces before lines
+calls_say version processors spaces number before [] few none = absurd cc
+calls_say version processors spaces number before (line ∷ []) few none = absurd cc
+calls_say version processors spaces number before (line ∷ next ∷ lines) few none =
     elim (cases_Bool (bytes_eq line (codes "end"))) [
       | inl same ↦
           let last = nothing_behind number next lines (rw same at none) in
@@ -308,16 +349,16 @@ calls_say processors spaces number before (line ∷ next ∷ lines) few none =
                 ∙ ap (λ (ls : List (List ℕ)). join_with_byte 10 (codes "end" ∷ ls)) last,
           )
       | inr other ↦
-          let forms = call_forms processors spaces in
+          let forms = call_forms version processors spaces in
           let both = neither (at_line number (line_fault forms (words_of line)))
           (cond (eqb before 262144) (Some TooManyCalls) (calls_refusal forms (number + 1) (before + 1) (next ∷ lines)))
           (rw other at none) in
-          let says = line_says processors spaces (words_of line) (no_fault number (line_fault forms (words_of line)) both.0) in
+          let says = line_says version processors spaces (words_of line) (no_fault number (line_fault forms (words_of line)) both.0) in
           elim (cases_Bool (eqb before 262144)) [
             | inl many ↦ absurd (let fault : Some TooManyCalls ≡ None = rw many at both.1 in cc)
             | inr room ↦
                 let more : before ≢ 262144 = λ e. (let full : eqb before 262144 ≡ true = eq-eqb before 262144 e in cc) in
-                let rest = calls_say processors spaces (number + 1) (before + 1) (next ∷ lines) (omega arith) (rw room at both.1) in (
+                let rest = calls_say version processors spaces (number + 1) (before + 1) (next ∷ lines) (omega arith) (rw room at both.1) in (
                   says.0 ∷ rest.0,
                   (says.1, rest.1),
                   omega (arith, rest.2),
@@ -327,21 +368,21 @@ calls_say processors spaces number before (line ∷ next ∷ lines) few none =
     ]
 
 -- the lines behind the first are those of a daemon or none, and of some calls up to the end
-abbrev SayBehind : ℕ → ℕ → List (List ℕ) → Type 0
-SayBehind processors spaces lines = (daemon : Option Daemon) × IsDaemon daemon × (calls : List Line)
-    × AllByRecursion (IsLine processors spaces) calls × (length calls ≤ 262144) × (join_with_byte 10 lines ≡ behind_text daemon calls)
+abbrev SayBehind : ℕ → ℕ → ℕ → List (List ℕ) → Type 0
+SayBehind version processors spaces lines = (daemon : Option Daemon) × IsDaemon daemon × (calls : List Line)
+    × AllByRecursion (IsLine version processors spaces) calls × (length calls ≤ 262144) × (join_with_byte 10 lines ≡ behind_text daemon calls)
 
-behind_says : (processors spaces : ℕ) (lines : List (List ℕ)) → second_refusal (call_forms processors spaces) lines ≡ None
-    → SayBehind processors spaces lines
-behind_says processors spaces [] none = absurd cc
-behind_says processors spaces (line ∷ []) none = absurd cc
-behind_says processors spaces (line ∷ next ∷ lines) none =
-    let forms = call_forms processors spaces in
+behind_says : (version processors spaces : ℕ) (lines : List (List ℕ)) → second_refusal (call_forms version processors spaces) lines ≡ None
+    → SayBehind version processors spaces lines
+behind_says version processors spaces [] none = absurd cc
+behind_says version processors spaces (line ∷ []) none = absurd cc
+behind_says version processors spaces (line ∷ next ∷ lines) none =
+    let forms = call_forms version processors spaces in
     elim (cases_Bool (fits daemon_form (words_of line))) [
       | inl fit ↦
           let both = neither (at_line 2 (leftmost daemon_form (words_of line))) (calls_refusal forms 3 0 (next ∷ lines)) (rw fit at none) in
           let says = daemon_says (words_of line) fit (no_fault 2 (leftmost daemon_form (words_of line)) both.0) in
-          let calls = calls_say processors spaces 3 0 (next ∷ lines) (omega arith) both.1 in
+          let calls = calls_say version processors spaces 3 0 (next ∷ lines) (omega arith) both.1 in
           let behind = join_with_byte 10 (next ∷ lines) in
           let text = line_is (line ++ 10 ∷ behind) line behind (daemon_words says.0) refl says.2 in (
             Some says.0,
@@ -353,7 +394,7 @@ behind_says processors spaces (line ∷ next ∷ lines) none =
                 ∙ ap (λ (t : List ℕ). line_of_words (daemon_words says.0) ++ t) calls.3,
           )
       | inr other ↦
-          let calls = calls_say processors spaces 2 0 (line ∷ next ∷ lines) (omega arith) (rw other at none) in
+          let calls = calls_say version processors spaces 2 0 (line ∷ next ∷ lines) (omega arith) (rw other at none) in
           (None, tt, calls.0, calls.1, omega (arith, calls.2), calls.3)
     ]
 
@@ -366,8 +407,8 @@ text_says text (first ∷ next ∷ lines) is none =
     (second_refusal (forms_behind (words_of first)) (next ∷ lines)) none in
     let says = first_says (words_of first) (no_fault 1 (line_fault first_forms (words_of first)) both.0) in
     let head = says.0 in
-    let forms : forms_behind (words_of first) ≡ call_forms head.processors head.spaces = ap forms_behind says.2 ∙ forms_again head says.1 in
-    let behind = behind_says head.processors head.spaces (next ∷ lines)
+    let forms : forms_behind (words_of first) ≡ call_forms head.version head.processors head.spaces = ap forms_behind says.2 ∙ forms_again head says.1 in
+    let behind = behind_says head.version head.processors head.spaces (next ∷ lines)
     (subst (λ (fs : List (List Place)). second_refusal fs (next ∷ lines) ≡ None) forms both.1) in
     let daemon = behind.0 in
     let calls = behind.2 in

@@ -10,6 +10,7 @@ use Rattle.std.proofs.lemmas.List.{append-nil}
 use Rattle.std.proofs.lemmas.List.Concat.{flat_map-cons}
 use Rattle.pager_model.specs.declared.call.Line.{Line as Call}
 use Rattle.pager_model.specs.declared.trace.Daemon.{Daemon}
+use Rattle.pager_model.proofs.Texts.{version_low}
 use Rattle.pager_model.specs.TraceText.{call_line, daemon_line, daemon_words, line_words, line_of_words, first_words, IsDaemon, IsLine, IsTextOf}
 use Rattle.trace_lines.specs.declared.cause.LineCause.{LineCause}
 use Rattle.trace_lines.specs.declared.cause.LineCause.TheVariants as causes
@@ -104,15 +105,17 @@ pub faulty_first_line : (text line rest : List ℕ) (cause : LineCause) → leng
 faulty_first_line text line rest cause few first fault = let p = some_piece 10 rest in rw (short_enough text few, first, p.2, fault) refl
 
 pub forms_again : (head : Head) → IsInRange head
-    → forms_behind (first_words head.version head.frames head.processors head.spaces head.sizes) ≡ call_forms head.processors head.spaces
+    → forms_behind (first_words head.version head.frames head.processors head.spaces head.sizes) ≡ call_forms head.version head.processors head.spaces
 forms_again head is =
     let processors : digits_value 10 (decimal head.processors) ≡ head.processors = decimal_value head.processors (omega (arith, is.3)) in
     let spaces : digits_value 10 (decimal head.spaces) ≡ head.spaces = decimal_value head.spaces (omega (arith, is.4)) in
-    rw (processors, spaces) refl
+    let version : digits_value 10 (decimal head.version) ≡ head.version = decimal_value head.version
+    (let low = version_low head.version head.sizes is.0 in omega (arith, low)) in
+    rw (version, processors, spaces) refl
 
 pub behind_first_line : (text line rest : List ℕ) (head : Head) → length text ≤ 16777216 → lines_of text ≡ line ∷ lines_of rest
     → words_of line ≡ first_words head.version head.frames head.processors head.spaces head.sizes → IsInRange head
-    → refusal_of text ≡ second_refusal (call_forms head.processors head.spaces) (lines_of rest)
+    → refusal_of text ≡ second_refusal (call_forms head.version head.processors head.spaces) (lines_of rest)
 behind_first_line text line rest head few first words is =
     let p = some_piece 10 rest in
     rw (short_enough text few, first, p.2, words, first_is_lawful head is, forms_again head is) refl
@@ -120,7 +123,7 @@ behind_first_line text line rest head few first words is =
 -- the trace of what was read
 pub is_text : (text line behind rest : List ℕ) (head : Head) (daemon : Option Daemon) (calls : List Call) → text ≡ line ++ 10 ∷ behind
     → words_of line ≡ first_words head.version head.frames head.processors head.spaces head.sizes → IsInRange head
-    → behind ≡ daemon_line daemon ++ rest → IsDaemon daemon → All (IsLine head.processors head.spaces) calls → length calls ≤ 262144
+    → behind ≡ daemon_line daemon ++ rest → IsDaemon daemon → All (IsLine head.version head.processors head.spaces) calls → length calls ≤ 262144
     → rest ≡ flat_map call_line calls ++ line_of_words (codes "end" ∷ [])
     → IsTextOf text (record {
       version = head.version;

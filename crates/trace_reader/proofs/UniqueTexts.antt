@@ -6,7 +6,7 @@ use Rattle.std.specs.Str.Parse.{digits_value}
 use Rattle.std.proofs.lemmas.Bool.{eq-eqb, ne_eqb}
 use Rattle.std.proofs.lemmas.List.Elements.{recursion_from_All}
 use Rattle.pager_model.specs.declared.call.Call.{Call}
-use Rattle.pager_model.specs.declared.call.Call.TheVariants.{Map, Grow, Unmap, Protect, Load, Store, Sync, Evict}
+use Rattle.pager_model.specs.declared.call.Call.TheVariants.{Map, Grow, Unmap, Protect, Load, Store, Sync, Evict, Discard, Wire, Unwire}
 use Rattle.pager_model.specs.declared.call.Line.{Line}
 use Rattle.pager_model.specs.declared.region.Kind.{Kind}
 use Rattle.pager_model.specs.declared.region.Kind.TheVariants.{Fixed, Growing, Wired}
@@ -55,7 +55,10 @@ call_back name words =
     (cond (bytes_eq name (codes "load")) (Load (number_back words 2) (number_back words 3))
     (cond (bytes_eq name (codes "store")) (Store (number_back words 2) (number_back words 3) (number_back words 4))
     (cond (bytes_eq name (codes "sync")) (Sync (number_back words 2) (number_back words 3))
-    (Evict (number_back words 2) (number_back words 3))))))))
+    (cond (bytes_eq name (codes "evict")) (Evict (number_back words 2) (number_back words 3))
+    (cond (bytes_eq name (codes "discard")) (Discard (number_back words 2) (number_back words 3) (number_back words 4))
+    (cond (bytes_eq name (codes "wire")) (Wire (number_back words 2) (number_back words 3))
+    (Unwire (number_back words 2) (number_back words 3)))))))))))
 
 abbrev line_back : List (List ℕ) → Line
 line_back words = record { processor = number_back words 0; call = call_back (get_or words 1 []) words }
@@ -96,23 +99,34 @@ call_is_back spaces processor (Sync space page) few small is =
     rw (decimal_value processor small, decimal_value space (omega arith), decimal_value page (omega arith)) refl
 call_is_back spaces processor (Evict space page) few small is =
     rw (decimal_value processor small, decimal_value space (omega arith), decimal_value page (omega arith)) refl
+call_is_back spaces processor (Discard space page len) few small is =
+    rw (
+      decimal_value processor small,
+      decimal_value space (omega arith),
+      decimal_value page (omega arith),
+      decimal_value len (omega arith),
+    ) refl
+call_is_back spaces processor (Wire space page) few small is =
+    rw (decimal_value processor small, decimal_value space (omega arith), decimal_value page (omega arith)) refl
+call_is_back spaces processor (Unwire space page) few small is =
+    rw (decimal_value processor small, decimal_value space (omega arith), decimal_value page (omega arith)) refl
 
 -- the calls of the lines up to the end
 abbrev calls_back : List (List ℕ) → List Line
 calls_back [] = []
 calls_back (line ∷ lines) = cond (bytes_eq line (codes "end")) [] (line_back (words_of line) ∷ calls_back lines)
 
-calls_are_back : (processors spaces : ℕ) (calls : List Line) → processors ≤ 2 ^ 64 → spaces ≤ 2 ^ 64
-    → AllByRecursion (IsLine processors spaces) calls → calls_back (lines_of (calls_text calls)) ≡ calls
-calls_are_back processors spaces [] some few are = refl
-calls_are_back processors spaces (call ∷ calls) some few are =
+calls_are_back : (version processors spaces : ℕ) (calls : List Line) → processors ≤ 2 ^ 64 → spaces ≤ 2 ^ 64
+    → AllByRecursion (IsLine version processors spaces) calls → calls_back (lines_of (calls_text calls)) ≡ calls
+calls_are_back version processors spaces [] some few are = refl
+calls_are_back version processors spaces (call ∷ calls) some few are =
     let back : line_back (line_words call) ≡ call = call_is_back spaces call.processor call.call few (omega (arith, are.0)) are.0.1 in
     rw (
-      call_again processors spaces call calls some few are.0,
-      call_is_not_end processors spaces call some few are.0,
-      call_words_again processors spaces call some few are.0,
+      call_again version processors spaces call calls some few are.0,
+      call_is_not_end version processors spaces call some few are.0,
+      call_words_again version processors spaces call some few are.0,
       back,
-      calls_are_back processors spaces calls some few are.1,
+      calls_are_back version processors spaces calls some few are.1,
     ) refl
 
 -- the daemon and the calls of the lines behind the first, of which the first has these words
@@ -131,16 +145,16 @@ daemon_back lines = daemon_by (next_words lines)
 abbrev calls_behind : List (List ℕ) → List Line
 calls_behind lines = calls_by (next_words lines) lines
 
-behind_is_back : (processors spaces : ℕ) (daemon : Option Daemon) (calls : List Line) → processors ≤ 2 ^ 64 → spaces ≤ 2 ^ 64
-    → IsDaemon daemon → AllByRecursion (IsLine processors spaces) calls
+behind_is_back : (version processors spaces : ℕ) (daemon : Option Daemon) (calls : List Line) → processors ≤ 2 ^ 64 → spaces ≤ 2 ^ 64
+    → IsDaemon daemon → AllByRecursion (IsLine version processors spaces) calls
     → (daemon_back (lines_of (behind_text daemon calls)) ≡ daemon) × (calls_behind (lines_of (behind_text daemon calls)) ≡ calls)
-behind_is_back processors spaces None [] some few is are = (refl, refl)
-behind_is_back processors spaces None (call ∷ calls) some few is are =
-    let again = call_again processors spaces call calls some few are.0 in
-    let other = call_is_no_daemons processors spaces call some few are.0 in
-    let back = calls_are_back processors spaces (call ∷ calls) some few are in
+behind_is_back version processors spaces None [] some few is are = (refl, refl)
+behind_is_back version processors spaces None (call ∷ calls) some few is are =
+    let again = call_again version processors spaces call calls some few are.0 in
+    let other = call_is_no_daemons version processors spaces call some few are.0 in
+    let back = calls_are_back version processors spaces (call ∷ calls) some few are in
     (rw (again, other) refl, ap (λ ls. calls_behind ls) again ∙ rw other (ap calls_back (sym again)) ∙ back)
-behind_is_back processors spaces (Some d) calls some few is are =
+behind_is_back version processors spaces (Some d) calls some few is are =
     let again = daemon_again d calls is in
     let words = ap next_words again ∙ daemon_words_again d is in
     let low = decimal_value d.low (omega (arith, is.0)) in
@@ -149,7 +163,7 @@ behind_is_back processors spaces (Some d) calls some few is are =
       ap daemon_by words ∙ told,
       ap (λ (ls : List (List ℕ)). calls_by (next_words (lines_of (behind_text (Some d) calls))) ls) again
           ∙ ap (λ (ws : List (List ℕ)). calls_by ws (join_with_byte 32 (daemon_words d) ∷ lines_of (calls_text calls))) words
-          ∙ calls_are_back processors spaces calls some few are,
+          ∙ calls_are_back version processors spaces calls some few are,
     )
 
 -- the page sizes of a word of digits, and those of a first line of this version
@@ -178,7 +192,9 @@ sizes_are_back : (version frames processors spaces : ℕ) (z : SizeSet) → IsVe
 sizes_are_back version frames processors spaces z is =
     elim is [
       | inl one ↦ rw (eq-eqb version 1 one.0) (sym one.1)
-      | inr two ↦ rw (ne_eqb version 1 (λ one. omega (arith, two, one))) (sizes_again z.one z.two z.three)
+      | inr later ↦
+          let above : 2 ≤ version = elim later [ inl two ↦ omega (arith, two) | inr three ↦ omega (arith, three) ] in
+          rw (ne_eqb version 1 (λ one. omega (arith, above, one))) (sizes_again z.one z.two z.three)
     ]
 
 abbrev plan_of : List (List ℕ) → List (List ℕ) → Plan
@@ -202,7 +218,7 @@ plan_is_back plan has =
     let frames = decimal_value plan.frames (omega (arith, has.frames_in)) in
     let processors = decimal_value plan.processors (omega (arith, has.processors_in)) in
     let spaces = decimal_value plan.spaces (omega (arith, has.spaces_in)) in
-    let behind = behind_is_back plan.processors plan.spaces plan.daemon plan.calls (omega (arith, has.processors_in))
+    let behind = behind_is_back plan.version plan.processors plan.spaces plan.daemon plan.calls (omega (arith, has.processors_in))
     (omega (arith, has.spaces_in)) has.daemon_in (recursion_from_All _ plan.calls has.lines) in
     let sizes = sizes_are_back plan.version plan.frames plan.processors plan.spaces plan.sizes has.version_in in
     rw (first_again plan has, first_words_again plan has, version, frames, processors, spaces, sizes, behind.0, behind.1) refl

@@ -49,7 +49,8 @@ second_refusal forms lines = Some NoEnd
 
 -- the forms of calls behind a first line of these words
 abbrev pub forms_behind : List (List ℕ) → List (List Place)
-forms_behind words = call_forms (digits_value 10 (slice_index_or words 3 [])) (digits_value 10 (slice_index_or words 4 []))
+forms_behind words = call_forms (digits_value 10 (slice_index_or words 1 [])) (digits_value 10 (slice_index_or words 3 []))
+    (digits_value 10 (slice_index_or words 4 []))
 
 abbrev pub refusal_of_lines : List (List ℕ) → Option TraceFault
 refusal_of_lines (first ∷ next ∷ lines) =

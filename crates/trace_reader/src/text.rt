@@ -48,12 +48,12 @@ fn first_call(daemon: Option<Daemon>) -> u64
 fn calls(alloc: Global, head: &Head, first: u64, text: &[u8]) -> Result<Vec<Line>, TraceFault>
     requires first { first ≤ 3 }
     requires range { IsInRange head.now }
-    ensures lines { IfOk result (λ calls. All (IsLine head.now.processors head.now.spaces) calls.items) }
+    ensures lines { IfOk result (λ calls. All (IsLine head.now.version head.now.processors head.now.spaces) calls.items) }
     ensures few { IfOk result (λ calls. length calls.items ≤ MAX_CALLS) }
     ensures text { IfOk result
         (λ calls. text.now ≡ flat_map call_line calls.items ++ line_of_words (codes "end" ∷ [])) }
     ensures refused { IfErr result (λ fault. IsCause
-        (calls_refusal (call_forms head.now.processors head.now.spaces) first 0 (lines_of text.now)) fault) }
+        (calls_refusal (call_forms head.now.version head.now.processors head.now.spaces) first 0 (lines_of text.now)) fault) }
     ensures all_was_read { IsErrOf result TraceFault.ReadFault → ⊥ }
 {
     let mut calls = Vec::new(alloc);

@@ -1,5 +1,3 @@
-pub mod LinkChanges
-pub mod LinkPairs
-pub mod NoteCounts
 pub mod NoteChanges
-pub mod VictimWalk
+pub mod NoteCounts
+pub mod AgedNotes

@@ -1,43 +1,18 @@
 -- What stays true of the notes as one changes.
-use Rattle.std.proofs.Common.{◌≡◌, ◌<◌, ℕ, List, length, get_or, set, map, replicate, Option, Some, None, IfNone, is_some, true, false, refl, sym, ◌∙◌, subst, inl, inr, arith}
+use Rattle.std.proofs.Common.{◌≡◌, ◌<◌, ℕ, Bool, List, length, get_or, set, map, replicate, Option, Some, None, IfNone, is_some, true, false, refl, sym, ◌∙◌, subst, inl, inr, arith}
 use Rattle.std.proofs.lemmas.List.{length-map, map-set}
 use Rattle.std.proofs.lemmas.Bool.{cases_Bool}
 use Rattle.std.proofs.lemmas.Grind.{common_steps}
 use Rattle.std.proofs.Math.ListN.{get_or-map}
 use Rattle.std.proofs.Math.Seq.{map-set_same}
 use Rattle.pager_model.specs.declared.reservation.Used.{Used}
-use Rattle.pager_model.specs.FrameStates.{claim_in, with_claim}
+use Rattle.pager_model.specs.FrameStates.{claim_in, with_claim, with_wired}
 use Rattle.pager_model.proofs.Lists.{map-alike, get_or-alike, get_or_within}
 use Rattle.pager_model.proofs.Options.{none_from_never, some_from_is_some}
-use Rattle.used_frames.specs.AgeOrders.{Links, IsInOrder}
-use Rattle.used_frames.specs.Kept.{AreKept, AreMutual, link_age}
+use Rattle.used_frames.specs.Kept.{AreMutual}
 
 pub claim_at : (notes : List (Option Used)) (frame : ℕ) → get_or (map claim_in notes) frame None ≡ claim_in (get_or notes frame None)
 claim_at notes frame = get_or-map claim_in notes frame None
-
-pub link_age_at : (notes : List (Option Used)) (frame : ℕ) → get_or (map link_age notes) frame None ≡ link_age (get_or notes frame None)
-link_age_at notes frame = get_or-map link_age notes frame None
-
-pub link_age-unwired : (u : Used) → u.wired ≡ false → link_age (Some u) ≡ Some u.age
-link_age-unwired u unwired = rw unwired refl
-
-pub link_age-wired : (u : Used) → u.wired ≡ true → link_age (Some u) ≡ None
-link_age-wired u wired = rw wired refl
-
--- an age in the order is that of a note
-pub link_age_cases : (note : Option Used) (age : ℕ) → link_age note ≡ Some age
-    → (u : Used) × (note ≡ Some u) × (u.wired ≡ false) × (u.age ≡ age)
-link_age_cases None age is = cc
-link_age_cases (Some u) age is = elim (cases_Bool u.wired) [
-  | inl wired ↦ let none = link_age-wired u wired in cc
-  | inr unwired ↦ let some = link_age-unwired u unwired in (u, refl, unwired, let same : Some u.age ≡ Some age = sym some ∙ is in cc)
-]
-
-pub link_age_noted : (notes : List (Option Used)) (frame age : ℕ) → get_or (map link_age notes) frame None ≡ Some age
-    → (u : Used) × (get_or notes frame None ≡ Some u) × (u.age ≡ age)
-link_age_noted notes frame age is =
-    let cases = link_age_cases (get_or notes frame None) age (sym (link_age_at notes frame) ∙ is) in
-    (cases.0, cases.1, cases.3)
 
 pub if_none : {X : Type 0} (o : Option X) {P : Type 0} → (o ≡ None → P) → IfNone o P
 if_none None p = p refl
@@ -72,57 +47,29 @@ pub AreMutual-unclaim : (by_frame by_processor : List (Option ℕ)) (frame proce
 AreMutual-unclaim xs ys i j are i_in j_in has = λ a b.
     (clear_both xs ys i j i_in j_in has (λ a b. (are a b).0) a b, clear_both ys xs j i j_in i_in ((are i j).0 has) (λ b a. (are a b).1) b a)
 
-pub AreKept-none : (frames processors : ℕ) (order : Links) → IsInOrder order (replicate frames None)
-    → AreKept (replicate frames None) order (replicate processors None)
-AreKept-none frames processors order is = record {
-  ordered = subst (IsInOrder order) (sym (map-alike link_age frames None)) is;
-  claimed = rw (map-alike claim_in frames None) (AreMutual-none frames processors);
-}
+pub AreMutual-start : (frames processors : ℕ) → AreMutual (map claim_in (replicate frames None)) (replicate processors None)
+AreMutual-start frames processors = rw (map-alike claim_in frames None) (AreMutual-none frames processors)
 
--- a frame that nobody claims leaves the claims as they are
-pub AreMutual-same : (notes : List (Option Used)) (order : Links) (claims : List (Option ℕ)) → AreKept notes order claims
+-- a note with the same claim leaves the claims as they are
+pub AreMutual-same : (notes : List (Option Used)) (claims : List (Option ℕ)) → AreMutual (map claim_in notes) claims
     → (frame : ℕ) (note : Option Used)
     → claim_in note ≡ claim_in (get_or notes frame None) → AreMutual (map claim_in (set notes frame note)) claims
-AreMutual-same notes order claims are frame note same_claim = rw (map-set_same claim_in notes frame note None same_claim) are.claimed
-
--- a note with the same age in the order and the same claim changes nothing else
-pub AreKept-same : (notes : List (Option Used)) (order : Links) (claims : List (Option ℕ)) (frame : ℕ) (note : Option Used)
-    → AreKept notes order claims
-    → link_age note ≡ link_age (get_or notes frame None) → claim_in note ≡ claim_in (get_or notes frame None)
-    → AreKept (set notes frame note) order claims
-AreKept-same notes order claims frame note are same_age same_claim = record {
-  ordered = rw (map-set_same link_age notes frame note None same_age) are.ordered;
-  claimed = AreMutual-same notes order claims are frame note same_claim;
-}
-
--- a note with the same claim, whose age came into the order or went out of it
-pub AreKept-reorder : (notes : List (Option Used)) (order new : Links) (claims : List (Option ℕ)) (frame : ℕ) (note : Option Used)
-    → AreKept notes order claims
-    → IsInOrder new (set (map link_age notes) frame (link_age note)) → claim_in note ≡ claim_in (get_or notes frame None)
-    → AreKept (set notes frame note) new claims
-AreKept-reorder notes order new claims frame note are ordered same_claim = record {
-  ordered = rw (map-set link_age notes frame note) ordered;
-  claimed = AreMutual-same notes order claims are frame note same_claim;
-}
+AreMutual-same notes claims are frame note same_claim = rw (map-set_same claim_in notes frame note None same_claim) are
 
 -- a claim is in the list of claims, and conversely
-module _ (notes : List (Option Used)) (order : Links) (claims : List (Option ℕ)) (are : AreKept notes order claims)
+module _ (notes : List (Option Used)) (claims : List (Option ℕ)) (are : AreMutual (map claim_in notes) claims)
     (frame processor : ℕ) where
   pub claim_listed : claim_in (get_or notes frame None) ≡ Some processor → get_or claims processor None ≡ Some frame
-  claim_listed claims_it = (are.claimed frame processor).0 (claim_at notes frame ∙ claims_it)
+  claim_listed claims_it = (are frame processor).0 (claim_at notes frame ∙ claims_it)
 
   pub listed_claim : get_or claims processor None ≡ Some frame → claim_in (get_or notes frame None) ≡ Some processor
-  listed_claim listed = sym (claim_at notes frame) ∙ (are.claimed frame processor).1 listed
+  listed_claim listed = sym (claim_at notes frame) ∙ (are frame processor).1 listed
 
 -- who claims nothing has no entry
-pub unlisted : (notes : List (Option Used)) (order : Links) (claims : List (Option ℕ)) → AreKept notes order claims → (processor : ℕ)
+pub unlisted : (notes : List (Option Used)) (claims : List (Option ℕ)) → AreMutual (map claim_in notes) claims → (processor : ℕ)
     → ((frame : ℕ) → claim_in (get_or notes frame None) ≡ Some processor → ⊥) → get_or claims processor None ≡ None
-unlisted notes order claims are processor nothing = none_from_never (get_or claims processor None)
-    (λ frame listed. nothing frame (listed_claim notes order claims are frame processor listed))
-
-link_age-with_claim : (claim : Option ℕ) (note : Option Used) → link_age (with_claim claim note) ≡ link_age note
-link_age-with_claim claim None = refl
-link_age-with_claim claim (Some u) = refl
+unlisted notes claims are processor nothing = none_from_never (get_or claims processor None)
+    (λ frame listed. nothing frame (listed_claim notes claims are frame processor listed))
 
 claim_in-with_claim : (claim : Option ℕ) (note : Option Used) → is_some note ≡ true → claim_in (with_claim claim note) ≡ claim
 claim_in-with_claim claim None some = cc
@@ -134,46 +81,42 @@ some_from_claim None processor is = cc
 some_from_claim (Some u) processor is = refl
 
 -- a claim or none in place of another leaves the order
-module _ (notes : List (Option Used)) (order : Links) (claims : List (Option ℕ)) (are : AreKept notes order claims)
+module _ (notes : List (Option Used)) (claims : List (Option ℕ)) (are : AreMutual (map claim_in notes) claims)
     (frame processor : ℕ) where
   frame_within : is_some (get_or notes frame None) ≡ true → frame < length (map claim_in notes)
   frame_within some =
       let used = some_from_is_some (get_or notes frame None) some in
       omega (arith, get_or_within notes frame used.0 used.1, length-map notes claim_in)
 
-  reclaimed : (claim : Option ℕ) → map link_age (set notes frame (with_claim claim (get_or notes frame None))) ≡ map link_age notes
-  reclaimed claim = map-set_same link_age notes frame _ None (link_age-with_claim claim (get_or notes frame None))
-
-  pub AreKept-claim : is_some (get_or notes frame None) ≡ true → processor < length claims → claim_in (get_or notes frame None) ≡ None
+  pub AreMutual-claims : is_some (get_or notes frame None) ≡ true → processor < length claims → claim_in (get_or notes frame None) ≡ None
       → get_or claims processor None ≡ None
-      → AreKept (set notes frame (with_claim (Some processor) (get_or notes frame None))) order (set claims processor (Some frame))
-  AreKept-claim some known unclaimed nothing = record {
-    ordered = rw (reclaimed (Some processor)) are.ordered;
-    claimed = rw (
-      map-set claim_in notes frame (with_claim (Some processor) (get_or notes frame None)),
-      claim_in-with_claim (Some processor) (get_or notes frame None) some,
-    )
-        (AreMutual-claim (map claim_in notes) claims frame processor are.claimed (frame_within some) known
-        (claim_at notes frame ∙ unclaimed) nothing);
-  }
+      → AreMutual (map claim_in (set notes frame (with_claim (Some processor) (get_or notes frame None)))) (set claims processor (Some frame))
+  AreMutual-claims some known unclaimed nothing = rw (
+    map-set claim_in notes frame (with_claim (Some processor) (get_or notes frame None)),
+    claim_in-with_claim (Some processor) (get_or notes frame None) some,
+  )
+      (AreMutual-claim (map claim_in notes) claims frame processor are (frame_within some) known
+      (claim_at notes frame ∙ unclaimed) nothing)
 
   -- whoever claims a frame is among the processors
   pub claimant_known : claim_in (get_or notes frame None) ≡ Some processor → processor < length claims
-  claimant_known claims_it = get_or_within claims processor frame (claim_listed notes order claims are frame processor claims_it)
+  claimant_known claims_it = get_or_within claims processor frame (claim_listed notes claims are frame processor claims_it)
 
   -- any note without a claim
   pub AreMutual-cleared : (note : Option Used) → claim_in note ≡ None → claim_in (get_or notes frame None) ≡ Some processor
       → AreMutual (map claim_in (set notes frame note)) (set claims processor None)
   AreMutual-cleared note no_claim claims_it =
       rw (map-set claim_in notes frame note, no_claim)
-      (AreMutual-unclaim (map claim_in notes) claims frame processor are.claimed
+      (AreMutual-unclaim (map claim_in notes) claims frame processor are
       (frame_within (some_from_claim (get_or notes frame None) processor claims_it)) (claimant_known claims_it)
       (claim_at notes frame ∙ claims_it))
 
-  pub AreKept-unclaim : claim_in (get_or notes frame None) ≡ Some processor
-      → AreKept (set notes frame (with_claim None (get_or notes frame None))) order (set claims processor None)
-  AreKept-unclaim claims_it = record {
-    ordered = rw (reclaimed None) are.ordered;
-    claimed = AreMutual-cleared (with_claim None (get_or notes frame None))
-        (claim_in-with_claim None (get_or notes frame None) (some_from_claim (get_or notes frame None) processor claims_it)) claims_it;
-  }
+  pub AreMutual-unclaims : claim_in (get_or notes frame None) ≡ Some processor
+      → AreMutual (map claim_in (set notes frame (with_claim None (get_or notes frame None)))) (set claims processor None)
+  AreMutual-unclaims claims_it = AreMutual-cleared (with_claim None (get_or notes frame None))
+      (claim_in-with_claim None (get_or notes frame None) (some_from_claim (get_or notes frame None) processor claims_it)) claims_it
+
+-- a wired place is claimed as it was
+pub claim-wired : (wired : Bool) (note : Option Used) → claim_in (with_wired wired note) ≡ claim_in note
+claim-wired wired None = refl
+claim-wired wired (Some u) = refl

@@ -1,4 +1,3 @@
-pub mod AgeOrders
 pub mod Kept
 pub mod Noted
 pub mod Notes

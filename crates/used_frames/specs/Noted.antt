@@ -1,7 +1,7 @@
 -- What is noted of used frames.
-use Rattle.std.specs.Prelude.{ℕ, ◌≡◌, ◌<◌, List, slice_set, slice_index_or, Option, Some, None}
+use Rattle.std.specs.Prelude.{ℕ, ◌≡◌, Bool, List, slice_set, slice_index_or, Option, Some, None}
 use Rattle.pager_model.specs.declared.reservation.Used.{Used}
-use Rattle.pager_model.specs.FrameStates.{claim_in, with_claim}
+use Rattle.pager_model.specs.FrameStates.{claim_in, with_claim, with_wired}
 
 -- For each frame what is noted of it, where it is used; and how many processors there are.
 pub record Noted : Type 0 where
@@ -20,10 +20,10 @@ with_note st frame note = record { frames = slice_set st.frames frame note; proc
 abbrev pub with_claim_of : Noted → ℕ → Option ℕ → Noted
 with_claim_of st frame claim = with_note st frame (with_claim claim (note_of st frame))
 
+-- the frame is wired, or is no longer
+abbrev pub with_wired_of : Noted → ℕ → Bool → Noted
+with_wired_of st frame wired = with_note st frame (with_wired wired (note_of st frame))
+
 -- the processor claims the frame
 abbrev pub Claims : Noted → ℕ → ℕ → Type 0
 Claims st processor frame = claim_in (note_of st frame) ≡ Some processor
-
--- a used frame is of a lesser age than this
-abbrev pub AreOlder : Noted → ℕ → Type 0
-AreOlder st age = (frame : ℕ) (u : Used) → note_of st frame ≡ Some u → u.age < age

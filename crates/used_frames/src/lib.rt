@@ -1,21 +1,20 @@
 //! What is noted of the used frames: how old the use of each is, whether its page's region is wired, and which processor claims it.
 //!
 //! The victim is the frame used longest of those that are neither wired nor claimed: first in, first out, whatever was accessed since.
-//! The frames that aren't wired are linked in order of age, so that to find the victim is a step for each claimed frame before it, and
-//! the counts are kept as they change: no call looks through all frames.
+//! The frames that are neither are leaves of a tree by age, whose root is the victim, so that a frame comes into its place at any age in a few
+//! steps; and the counts are kept as they change: no call looks through all frames.
 #![tactic(auto)]
 
-ghost use Rattle.std.specs.Prelude.{◌≡◌, ℕ, ◌<◌, Some, None, IfOk, IfSome, IfNone, is_some, length, replicate, count_by, true, false};
+ghost use Rattle.std.specs.Prelude.{◌≡◌, ℕ, ◌<◌, ◌≤◌, Some, None, IfOk, IfSome, IfNone, is_some, length, replicate, count_by, true, false};
 ghost use Rattle.std.specs.List.{list_any};
 ghost use Rattle.pager_model.specs.FrameStates.{claim_in, is_evictable, is_wired_place, is_claimed_place};
-ghost use Rattle.used_frames.specs.Noted.{note_of, with_note, with_claim_of, Claims, AreOlder};
+ghost use Rattle.used_frames.specs.Noted.{note_of, with_note, with_claim_of, with_wired_of, Claims};
+ghost use Rattle.pager_model.specs.Bounds.{most_frames};
 ghost use Rattle.used_frames.specs.Victims.{IsLeast};
 
-mod age_order;
 mod note;
 mod notes;
 
-use age_order::AgeOrder;
 use notes::Notes;
 use pager_model::{NoMemory, Used};
 use std::alloc::Global;
@@ -27,41 +26,39 @@ use std::marker::Model;
 #[derive(Drop)]
 pub struct UsedFrames {
     notes: Notes,
-    /// The used frames that aren't wired.
-    order: AgeOrder,
     /// For each processor the frame that it claims.
     claims: Vec<Option<u32>>,
 }
 
 impl Model for UsedFrames {
-    ghost use Rattle.std.specs.Prelude.{length};
-    ghost use Rattle.used_frames.specs.Kept.{AreKept};
+    ghost use Rattle.std.specs.Prelude.{length, map};
+    ghost use Rattle.pager_model.specs.FrameStates.{claim_in};
+    ghost use Rattle.used_frames.specs.Kept.{AreMutual};
     ghost use Rattle.used_frames.specs.Noted.{Noted};
 
     ghost Value = { Noted };
 
     ghost view = { λ u. record { frames = u.notes; processors = length u.claims.items } };
 
-    ghost invariant = { λ u. AreKept u.notes u.order u.claims.items };
+    ghost invariant = { λ u. AreMutual (map claim_in u.notes) u.claims.items };
 }
 
 impl UsedFrames {
     /// No frame is used.
     pub fn create(alloc: Global, frames: u32, processors: u32) -> Result<UsedFrames, NoMemory>
+        requires { frames ≤ most_frames }
         ensures { IfOk result (λ used. used ≡ record { frames = replicate frames None; processors = processors }) }
     {
         Ok(UsedFrames {
             notes: Notes::create(alloc, frames)?,
-            order: AgeOrder::create(alloc, frames)?,
             claims: vec![in alloc; None; processors as usize]?,
         })
     }
 
-    /// The frame is used from now on, at an age greater than that of all others.
+    /// The frame is used from now on, at this age.
     pub fn add(&mut self, frame: u32, age: u64, wired: bool)
         requires known { frame < length self.old.frames }
         requires unused { note_of self.old frame ≡ None }
-        requires youngest { AreOlder self.old age }
         ensures { self.new ≡ with_note self.old frame (Some (record { age = age; wired = wired; claim = None })) }
     {
         let note = Used {
@@ -70,9 +67,6 @@ impl UsedFrames {
             claim: None,
         };
         self.notes.set(frame, Some(note));
-        if !wired {
-            self.order.push(frame);
-        }
     }
 
     /// The frame is used no more. Answers the processor that claimed it, where one did.
@@ -86,10 +80,15 @@ impl UsedFrames {
         if let Some(processor) = used.claim {
             self.claims[processor as usize] = None;
         }
-        if !used.wired {
-            self.order.remove(frame);
-        }
         used.claim
+    }
+
+    /// The used frame is wired, or is no longer.
+    pub fn wire(&mut self, frame: u32, wired: bool)
+        requires { is_some (note_of self.old frame) ≡ true }
+        ensures { self.new ≡ with_wired_of self.old frame wired }
+    {
+        self.notes.set_wired(frame, wired);
     }
 
     /// The processor, which claims no frame, claims this one, which nobody claims.
@@ -116,6 +115,16 @@ impl UsedFrames {
         frame
     }
 
+    /// Whether a processor claims the frame.
+    pub fn is_claimed(&self, frame: u32) -> bool
+        ensures { result ≡ is_some (claim_in (note_of self.now frame)) }
+    {
+        match self.notes.get(frame) {
+            Some(used) => used.claim.is_some(),
+            None => false,
+        }
+    }
+
     /// The frame that the processor claims, where it claims one.
     pub fn claimed_by(&self, processor: u32) -> Option<u32>
         ensures found { IfSome result (Claims self.now processor) }
@@ -129,14 +138,7 @@ impl UsedFrames {
         ensures found { IfSome result (IsLeast self.now.frames) }
         ensures none { IfNone result (list_any is_evictable self.now.frames ≡ false) }
     {
-        let mut next = self.order.first();
-        while let Some(frame) = next {
-            if !self.notes.is_claimed(frame) {
-                return Some(frame);
-            }
-            next = self.order.after(frame);
-        }
-        None
+        self.notes.victim()
     }
 
     /// How many frames are used.

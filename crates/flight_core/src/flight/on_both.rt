@@ -43,7 +43,7 @@ impl Flight {
         entry
     }
 
-    /// The pages of the region give their frames up, ascending.
+    /// The pages of the range give their frames up, ascending.
     pub(super) fn clear<S: Store + Send + Drop>(
         &mut self,
         space: &mut Space<S>,
@@ -68,6 +68,57 @@ impl Flight {
         pool.end_entry();
         self.phase = Phase::Gone { first, length };
         self.entry(Some(own), true, What::Clear { first, length })
+    }
+
+    /// The frames of the region's pages are wired, or are so no longer; or one of them, which are to be wired, is claimed.
+    pub(super) fn pin<S: Store + Send + Drop>(
+        &mut self,
+        space: &Space<S>,
+        pool: &mut Pool,
+        first: u32,
+        length: u32,
+        wired: bool,
+    ) -> Entry
+        requires phase { self.old.phase ≡ Phase.Pin first length wired }
+        requires ready { (st : SpaceState) × IsReady self.old space.now st }
+        requires room { pool.old.entries < 2 ^ 45 }
+        ensures entry { (st : SpaceState) → IsReady self.old space.now st → Makes self.old self.new space.now space.now st pool.old pool.new result }
+        ensures row { RowMakes self.old.purpose self.old.phase result.what self.new.phase }
+        ensures nearer { (row_of self.new).steps < (row_of self.old).steps }
+    {
+        let own = space.number();
+        match pool.pin(own, first, length, wired) {
+            None => {
+                self.phase = Phase::Gone { first, length };
+                self.entry(
+                    Some(own),
+                    true,
+                    What::Pin {
+                        first,
+                        length,
+                        wired,
+                    },
+                )
+            }
+            Some(kept) => {
+                let (page, frame) = (kept.page, kept.frame);
+                self.phase = Phase::Busy {
+                    first,
+                    length,
+                    page,
+                };
+                self.entry(
+                    Some(own),
+                    true,
+                    What::Kept {
+                        first,
+                        length,
+                        page,
+                        frame,
+                    },
+                )
+            }
+        }
     }
 
     /// Takes a frame for the page, claims one, or finds that there is none.

@@ -44,6 +44,18 @@ impl Flight {
                 self.phase = Phase::Clear { first, length };
                 None
             }
+            Begun::NeedsPin {
+                first,
+                length,
+                wired,
+            } => {
+                self.phase = Phase::Pin {
+                    first,
+                    length,
+                    wired,
+                };
+                None
+            }
             Begun::NeedsEvict { page } => {
                 self.phase = Phase::Evict { page };
                 None
@@ -136,8 +148,8 @@ impl Flight {
         }
     }
 
-    /// Takes the region away whose pages were cleared.
-    pub(super) fn unmap<S: Store + Send + Drop>(&mut self, space: &mut Space<S>) -> Entry
+    /// Does the call whose range was cleared, or whose region's frames were wired or are so no longer.
+    pub(super) fn conclude<S: Store + Send + Drop>(&mut self, space: &mut Space<S>) -> Entry
         requires phase { (first len : ℕ) × (self.old.phase ≡ Phase.Gone first len) }
         requires ready { (st : SpaceState) × IsReady self.old space.old st }
         ensures entry { (st : SpaceState) (frames : FrameState) → IsReady self.old space.old st → Makes self.old self.new space.old space.new st frames frames result }
@@ -147,11 +159,25 @@ impl Flight {
         ensures faults { FaultsTold space.old.store.faults space.new.store.faults result.what }
         ensures nearer { (row_of self.new).steps < (row_of self.old).steps }
     {
-        let Call::Unmap { page, .. } = self.call() else {
-            unreachable!()
-        };
-        let answered = space.unmap(page);
-        self.answer(answered)
+        match self.call() {
+            Call::Unmap { page, .. } => {
+                let answered = space.unmap(page);
+                self.answer(answered)
+            }
+            Call::Discard { page, length, .. } => {
+                let answered = space.discard(page, length);
+                self.answer(answered)
+            }
+            Call::Wire { page, .. } => {
+                let answered = space.pin(page, true);
+                self.answer(answered)
+            }
+            Call::Unwire { page, .. } => {
+                let answered = space.pin(page, false);
+                self.answer(answered)
+            }
+            _ => unreachable!(),
+        }
     }
 
     /// Reads the page's copy in and answers, or finds that the read fails.
@@ -212,7 +238,7 @@ impl Flight {
         self.answer(answered)
     }
 
-    /// Answers that the call can't be served: no frame could be had, a store failed, or there was no memory.
+    /// Answers that the call can't be served: no frame could be had, a store failed, there was no memory, or a frame to be wired is claimed.
     pub(super) fn refuse(&mut self, reply: Reply) -> Entry
         requires of_call { is_of_call self.old.purpose ≡ true }
         requires phase { Refuses self.old reply }

@@ -8,12 +8,16 @@ use std::process::Abort;
 use trace_make::write_trace;
 use trace_reader::{TraceFault, read_trace};
 
-/// A text of all page sizes with a line of each form.
+/// A text of all page sizes with a line of each form that each version has.
 const WHOLE: &[u8] =
     b"trace 1 32768 2 3\ndaemon 64 4096\n0 map 0 0 16 fixed none\n1 map 2 1048575 1048576 growing read\n0 map 1 8 8 wired write\n1 grow 2 0 1\n0 unmap 0 16\n0 protect 0 8 9 write\n1 load 2 8589934584\n0 store 0 0 18446744073709551615\n0 sync 1 15\n0 evict 0 15\nend\n";
 
 /// A text that names its page sizes.
 const SIZED: &[u8] = b"trace 2 512 16 16 013\nend\n";
+
+/// A text with the lines of the third version alone.
+const WIRED: &[u8] =
+    b"trace 3 512 2 16 0123\n0 discard 15 8 1048576\n1 wire 0 1048575\n0 unwire 2 0\nend\n";
 
 /// What is said of the faults that the program doesn't meet, since it has stores enough and memory for a small text.
 static MESSAGES: [(TraceFault, &str); 2] = [
@@ -47,6 +51,7 @@ fn is_written_again<R: Abort + AllocGlobal>(rt: &R, text: &[u8]) -> bool {
 #[test]
 fn what_is_read_is_written_again(rt: HostRuntime) {
     assert!(rt; is_written_again(&rt, WHOLE) && is_written_again(&rt, SIZED));
+    assert!(rt; is_written_again(&rt, WIRED));
 }
 
 /// What is told where one read of a text with a bad line fails.

@@ -1,5 +1,5 @@
-//! Runs beside a daemon that `draw_run.py --daemon` drew from the seeds in their names, and what is printed of them, as an independent checker
-//! made it.
+//! Runs beside a daemon that `draw_run.py --daemon` drew from the seeds in their names, the last by `--wires` too, and what is printed of them,
+//! as an independent checker made it.
 
 pub const BESIDE: &str = "\
 run: drawn beside a daemon from 4
@@ -342,4 +342,35 @@ s0+f give 0 0; 1042 2 f drop 0; 1043 0 s0+f take 512 0 512 520 8 0; 1044 2 f res
 answer 515 done miss 0; 1047 0 s0 answer 516 value 82 hit 0; 1048 0 s0 answer 517 done; 1049 1 s0 answer 2 denied; \
 1050 1 s0+f answer 3 clean; 1051 1 s0+f take 519 1 512 520 8 0; 1052 1 s0 answer 4 value 0 miss 0; 1053 1 s0 answer 5 \
 done hit 0; 1054 2 s0 out 2 clean; 1055 2 s0+f give 2 2; 1056 2 f drop 2; 1057 2 f rest 0; tiles 7 7 7 0; promotions \
-63; demotions 0; preemptions 0; images 2 515; frames 1 0 511; end";
+63; demotions 0; preemptions 0; images 2 515; frames 1 0 511; end
+
+run: drawn with wires beside a daemon from 12
+turns: 1025 00002300010330312101033333001
+stores: reads writes 3 4; reads writes 3 4
+trace: trace 3 512 3 2 0123; daemon 1 3; 0 map 0 0 512 fixed write; 0 store 0 0 5; 511 times 8192: 0 load 0 #; 0 map 0 \
+512 1 fixed read; 0 map 1 0 2 wired write; 0 map 1 9 3 fixed write; 1 wire 1 9; 0 store 1 73728 66; 1 load 0 4915200; \
+1 discard 1 0 1; 2 load 1 73728; 1 store 1 0 59; 0 wire 0 511; 1 load 1 73728; 1 evict 0 511; 0 evict 0 511; end
+report: 1025 0 s0 answer 513 done; 1026 0 s1 answer 514 done; 1027 0 s1 answer 515 done; 1028 0 s1+f claim 0 0 0 for 9 \
+write; 1029 2 s1+f claim 0 1 1 for 9 read; 1030 3 f claim 0 2 2; 1031 0 s0 out 0 written; 1032 0 s0+f give 0 0; 1033 0 \
+s1+f use 9 0 9 12 3 0; 1034 0 s1 answer 516 done miss 0; 1035 3 s0 out 2 clean; 1036 3 s0+f give 2 2; 1037 0 s0+f kept \
+0 512 1 1; 1038 3 f drop 2; 1039 1 s1+f pin 9 3 1; 1040 1 s1 answer 0 done; 1041 0 s0 answer 517 busy 1; 1042 1 s0 \
+answer 1 unmapped; 1043 0 s0+f answer 518 clean; 1044 3 f rest 0; 1045 3 f rest 0; 1046 3 f rest 0; 1047 1 s1 answer 2 \
+denied; 1048 1 s1+f take 0 2 0 2 2 1; 1049 1 s1 answer 3 done miss 0; 1050 1 s1 answer 4 value 66 miss 0; 1051 1 s0 \
+answer 5 clean; 1052 2 s0 out 1 clean; 1053 2 s0+f give 1 1; 1054 2 f drop 1; 1055 2 s1 answer 0 value 66 miss 0; \
+tiles 14 14 6 0; promotions 64; demotions 2; preemptions 0; images 0 516; frames 1 1 510; end
+
+run: drawn with wires beside a daemon from 47
+turns: 1025 023023112310222110120
+stores: reads 515 516 writes
+trace: trace 3 512 3 1 0123; daemon 1 2; 0 map 0 0 512 fixed write; 0 load 0 0; 511 times 8192: 0 load 0 #; 0 map 0 \
+512 8 growing write; 2 sync 0 511; 0 discard 0 511 2; 0 wire 0 511; 1 discard 0 511 1; 2 store 0 4243456 33; 0 sync 0 \
+518; 1 wire 0 0; 0 store 0 4186112 45; 1 load 0 4243456; 0 evict 0 0; 0 load 0 0; end
+report: 1025 0 s0 answer 513 done; 1026 2 s0 answer 0 clean; 1027 3 f claim 0 0 0; 1028 0 s0 answer 514 unmapped; 1029 \
+2 s0+f claim 0 1 1 for 518 write; 1030 2 s0 out 1 clean; 1031 2 s0+f give 1 1; 1032 2 s0+f use 518 1 512 1048576 8 0; \
+1033 2 s0 answer 1 done miss 0; 1034 1 s0+f clear 511 1; 1035 1 s0 answer 0 done; 1036 0 s0+f kept 0 512 0 0; 1037 0 \
+s0 answer 515 busy 0; 1038 0 s0 answer 516 written; 1039 0 s0+f take 511 511 0 512 512 0; 1040 0 s0 answer 517 done \
+miss 0; 1041 0 s0+f answer 518 clean; 1042 0 s0+f claim 0 2 2 for 0 read; 1043 0 s0 out 2 clean; 1044 0 s0+f give 2 2; \
+1045 0 s0+f use 0 2 0 512 512 0; 1046 0 s0 failed 0 read 1; 1047 0 s0+f give 0 2; 1048 0 s0 answer 519 storefault 0 1; \
+1049 1 s0+f pin 0 512 1; 1050 1 s0 answer 1 done; 1051 1 s0 answer 2 value 33 miss 0; 1052 3 f got 0; 1053 3 f drop 0; \
+1054 3 f rest 0; 1055 3 f rest 0; tiles 14 14 6 0; promotions 65; demotions 3; preemptions 0; images 0 515; frames 2 0 \
+510; end";

@@ -1,4 +1,5 @@
-//! Runs that `draw_run.py` drew from the seeds in their names, and what is printed of them, as an independent checker made it.
+//! Runs that `draw_run.py` drew from the seeds in their names, the last by `--wires`, and what is printed of them, as an independent checker
+//! made it.
 
 pub const DRAWN: &str = "\
 run: drawn from 83
@@ -612,4 +613,47 @@ report: 1025 0 s0 answer 513 done; 1026 0 s1 answer 514 done; 1027 0 s0+f answer
 0 miss 0; 1037 1 s0+f give 2 2; 1038 1 f drop 2; 1039 0 s0+f take 512 2 512 514 2 1; 1040 1 s1 answer 1 value 0 miss \
 0; 1041 0 s0 answer 517 value 0 miss 0; 1042 1 s1 answer 2 value 0 hit 0; 1043 0 s0 answer 518 clean; 1044 1 s0 answer \
 3 value 0 miss 0; 1045 0 s0+f clear 0 512; 1046 0 s0 answer 519 done; tiles 2 0 0 0; promotions 65; demotions 16; \
-preemptions 0; images 1 517; frames 510 0 2; end";
+preemptions 0; images 1 517; frames 510 0 2; end
+
+run: drawn with wires from 207
+turns: 1026 000022313202322223211122231
+stores: reads writes; reads writes; reads writes
+trace: trace 3 512 4 3 0123; 0 map 0 0 509 wired write; 0 map 0 509 3 fixed write; 0 load 0 0; 511 times 8192: 0 load \
+0 #; 0 map 0 512 3 fixed read; 0 map 1 0 3 fixed write; 0 map 2 0 8 fixed read; 0 map 2 11 2 fixed write; 1 unmap 0 \
+512; 2 sync 0 600; 2 store 1 0 52; 3 wire 2 11; 1 wire 0 511; 3 sync 2 11; 2 store 0 4194304 74; 0 discard 1 0 1; 1 \
+load 2 90112; end
+report: 1026 0 s0 answer 514 done; 1027 0 s1 answer 515 done; 1028 0 s2 answer 516 done; 1029 0 s2 answer 517 done; \
+1030 2 s0 answer 0 unmapped; 1031 2 s1+f claim 0 509 509 for 0 write; 1032 3 s2+f pin 11 2 1; 1033 1 s0+f clear 512 3; \
+1034 3 s2 answer 0 done; 1035 0 s1+f clear 0 1; 1036 3 s2 answer 1 clean; 1037 1 s0 answer 0 done; 1038 1 s0+f kept \
+509 3 509 509; 1039 1 s0 answer 1 busy 509; 1040 2 s0 out 509 clean; 1041 2 s0+f give 509 509; 1042 1 s2+f claim 0 510 \
+510 for 11 read; 1043 0 s1 answer 518 done; 1044 1 s0 out 510 clean; 1045 1 s0+f give 510 510; 1046 1 s2+f use 11 510 \
+11 13 2 1; 1047 1 s2 answer 2 value 0 miss 0; 1048 2 s1+f use 0 509 0 3 3 0; 1049 2 s1 answer 1 done miss 0; 1050 2 s0 \
+answer 2 unmapped; tiles 8 7 7 0; promotions 63; demotions 0; preemptions 0; images 0 514; frames 0 0 512; end
+
+run: drawn with wires from 351
+turns: 1026 00003211230132121011100133230
+stores: reads 513 writes; reads 1 writes; reads 1 writes
+trace: trace 3 512 4 3 0123; 0 map 0 0 510 wired write; 0 map 0 510 2 growing write; 0 load 0 0; 511 times 8192: 0 \
+load 0 #; 0 map 0 512 3 wired read; 0 map 1 0 8 fixed write; 0 map 2 0 8 fixed write; 3 store 0 4186112 39; 1 wire 0 \
+513; 2 unwire 1 4; 1 store 0 4186112 6; 1 wire 0 511; 3 sync 1 4; 3 load 1 0; 1 evict 2 0; end
+report: 1026 0 s0 answer 514 done; 1027 0 s1 answer 515 done; 1028 0 s2 answer 516 done; 1029 3 s0 answer 0 done miss \
+0; 1030 2 s1+f pin 0 8 0; 1031 1 s0+f pin 512 3 1; 1032 1 s0 answer 0 done; 1033 2 s1 answer 0 done; 1034 3 s1 answer \
+1 clean; 1035 1 s0 answer 1 done miss 0; 1036 3 s1+f claim 0 510 510 for 0 read; 1037 1 s0+f kept 510 2 510 510; 1038 \
+1 s0 answer 2 busy 510; 1039 1 s2 answer 3 clean; 1040 3 s0 out 510 clean; 1041 3 s0+f give 510 510; 1042 3 s1+f use 0 \
+510 0 8 8 0; 1043 3 s1 failed 0 read 1; 1044 3 s1+f give 0 510; 1045 3 s1 answer 2 storefault 1 1; tiles 7 7 7 0; \
+promotions 63; demotions 0; preemptions 0; images 0 514; frames 1 0 511; end
+
+run: drawn with wires from 556
+turns: 1025 000330033333022133112013221232111323
+stores: reads writes; reads writes
+trace: trace 3 512 4 2 0123; 0 map 0 0 512 fixed write; 0 load 0 0; 511 times 8192: 0 load 0 #; 0 map 0 512 1 fixed \
+read; 0 map 1 0 1 wired write; 0 map 1 1 1 fixed write; 2 store 1 8192 27; 0 sync 0 512; 0 load 1 8192; 3 store 1 0 \
+53; 0 load 1 8192; 3 wire 1 1; 3 store 0 4186112 67; 0 protect 1 1 1 read; 1 wire 0 511; end
+report: 1025 0 s0 answer 513 done; 1026 0 s1 answer 514 done; 1027 0 s1 answer 515 done; 1028 3 s1+f claim 0 0 0 for 0 \
+write; 1029 3 s0 out 0 clean; 1030 3 s0+f give 0 0; 1031 3 s1+f use 0 0 0 1 1 1; 1032 3 s1 answer 0 done miss 0; 1033 \
+3 s1+f pin 1 1 1; 1034 3 s1 answer 1 done; 1035 0 s0 answer 516 clean; 1036 2 s1+f claim 0 1 1 for 1 write; 1037 2 s0 \
+out 1 clean; 1038 2 s0+f give 1 1; 1039 0 s1+f claim 0 2 2 for 1 read; 1040 1 s0+f kept 0 512 2 2; 1041 2 s1+f use 1 1 \
+1 2 1 1; 1042 2 s1 answer 0 done miss 0; 1043 1 s0 answer 0 busy 2; 1044 3 s0 answer 2 done miss 0; 1045 0 s0 out 2 \
+clean; 1046 0 s0+f give 2 2; 1047 0 f drop 2; 1048 0 s1 answer 517 value 27 miss 0; 1049 0 s1 answer 518 value 27 hit \
+0; 1050 0 s1 answer 519 done; tiles 15 14 6 0; promotions 64; demotions 2; preemptions 0; images 1 516; frames 1 0 \
+511; end";

@@ -102,7 +102,35 @@ report: 0 0 s0 answer 0 done; 1 0 s0+f take 0 0 0 8 8 0; 2 0 s0 answer 1 value 0
 0; 16 0 s0 answer 8 value 0 miss 1; 17 1 s0 answer 0 value 0 miss 1; 18 1 s0 answer 1 value 0 hit 1; 19 0 s0+f answer \
 9 clean; 20 0 s0+f take 1 1 0 8 8 0; 21 0 s0 answer 10 value 0 miss 1; 22 1 s0 answer 2 value 0 miss 1; 23 0 s0 answer \
 11 done hit 0; 24 1 s0 answer 3 value 0 miss 0; 25 1 s0 answer 4 value 0 hit 0; tiles 8 0 0 0; promotions 2; demotions \
-2; preemptions 0; images 3 12; frames 504 0 8; end";
+2; preemptions 0; images 3 12; frames 504 0 8; end
+
+run: the pages of a discarded range are new
+turns: 0
+stores: reads writes
+trace: trace 3 512 1 1 0123; 0 map 0 0 8 fixed write; 0 store 0 0 5; 0 sync 0 0; 0 discard 0 0 8; 0 load 0 0; end
+report: 0 0 s0 answer 0 done; 1 0 s0+f take 0 0 0 8 8 0; 2 0 s0 answer 1 done miss 0; 3 0 s0 answer 2 written; 4 0 \
+s0+f clear 0 8; 5 0 s0 answer 3 done; 6 0 s0+f take 0 0 0 8 8 0; 7 0 s0 answer 4 value 0 miss 0; tiles 1 0 0 0; \
+promotions 0; demotions 0; preemptions 0; images 0 2; frames 504 7 1; end
+
+run: the frames of a wired region come to no other page until it is wired no longer
+turns: 1025
+stores: reads writes; reads writes
+trace: trace 3 512 1 2 0123; 0 map 0 0 512 fixed write; 0 load 0 0; 511 times 8192: 0 load 0 #; 0 wire 0 0; 0 evict 0 \
+3; 0 map 1 0 8 fixed write; 0 load 1 0; 0 unwire 0 0; 0 load 1 0; end
+report: 1025 0 s0+f pin 0 512 1; 1026 0 s0 answer 513 done; 1027 0 s0 answer 514 denied; 1028 0 s1 answer 515 done; \
+1029 0 f refused 512 0 0; 1030 0 s1 answer 516 noframes 512 0 0; 1031 0 s0+f pin 0 512 0; 1032 0 s0 answer 517 done; \
+1033 0 s1+f claim 0 0 0 for 0 read; 1034 0 s0 out 0 clean; 1035 0 s0+f give 0 0; 1036 0 s1+f use 0 0 0 8 8 0; 1037 0 \
+s1 answer 518 value 0 miss 0; tiles 8 7 7 0; promotions 64; demotions 1; preemptions 0; images 0 513; frames 0 0 512; \
+end
+
+run: a wire is busy while a frame of its region is claimed
+turns: 1025 11001111
+stores: reads writes; reads writes
+trace: trace 3 512 2 2 0123; 0 map 0 0 512 fixed write; 0 load 0 0; 511 times 8192: 0 load 0 #; 0 wire 0 0; 1 map 1 0 \
+8 fixed write; 1 load 1 0; end
+report: 1025 1 s1 answer 0 done; 1026 1 s1+f claim 0 0 0 for 0 read; 1027 0 s0+f kept 0 512 0 0; 1028 0 s0 answer 513 \
+busy 0; 1029 1 s0 out 0 clean; 1030 1 s0+f give 0 0; 1031 1 s1+f use 0 0 0 8 8 0; 1032 1 s1 answer 1 value 0 miss 0; \
+tiles 8 7 7 0; promotions 64; demotions 1; preemptions 0; images 0 513; frames 0 0 512; end";
 
 /// Beside a daemon, whose digit is the one behind those of the processors.
 pub const BESIDE_DAEMONS: &str = "\

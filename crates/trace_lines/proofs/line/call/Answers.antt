@@ -7,6 +7,6 @@ returns-in_default c =
     record {
       range = tt;
       text = tt;
-      err = call_too_long c.args.head.now.processors c.args.head.now.spaces
+      err = call_too_long c.args.head.now.version c.args.head.now.processors c.args.head.now.spaces
           (words_of c.args.line.now) c.in_default.ensures.none;
     }

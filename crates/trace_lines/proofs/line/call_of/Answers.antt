@@ -6,6 +6,6 @@ pub returns-in-None : goal.returns-in-None
 returns-in-None c = record {
   range = tt;
   text = tt;
-  err = no_name c.args.head.now.processors c.args.head.now.spaces c.args.processor.now c.args.name.now
+  err = no_name c.args.head.now.version c.args.head.now.processors c.args.head.now.spaces c.args.processor.now c.args.name.now
       (seen c.args.arguments.now) c.in-None.ensures.none;
 }

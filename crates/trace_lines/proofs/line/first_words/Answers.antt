@@ -1,4 +1,4 @@
-use Rattle.std.proofs.Common.{◌≡◌, ℕ, List, [], ◌∷◌, Some, Result, Ok, Err, IfOk, codes, decimal, refl, arith, ◌∙◌}
+use Rattle.std.proofs.Common.{◌≡◌, ◌≤◌, ℕ, List, [], ◌∷◌, Some, Result, Ok, Err, IfOk, codes, decimal, refl, arith, ◌∙◌}
 use Rattle.std.proofs.lemmas.Bool.{eq-eqb, ne_eqb}
 use Rattle.pager_model.specs.SizeSets.{SizeSet}
 use Rattle.pager_model.specs.TraceText.{first_words, sizes_word}
@@ -72,10 +72,10 @@ says_one : (head : Head) (version : ℕ) (word first second third : List ℕ) �
 says_one head version word first second third own one is counts = rw (eq-eqb head.version 1 (own ∙ one)) cc
 
 says_two : (head : Head) (version : ℕ) (sizes : SizeSet) (word first second third fourth : List ℕ) → head.version ≡ version
-    → head.sizes ≡ sizes → version ≡ 2 → word ≡ decimal version → fourth ≡ sizes_word sizes
+    → head.sizes ≡ sizes → 2 ≤ version → word ≡ decimal version → fourth ≡ sizes_word sizes
     → first ∷ second ∷ third ∷ [] ≡ decimal head.frames ∷ decimal head.processors ∷ decimal head.spaces ∷ []
     → Says (word ∷ first ∷ second ∷ third ∷ fourth ∷ []) head
-says_two head version sizes word first second third fourth own same two is named counts =
+says_two head version sizes word first second third fourth own same later is named counts =
     let other : fourth ≡ sizes_word head.sizes = rw same named in
     rw (ne_eqb head.version 1 (λ e. omega (arith, e))) cc
 

@@ -40,6 +40,7 @@ returns c =
       range = (
         c.in_ok-processor.ensures.range.0,
         (c.in_ok-processor.ensures.range.1, c.in_ok-address.ensures.found.1, c.in_ok-address.ensures.found.3),
+        tt,
       );
       text = rw (
         two c.args.arguments.now c.in-len2.len_at_least c.in-len2.len_below,

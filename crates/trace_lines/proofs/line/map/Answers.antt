@@ -36,7 +36,7 @@ returns-in_err-processor c =
 pub returns : goal.returns
 returns c =
     record {
-      range = (c.in_ok-processor.ensures.range.0, (c.in_ok-processor.ensures.range.1, c.in_ok-processor.ensures.range.2, c.in_ok-processor.ensures.range.3, c.in_ok-processor.ensures.range.4));
+      range = (c.in_ok-processor.ensures.range.0, (c.in_ok-processor.ensures.range.1, c.in_ok-processor.ensures.range.2, c.in_ok-processor.ensures.range.3, c.in_ok-processor.ensures.range.4), tt);
       text = rw (
         five c.args.arguments.now c.in-len5.len_at_least c.in-len5.len_below,
         c.in_ok-processor.ensures.text.0,

@@ -50,6 +50,7 @@ returns c =
       range = (
         c.in_ok-processor.ensures.range.0,
         (c.in_ok-processor.ensures.range.1, c.in_ok-address.ensures.found.1, c.in_ok-address.ensures.found.3, (number_in_takes 1 0 (2 ^ 64) (word_at c.args.arguments.now 2) c.in_ok-word.word (sym c.in_ok-word.ensures.exact)).end_in),
+        tt,
       );
       text = rw (
         three c.args.arguments.now c.in-len3.len_at_least c.in-len3.len_below,

@@ -23,7 +23,7 @@ returns-then-eq-clause-refused c =
     let calls = c.lines.calls.items in
     let some : c.in-Some.after.now ≢ [] = λ e. let none : length c.in-Some.after.now ≡ 0 = ap length e in grind (arith, common_steps) in
     let len : c.len.result ≡ length calls = omega arith in
-    rw len (c.lines.invariant.refusal ∙ past_the_end (call_forms c.args.head.now.processors c.args.head.now.spaces)
+    rw len (c.lines.invariant.refusal ∙ past_the_end (call_forms c.args.head.now.version c.args.head.now.processors c.args.head.now.spaces)
     (c.args.first + length calls) (length calls) c.lines.rest.now c.in-Some.line.now c.in-Some.after.now c.in-Some.ensures.first
     (sym c.if-eq.ensures) some)
 
@@ -31,7 +31,7 @@ pub returns-in-Err-clause-refused : goal.returns-in-Err-clause-refused
 returns-in-Err-clause-refused c =
     let calls = c.lines.calls.items in
     let len : c.len.result ≡ length calls = omega arith in
-    rw len (c.lines.invariant.refusal ∙ faulty_line (call_forms c.args.head.now.processors c.args.head.now.spaces)
+    rw len (c.lines.invariant.refusal ∙ faulty_line (call_forms c.args.head.now.version c.args.head.now.processors c.args.head.now.spaces)
     (c.args.first + length calls)
     (length calls) c.lines.rest.now c.in-Some.line.now c.in-Some.after.now c.in-Err.cause c.in-Some.ensures.first
     (sym c.if-eq.ensures) c.in-Err.ensures.err)
@@ -40,9 +40,9 @@ pub returns-then-len-eq-MAX_CALLS-clause-refused :
     goal.returns-then-len-eq-MAX_CALLS-clause-refused
 returns-then-len-eq-MAX_CALLS-clause-refused c =
     let calls = c.lines.calls.items in
-    let forms = call_forms c.args.head.now.processors c.args.head.now.spaces in
+    let forms = call_forms c.args.head.now.version c.args.head.now.processors c.args.head.now.spaces in
     let lawful : line_fault forms (words_of c.in-Some.line.now) ≡ None =
-    rw c.in-Ok.ensures.text (line_is_lawful c.args.head.now.processors c.args.head.now.spaces c.in-Ok.call (omega (arith, c.requires.range.3.1))
+    rw c.in-Ok.ensures.text (line_is_lawful c.args.head.now.version c.args.head.now.processors c.args.head.now.spaces c.in-Ok.call (omega (arith, c.requires.range.3.1))
     (omega (arith, c.requires.range.4.1)) c.in-Ok.ensures.range) in
     let many : length calls ≡ 262144 = omega arith in
     c.lines.invariant.refusal ∙ one_call_more forms (c.args.first + length calls)
@@ -51,9 +51,9 @@ returns-then-len-eq-MAX_CALLS-clause-refused c =
 pub lines-preserved : goal.lines-preserved
 lines-preserved c =
     let calls = c.lines.calls.items in
-    let forms = call_forms c.args.head.now.processors c.args.head.now.spaces in
+    let forms = call_forms c.args.head.now.version c.args.head.now.processors c.args.head.now.spaces in
     let lawful : line_fault forms (words_of c.in-Some.line.now) ≡ None =
-    rw c.in-Ok.ensures.text (line_is_lawful c.args.head.now.processors c.args.head.now.spaces c.in-Ok.call (omega (arith, c.requires.range.3.1))
+    rw c.in-Ok.ensures.text (line_is_lawful c.args.head.now.version c.args.head.now.processors c.args.head.now.spaces c.in-Ok.call (omega (arith, c.requires.range.3.1))
     (omega (arith, c.requires.range.4.1)) c.in-Ok.ensures.range) in
     let items : c.push.new.self.items ≡ calls ++ c.in-Ok.call ∷ [] = grind (arith, common_steps) in
     let more : length c.push.new.self.items ≡ length calls + 1 = grind (arith, common_steps) in
@@ -63,7 +63,7 @@ lines-preserved c =
     let number : c.args.first + length calls + 1 ≡ c.args.first + length c.push.new.self.items = omega arith in
     record {
       lines = rw items (All-push
-          (IsLine c.args.head.now.processors c.args.head.now.spaces) calls c.in-Ok.call c.lines.invariant.lines c.in-Ok.ensures.range);
+          (IsLine c.args.head.now.version c.args.head.now.processors c.args.head.now.spaces) calls c.in-Ok.call c.lines.invariant.lines c.in-Ok.ensures.range);
       few = omega arith;
       parts = rw items (parts_go_on c.args.text.now c.lines.rest.now c.in-Some.line.now c.in-Some.after.now calls c.in-Ok.call c.lines.invariant.parts c.in-Some.ensures.parts c.in-Ok.ensures.text);
       refusal = c.lines.invariant.refusal ∙ next ∙ ap (λ (n : ℕ). calls_refusal forms n (length calls + 1)

@@ -6,11 +6,11 @@ use Rattle.trace_reader.proofs.text.calls.Given as goal
 
 abbrev pub invariant-lines : goal.invariant-lines
 invariant-lines l = record {
-  lines : All (IsLine l.head.processors l.head.spaces) l.calls.items;
+  lines : All (IsLine l.head.version l.head.processors l.head.spaces) l.calls.items;
   few : length l.calls.items ≤ 262144;
   parts : l.text ≡ flat_map call_line l.calls.items ++ l.rest;
-  refusal : calls_refusal (call_forms l.head.processors l.head.spaces) l.first 0 (lines_of l.text) ≡ calls_refusal
-      (call_forms l.head.processors l.head.spaces) (l.first + length l.calls.items) (length l.calls.items) (lines_of l.rest);
+  refusal : calls_refusal (call_forms l.head.version l.head.processors l.head.spaces) l.first 0 (lines_of l.text) ≡ calls_refusal
+      (call_forms l.head.version l.head.processors l.head.spaces) (l.first + length l.calls.items) (length l.calls.items) (lines_of l.rest);
 }
 
 abbrev pub decreases-lines : goal.decreases-lines

@@ -18,7 +18,7 @@ returns-in-Err-clause-refused c =
 pub returns-in-Err-second_line-clause-refused : goal.returns-in-Err-second_line-clause-refused
 returns-in-Err-second_line-clause-refused c =
     let head = c.in-Ok.head in
-    behind_first_line c.args.text.now c.in-Some.line.now c.in-Some.rest.now head c.if-text-gt-MAX_BYTES.false c.in-Some.ensures.first c.in-Ok.ensures.text c.in-Ok.ensures.range ∙ c.in-Err-second_line.ensures.refused (call_forms head.processors head.spaces)
+    behind_first_line c.args.text.now c.in-Some.line.now c.in-Some.rest.now head c.if-text-gt-MAX_BYTES.false c.in-Some.ensures.first c.in-Ok.ensures.text c.in-Ok.ensures.range ∙ c.in-Err-second_line.ensures.refused (call_forms head.version head.processors head.spaces)
 
 pub returns-in_err-calls-clause-refused : goal.returns-in_err-calls-clause-refused
 returns-in_err-calls-clause-refused c =
@@ -29,7 +29,7 @@ returns-in_err-calls-clause-refused c =
       p.1,
       p.2,
       behind,
-      c.in-Ok-second_line.ensures.rest (call_forms head.processors head.spaces),
+      c.in-Ok-second_line.ensures.rest (call_forms head.version head.processors head.spaces),
       ← c.first_call.ensures,
     ) c.in_err-calls.ensures.refused
 

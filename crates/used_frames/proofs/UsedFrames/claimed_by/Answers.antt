@@ -11,10 +11,10 @@ read c = grind (arith, common_steps)
 pub returns-clause-found : goal.returns-clause-found
 returns-clause-found c =
     IfSome-from c.flatten.result (Claims c.args.self.now c.args.processor)
-    (λ frame is. rw (← c.self.view_is) (listed_claim _ _ _ c.self.invariant frame c.args.processor (sym (read c) ∙ is)))
+    (λ frame is. rw (← c.self.view_is) (listed_claim _ _ c.self.invariant frame c.args.processor (sym (read c) ∙ is)))
 
 pub returns-clause-none : goal.returns-clause-none
 returns-clause-none c =
     if_none c.flatten.result
-    (λ none frame claims. let listed = claim_listed _ _ _ c.self.invariant frame c.args.processor (rw (← c.self.view_is) at claims) in
+    (λ none frame claims. let listed = claim_listed _ _ c.self.invariant frame c.args.processor (rw (← c.self.view_is) at claims) in
     let is = read c in cc)

@@ -1,6 +1,6 @@
 use Rattle.std.proofs.Common.{◌≡◌, Some, None, get_or, arith}
 use Rattle.pager_model.specs.FrameStates.{claim_in}
-use Rattle.used_frames.proofs.NoteChanges.{AreKept-unclaim, claimant_known}
+use Rattle.used_frames.proofs.NoteChanges.{AreMutual-unclaims, claimant_known}
 use Rattle.used_frames.proofs.UsedFrames.unclaim.Goals as goal
 use Rattle.used_frames.proofs.UsedFrames.unclaim.Goals.{After-unwrap-frame}
 
@@ -9,7 +9,7 @@ claims_it c = rw (← c.self.view_is) at (rw c.unwrap-frame.ensures at c.claimed
 
 pub index_mut-requires : goal.index_mut-requires
 index_mut-requires c =
-    let known = claimant_known _ _ _ c.self.invariant c.unwrap-frame.result c.args.processor
+    let known = claimant_known _ _ c.self.invariant c.unwrap-frame.result c.args.processor
     (claims_it (goal.at.index_mut-requires c).After-unwrap-frame) in
     omega (arith, known, c.self.inside.claims.ok.0)
 
@@ -18,5 +18,5 @@ invariant_of-self c =
     let inside = c.self.inside in
     let after = (goal.at.invariant_of-self c).After-unwrap-frame in
     rw c.set_claim.ensures
-    (AreKept-unclaim inside.notes inside.order inside.claims.items c.self.invariant c.unwrap-frame.result c.args.processor
+    (AreMutual-unclaims inside.notes inside.claims.items c.self.invariant c.unwrap-frame.result c.args.processor
     (claims_it after))

@@ -1,6 +1,6 @@
 use Rattle.std.proofs.Common.{◌≡◌, ℕ, None, IsSomeAnd, sym, subst}
 use Rattle.pager_model.specs.declared.entry.What.{What}
-use Rattle.pager_model.specs.FrameStates.{FramesAllow, AllowsAnswer, frame_of, take_frame, state_taken, give_if_used, give_range, dropped, moved, moved_by_answer, named_space}
+use Rattle.pager_model.specs.FrameStates.{FramesAllow, AllowsAnswer, frame_of, take_frame, state_taken, give_if_used, give_range, pin_range, dropped, moved, moved_by_answer, named_space}
 use Rattle.pager_laws.proofs.GivenRanges.{give_if_used-some}
 use Rattle.contiguity_plan.specs.Tables.{IsRight}
 use Rattle.contiguity_plan.proofs.table.Table.step.Goals as goal
@@ -41,6 +41,13 @@ returns-in-Clear-clause-right c = λ frames processors mark st sound right allow
     subst (λ (w : What). IsRight (moved st e.processor e.space w) c.clear.new.self) (sym c.in-Clear.is)
     (subst (λ (s : ℕ). IsRight (give_range st s c.in-Clear.first c.in-Clear.length) c.clear.new.self) c.space_of-space.ensures
     (c.clear.ensures.right frames processors st sound right))
+
+pub returns-in-Pin-clause-right : goal.returns-in-Pin-clause-right
+returns-in-Pin-clause-right c = λ frames processors mark st sound right allowed.
+    let e = c.args.entry.now in
+    subst (λ (w : What). IsRight (moved st e.processor e.space w) c.pin.new.self) (sym c.in-Pin.is)
+    (subst (λ (s : ℕ). IsRight (pin_range st s c.in-Pin.first c.in-Pin.length c.in-Pin.wired) c.pin.new.self) c.space_of-space.ensures
+    (c.pin.ensures.right frames processors st sound right))
 
 pub returns-in_ok-use_held-in-UseHeld-clause-right : goal.returns-in_ok-use_held-in-UseHeld-clause-right
 returns-in_ok-use_held-in-UseHeld-clause-right c = λ frames processors mark st sound right allowed.

@@ -46,6 +46,9 @@ returns-in-Evict-clause-never_lacks g c = NeverLacks-made c.args.self.now.purpos
 pub returns-in-Clear-clause-never_lacks : goal.returns-in-Clear-clause-never_lacks
 returns-in-Clear-clause-never_lacks g c = NeverLacks-made c.args.self.now.purpose c.args.self.now.phase c.clear.result.what c.clear.new.self.phase (ap may_write c.in-Clear.is) c.clear.ensures.row
 
+pub returns-in-Pin-clause-never_lacks : goal.returns-in-Pin-clause-never_lacks
+returns-in-Pin-clause-never_lacks g c = NeverLacks-made c.args.self.now.purpose c.args.self.now.phase c.pin.result.what c.pin.new.self.phase (ap may_write c.in-Pin.is) c.pin.ensures.row
+
 pub returns-in-Frame-clause-never_lacks : goal.returns-in-Frame-clause-never_lacks
 returns-in-Frame-clause-never_lacks g c = NeverLacks-made c.args.self.now.purpose c.args.self.now.phase c.take.result.what c.take.new.self.phase (ap may_write c.in-Frame.is) c.take.ensures.row
 

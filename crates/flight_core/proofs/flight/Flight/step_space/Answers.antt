@@ -12,8 +12,11 @@ returns-in-Fault-clause-entry g c = c.refuse-in-Fault.ensures.entry c.args.space
 pub returns-in-Lack-clause-entry : goal.returns-in-Lack-clause-entry
 returns-in-Lack-clause-entry g c = c.refuse-in-Lack.ensures.entry c.args.space.now
 
+pub returns-in-Busy-clause-entry : goal.returns-in-Busy-clause-entry
+returns-in-Busy-clause-entry g c = c.refuse-in-Busy.ensures.entry c.args.space.now
+
 pub returns-in-Gone-clause-lasting : goal.returns-in-Gone-clause-lasting
-returns-in-Gone-clause-lasting g c = λ _. NeverLacks-made c.args.self.now.purpose c.args.self.now.phase c.unmap.result.what c.unmap.new.self.phase (ap may_write c.in-Gone.is) c.unmap.ensures.row
+returns-in-Gone-clause-lasting g c = λ _. NeverLacks-made c.args.self.now.purpose c.args.self.now.phase c.conclude.result.what c.conclude.new.self.phase (ap may_write c.in-Gone.is) c.conclude.ensures.row
 
 pub returns-in-Fill-clause-lasting : goal.returns-in-Fill-clause-lasting
 returns-in-Fill-clause-lasting g c = λ _. NeverLacks-made c.args.self.now.purpose c.args.self.now.phase c.fill.result.what c.fill.new.self.phase (ap may_write c.in-Fill.is) c.fill.ensures.row
@@ -29,6 +32,9 @@ returns-in-Fault-clause-lasting g c = λ _. NeverLacks-made c.args.self.now.purp
 
 pub returns-in-Lack-clause-lasting : goal.returns-in-Lack-clause-lasting
 returns-in-Lack-clause-lasting g c = λ _. NeverLacks-made c.args.self.now.purpose c.args.self.now.phase c.refuse-in-Lack.result.what c.refuse-in-Lack.new.self.phase (ap may_write c.in-Lack.is) c.refuse-in-Lack.ensures.row
+
+pub returns-in-Busy-clause-lasting : goal.returns-in-Busy-clause-lasting
+returns-in-Busy-clause-lasting g c = λ _. NeverLacks-made c.args.self.now.purpose c.args.self.now.phase c.refuse-in-Busy.result.what c.refuse-in-Busy.new.self.phase (ap may_write c.in-Busy.is) c.refuse-in-Busy.ensures.row
 
 pub returns-in-Back-clause-lasting : goal.returns-in-Back-clause-lasting
 returns-in-Back-clause-lasting g c = λ _. NeverLacks-passed c.args.self.now.phase c.look_again.new.self.phase (ap may_write c.in-Back.is) c.look_again.ensures.row

@@ -1,3 +1,4 @@
+use Rattle.followed_space.proofs.RegionCalls.{follows_discarded}
 use Rattle.followed_space.proofs.space.FollowedSpace.serve.Goals as goal
 
 pub returns-in-Map-clause-follows : goal.returns-in-Map-clause-follows
@@ -22,3 +23,14 @@ returns-in-Sync-clause-follows c = λ st e serves next. c.sync.ensures.follows s
 
 pub returns-in-Evict-clause-follows : goal.returns-in-Evict-clause-follows
 returns-in-Evict-clause-follows c = λ st e serves next. c.evict.ensures.follows st e c.in-Evict.space (rw c.in-Evict.is at serves) next
+
+pub returns-in-Discard-clause-follows : goal.returns-in-Discard-clause-follows
+returns-in-Discard-clause-follows c = λ st e serves next. follows_discarded c.args.self.now c.in-Discard.space c.in-Discard.page
+    c.in-Discard.length st e (rw c.in-Discard.is at serves) next
+
+pub returns-in-Wire-clause-follows : goal.returns-in-Wire-clause-follows
+returns-in-Wire-clause-follows c = λ st e serves next. c.wire.ensures.follows st e c.in-Wire.space (rw c.in-Wire.is at serves) next
+
+pub returns-in-Unwire-clause-follows : goal.returns-in-Unwire-clause-follows
+returns-in-Unwire-clause-follows c = λ st e serves next. c.unwire.ensures.follows st e c.in-Unwire.space
+    (rw c.in-Unwire.is at serves) next

@@ -57,9 +57,6 @@ add-requires-clause-unused c =
     let unplaced = rw (← c.self.view_is) at c.requires.unplaced in
     nothing_noted c.self.inside a _ c.in-Some.place c.self.invariant unplaced c.in-Some.ensures.placed
 
-pub add-requires-clause-youngest : goal.add-requires-clause-youngest
-add-requires-clause-youngest c = c.self.invariant.sound.ages_past
-
 pub invariant_of-self-2 : goal.invariant_of-self-2
 invariant_of-self-2 c =
     let a = asked c.args.space c.args.page c.args.want.now in

@@ -74,3 +74,42 @@ returns-in-Unmap-clause-lasting g c = λ _. had_memory _ _ 0 _ c.begin_unmap.res
 
 pub returns-in-Protect-clause-lasting : goal.returns-in-Protect-clause-lasting
 returns-in-Protect-clause-lasting g c = λ _. had_memory _ _ 0 _ c.begin_protect.result refl (c.begin_protect.ensures.begins 0)
+
+pub begin_discard-requires-clause-can : goal.begin_discard-requires-clause-can
+begin_discard-requires-clause-can g c _ _ =
+    let own : c.in-Discard.space ≡ c.args.self.now.number = ap space_of_call (sym c.in-Discard.is) ∙ c.requires.space in
+    rw (c.in-Discard.is, own) at c.requires.can
+
+pub returns-in-Discard-clause-begins : goal.returns-in-Discard-clause-begins
+returns-in-Discard-clause-begins g c =
+    let own : c.in-Discard.space ≡ c.args.self.now.number = ap space_of_call (sym c.in-Discard.is) ∙ c.requires.space in
+    rw (c.in-Discard.is, own) (c.begin_discard.ensures.begins c.args.processor)
+
+pub begin_wire-requires-clause-can : goal.begin_wire-requires-clause-can
+begin_wire-requires-clause-can g c _ _ =
+    let own : c.in-Wire.space ≡ c.args.self.now.number = ap space_of_call (sym c.in-Wire.is) ∙ c.requires.space in
+    rw (c.in-Wire.is, own) at c.requires.can
+
+pub returns-in-Wire-clause-begins : goal.returns-in-Wire-clause-begins
+returns-in-Wire-clause-begins g c =
+    let own : c.in-Wire.space ≡ c.args.self.now.number = ap space_of_call (sym c.in-Wire.is) ∙ c.requires.space in
+    rw (c.in-Wire.is, own) (c.begin_wire.ensures.begins c.args.processor)
+
+pub begin_unwire-requires-clause-can : goal.begin_unwire-requires-clause-can
+begin_unwire-requires-clause-can g c _ _ =
+    let own : c.in-Unwire.space ≡ c.args.self.now.number = ap space_of_call (sym c.in-Unwire.is) ∙ c.requires.space in
+    rw (c.in-Unwire.is, own) at c.requires.can
+
+pub returns-in-Unwire-clause-begins : goal.returns-in-Unwire-clause-begins
+returns-in-Unwire-clause-begins g c =
+    let own : c.in-Unwire.space ≡ c.args.self.now.number = ap space_of_call (sym c.in-Unwire.is) ∙ c.requires.space in
+    rw (c.in-Unwire.is, own) (c.begin_unwire.ensures.begins c.args.processor)
+
+pub returns-in-Discard-clause-lasting : goal.returns-in-Discard-clause-lasting
+returns-in-Discard-clause-lasting g c = λ _. had_memory _ _ 0 _ c.begin_discard.result refl (c.begin_discard.ensures.begins 0)
+
+pub returns-in-Wire-clause-lasting : goal.returns-in-Wire-clause-lasting
+returns-in-Wire-clause-lasting g c = λ _. had_memory _ _ 0 _ c.begin_wire.result refl (c.begin_wire.ensures.begins 0)
+
+pub returns-in-Unwire-clause-lasting : goal.returns-in-Unwire-clause-lasting
+returns-in-Unwire-clause-lasting g c = λ _. had_memory _ _ 0 _ c.begin_unwire.result refl (c.begin_unwire.ensures.begins 0)

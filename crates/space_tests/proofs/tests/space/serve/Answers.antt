@@ -1,7 +1,8 @@
 use Rattle.std.proofs.Common.{◌≡◌, ℕ, length, sym, ap, ◌∙◌, arith, inl, inr}
 use Rattle.std.proofs.lemmas.Bool.{cases_eq}
 use Rattle.std.proofs.lemmas.Option.{none-some, same_Some}
-use Rattle.space_core.specs.Standing.{Kept, StandsFor, frame_at, is_allowed}
+use Rattle.space_core.specs.Standing.{Kept, StandsBut, StandsFor, frame_at, is_allowed}
+use Rattle.space_core.proofs.ClearedRanges.{StandsBut-rest}
 use Rattle.pager_model.proofs.SpaceEntries.{base-unnamed}
 use Rattle.space_tests.proofs.SpareFrames.{allowed_same, kept_others, popped, rest_spare, still_spare}
 use Rattle.space_tests.proofs.tests.space.serve.Goals as goal
@@ -110,3 +111,42 @@ returns-in-Failed-clause-spare g c =
     let fails = c.in-Failed.ensures.begins.fails in
     still_spare _ _ _ _ fails.resting (fails.stands spare.state spare.stands 0) fails.same.same.frames fails.same.same.processors
     (λ p number has. sym (fails.same.frame p) ∙ has) spare
+
+pub clear-gave-requires-clause-none_pending : goal.clear-gave-requires-clause-none_pending
+clear-gave-requires-clause-none_pending g c =
+    ap (λ (k : Kept). k.pending) c.in-NeedsClear.ensures.begins.same ∙ c.requires.spare.resting.none_pending
+
+pub discard-requires-clause-none_pending : goal.discard-requires-clause-none_pending
+discard-requires-clause-none_pending g c κs =
+    c.clear-gave.ensures.same_pending ∙ ap (λ (k : Kept). k.pending) c.in-NeedsClear.ensures.begins.same ∙ c.requires.spare.resting.none_pending
+
+pub discard-requires-clause-none_paged : goal.discard-requires-clause-none_paged
+discard-requires-clause-none_paged g c κs =
+    c.clear-gave.ensures.same_paged ∙ ap (λ (k : Kept). k.paged) c.in-NeedsClear.ensures.begins.same ∙ c.requires.spare.resting.none_paged
+
+pub discard-requires-clause-no_other : goal.discard-requires-clause-no_other
+discard-requires-clause-no_other g c κs r at = same_Some _ _ (sym at ∙ c.clear-gave.ensures.clearing)
+
+pub returns-in-Discard-clause-spare : goal.returns-in-Discard-clause-spare
+returns-in-Discard-clause-spare g c =
+    let spare = c.requires.spare in
+    let begun = c.in-NeedsClear.ensures.begins.same in
+    let cleared = c.clear-gave.ensures in
+    let first = c.in-NeedsClear.first in
+    let len = c.in-NeedsClear.length in
+    let stands : StandsBut first len c.begin.new.self spare.state =
+    rw begun (StandsBut-rest c.args.space.now spare.state first len spare.resting spare.stands) in
+    still_spare c.args.space.now _ _ _ c.discard.ensures.resting (c.discard.ensures.stands _ (cleared.stands spare.state 0 stands) 0 0)
+    (c.discard.ensures.same.same.frames ∙ cleared.same.frames ∙ ap (λ (k : Kept). k.frames) begun)
+    (c.discard.ensures.same.same.processors ∙ cleared.same.processors ∙ ap (λ (k : Kept). length k.images) begun)
+    (λ p number has. sym (ap (λ (k : Kept). frame_at k p) begun) ∙ cleared.frames p number (sym (c.discard.ensures.same.frame p) ∙ has)) spare
+
+pub returns-in-NeedsPin-clause-spare : goal.returns-in-NeedsPin-clause-spare
+returns-in-NeedsPin-clause-spare g c =
+    let spare = c.requires.spare in
+    let begun = c.in-NeedsPin.ensures.begins.same in
+    let stands : StandsFor c.begin.new.self spare.state = rw begun spare.stands in
+    still_spare c.args.space.now _ _ _ c.pin.ensures.resting (c.pin.ensures.stands _ stands 0 0)
+    (c.pin.ensures.same_frames ∙ ap (λ (k : Kept). k.frames) begun)
+    (c.pin.ensures.same_processors ∙ ap (λ (k : Kept). length k.images) begun)
+    (λ p number has. sym (c.pin.ensures.frame p ∙ ap (λ (k : Kept). frame_at k p) begun) ∙ has) spare
