@@ -1,3 +1,4 @@
 pub mod TableLemmas
 pub mod RegionSearch
 pub mod RegionRights
+pub mod NextAbove

@@ -6,12 +6,13 @@
 
 ghost use Rattle.std.specs.Prelude.{◌≡◌, ◌≢◌, ◌+◌, ◌<◌, ◌≤◌, ◌||◌, not, Some, [], length, nat_le, IfSome, IfOk, IfErr, OnOk, OnErr, MatchResult};
 ghost use Rattle.std.specs.List.{list_any, position, prefix_len};
-ghost use Rattle.pager_model.specs.Regions.{has_page, is_wired_kind, meets_range, region_at, next_start, with_region, without_region, grown_regions, pinned_regions, map_reply, grow_reply, unmap_reply};
+ghost use Rattle.pager_model.specs.Regions.{has_page, is_wired, is_wired_kind, meets_range, region_at, next_start, want_end, wanted, with_region, without_region, grown_regions, pinned_regions, map_reply, grow_reply, unmap_reply};
+ghost use Rattle.pager_model.specs.PreferredSize.{IsWanted};
 ghost use Rattle.region_table.specs.Table.{IsTable, region_of, pin_reply};
 ghost use Rattle.pager_model.specs.Bounds.{space_pages};
 
 use arrayvec::ArrayVec;
-use pager_model::{Kind, PAGES, Region, Reply, Rights};
+use pager_model::{Kind, PAGES, Region, Reply, Rights, Want};
 use std::marker::Model;
 
 /// The most regions that a space may have.
@@ -114,6 +115,46 @@ impl Regions {
         Ok(())
     }
 
+    /// What a map of these pages would be answered.
+    pub fn reply_to_map(&self, page: u32, length: u32) -> Reply
+        requires some { 1 ≤ length }
+        requires in_space { page < space_pages }
+        ensures { result ≡ map_reply self.now page length }
+    {
+        if length > PAGES - page {
+            return Reply::OutOfSpace;
+        }
+        if self.meets(page, length) {
+            return Reply::Overlap;
+        }
+        if self.items.is_full() {
+            return Reply::RegionsFull;
+        }
+        Reply::Done
+    }
+
+    /// What a growth of the region that has `page` would be answered.
+    pub fn reply_to_grow(&self, page: u32, by: u32) -> Reply
+        requires { 1 ≤ by }
+        ensures { result ≡ grow_reply self.now page by }
+    {
+        let Some(place) = self.place_of(page) else {
+            return Reply::Unmapped;
+        };
+        let region = self.items[place];
+        if region.kind != Kind::Growing {
+            return Reply::NotGrowing;
+        }
+        let end = region.first + region.length;
+        if by > PAGES - end {
+            return Reply::OutOfSpace;
+        }
+        if self.meets(end, by) {
+            return Reply::Overlap;
+        }
+        Reply::Done
+    }
+
     /// Takes away the region that has `page`, and gives it. `Unmapped` where no region has the page.
     pub fn unmap(&mut self, page: u32) -> Result<Region, Reply>
         ensures reply { MatchResult result (λ _. unmap_reply self.old page ≡ Reply.Done)
@@ -174,6 +215,15 @@ impl Regions {
         }
     }
 
+    /// Where a reservation for a page may lie, where a region has it: within the region, and up to the next one where it may grow.
+    pub fn want_at(&self, page: u32) -> Option<Want>
+        ensures want { result ≡ wanted self.now page }
+        ensures for_page { IfSome result (λ want. IsWanted want page) }
+    {
+        let region = self.find(page)?;
+        Some(want_in(&region, page, self.next_start(page)))
+    }
+
     /// Whether a region has one of the pages.
     fn meets(&self, page: u32, length: u32) -> bool
         requires some { 1 ≤ length }
@@ -213,4 +263,31 @@ fn may_pin(region: &Region, pinned: bool) -> bool
     ensures { result ≡ (pinned || not (is_wired_kind region.now.kind)) }
 {
     pinned || region.kind != Kind::Wired
+}
+
+/// Where a reservation for a page of the region may lie, where the next region begins here.
+fn want_in(region: &Region, page: u32, next: u32) -> Want
+    requires has_first { region.now.first ≤ page }
+    requires has_last { page < region.now.first + region.now.length }
+    requires in_space { region.now.first + region.now.length ≤ space_pages }
+    requires above { page < next }
+    requires next_in_space { next ≤ space_pages }
+    ensures want { result ≡ record {
+      low = region.now.first;
+      high = want_end region.now.kind region.now next;
+      cap = region.now.length;
+      wired = is_wired region.now;
+    } }
+    ensures for_page { IsWanted result page }
+{
+    let high = match region.kind {
+        Kind::Growing => next,
+        Kind::Fixed | Kind::Wired => region.first + region.length,
+    };
+    Want {
+        low: region.first,
+        high,
+        cap: region.length,
+        wired: region.is_wired(),
+    }
 }

@@ -209,8 +209,8 @@ pub evict_denied : (regions : List Region) (page : ℕ) (r : Region) → region_
     → evict_reply (region_at regions page) dirty ≡ Denied
 evict_denied regions page r at wired dirty = ap (λ o. evict_reply o dirty) at ∙ cond-true _ _ _ wired
 
--- nothing is done for a clean page
-saves_clean : (old : Kept) (page : ℕ) → dirty_at old page ≡ false → Saves old old page false
+-- nothing is done for a clean page, or for one that isn't resident
+pub saves_clean : (old : Kept) (page : ℕ) → dirty_at old page ≡ false → Saves old old page false
 saves_clean old page clean = record {
   was = clean;
   same = refl;

@@ -6,7 +6,6 @@ pub mod GivenPages
 pub mod TableLemmas
 pub mod ServedPages
 pub mod Refusals
-pub mod RegionSearch
 pub mod RegionChanges
 pub mod ClearedRanges
 pub mod Translations

@@ -1,7 +1,7 @@
-use Rattle.std.proofs.Common.{◌≡◌, length, Some, get_or, set, sym, ap, ◌∙◌}
+use Rattle.std.proofs.Common.{◌≡◌, length, get_or, set, sym, ap, ◌∙◌}
 use Rattle.std.proofs.lemmas.List.{length-set}
 use Rattle.arrayvec.proofs.ArrayVecLemmas.{items-with_items}
-use Rattle.pager_model.specs.Regions.{region_at, pinned_regions}
+use Rattle.pager_model.specs.Regions.{pinned_regions}
 use Rattle.region_table.specs.Table.{IsTable}
 use Rattle.region_table.proofs.TableLemmas.{blank, repinned, find-at_none, region_at-place, region_at-pinned, pin_reply-none, pin_reply-done, pin_reply-denied, IsTable-pinned}
 use Rattle.region_table.proofs.Regions.pin.Goals as goal

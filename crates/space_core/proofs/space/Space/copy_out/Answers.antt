@@ -1,9 +1,10 @@
-use Rattle.std.proofs.Common.{◌≡◌, ◌∙◌, ℕ, subst, true, false, refl, sym, Bool}
-use Rattle.std.proofs.lemmas.Bool.{false≢true, true≢false}
+use Rattle.std.proofs.Common.{◌≡◌, ◌∙◌, subst, true, false, refl, sym, Bool}
+use Rattle.std.proofs.lemmas.Bool.{true≢false}
 use Rattle.space_core.specs.Saving.{Saves}
-use Rattle.space_core.specs.Standing.{Kept, dirty_at}
+use Rattle.space_core.specs.Standing.{dirty_at}
 use Rattle.space_core.specs.Translating.{CleansPage}
 use Rattle.space_core.proofs.SameView.{as_fields}
+use Rattle.space_core.proofs.CopyCalls.{saves_clean}
 use Rattle.space_core.proofs.SavedCopies.{unwritten_clean, written_dirty}
 use Rattle.space_core.proofs.ServedPages.{cleaned_kept}
 use Rattle.space_core.proofs.Translations.{retouched_by}
@@ -13,20 +14,10 @@ pub invariant_of-self : goal.invariant_of-self
 invariant_of-self g c =
     cleaned_kept (as_fields c.self-then-written.view_is) c.set_clean-moves.new.self _ c.args.page c.self-then-written.invariant c.set_clean-moves.ensures.cleans
 
--- of a page that isn't resident nothing is saved
-nothing_saved : (kept : Kept) (page : ℕ) → dirty_at kept page ≡ false → Saves kept kept page false
-nothing_saved kept page clean = record {
-  was = clean;
-  same = refl;
-  wrote = λ is. absurd (false≢true is);
-  left = λ _. refl;
-  unfailed = refl;
-}
-
 pub returns-in_default-clause-copied : goal.returns-in_default-clause-copied
 returns-in_default-clause-copied g c =
     let now = c.args.self.now in
-    let saves : Saves now now c.args.page false = nothing_saved now c.args.page (rw (← c.self.view_is) c.in_default.ensures.none.1) in
+    let saves : Saves now now c.args.page false = saves_clean now c.args.page (rw (← c.self.view_is) c.in_default.ensures.none.1) in
     (now, saves, unwritten_clean now now c.args.page saves)
 
 pub returns-then-written-clause-copied : goal.returns-then-written-clause-copied

@@ -1,4 +1,4 @@
-use Rattle.std.proofs.Common.{◌≡◌, ◌∙◌, ap, sym, refl}
+use Rattle.std.proofs.Common.{◌∙◌, ap, refl}
 use Rattle.space_core.specs.Standing.{Kept}
 use Rattle.space_core.proofs.SameView.{as_fields}
 use Rattle.space_core.proofs.ClearedRanges.{discards}

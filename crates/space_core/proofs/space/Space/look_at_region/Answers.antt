@@ -1,36 +1,8 @@
-use Rattle.std.proofs.Common.{◌≡◌, ◌∙◌, ap, sym, Some, None, arith}
+use Rattle.std.proofs.Common.{◌≡◌, ◌∙◌, ap, sym, Some, None}
 use Rattle.pager_model.specs.Regions.{region_at}
 use Rattle.space_core.specs.Standing.{Kept}
 use Rattle.space_core.proofs.Refusals.{begins_denied, begins_unmapped, denied_needs_none, unmapped_needs_none}
-use Rattle.region_table.proofs.RegionSearch.{found_page}
-use Rattle.space_core.proofs.RegionSearch.{next_above}
 use Rattle.space_core.proofs.space.Space.look_at_region.Goals as goal
-
-pub want_in-requires-clause-has_first : goal.want_in-requires-clause-has_first
-want_in-requires-clause-has_first g c = omega
-    (arith, found_page c.self.inside.regions c.self.invariant.ordered.in_order c.args.page c.in-Some.region (sym c.in-Some.ensures.value))
-
-pub want_in-requires-clause-has_last : goal.want_in-requires-clause-has_last
-want_in-requires-clause-has_last g c = omega
-    (arith, found_page c.self.inside.regions c.self.invariant.ordered.in_order c.args.page c.in-Some.region (sym c.in-Some.ensures.value))
-
-pub want_in-requires-clause-in_space : goal.want_in-requires-clause-in_space
-want_in-requires-clause-in_space g c = omega
-    (arith, found_page c.self.inside.regions c.self.invariant.ordered.in_order c.args.page c.in-Some.region (sym c.in-Some.ensures.value))
-
-pub want_in-requires-clause-above : goal.want_in-requires-clause-above
-want_in-requires-clause-above g c = omega (
-  arith,
-  c.next_start.ensures.value,
-  (next_above 0 c.self.inside.regions c.self.invariant.ordered.in_order c.args.page c.requires.in_space).0,
-)
-
-pub want_in-requires-clause-next_in_space : goal.want_in-requires-clause-next_in_space
-want_in-requires-clause-next_in_space g c = omega (
-  arith,
-  c.next_start.ensures.value,
-  (next_above 0 c.self.inside.regions c.self.invariant.ordered.in_order c.args.page c.requires.in_space).1,
-)
 
 pub returns-in_default : goal.returns-in_default
 returns-in_default g c =

@@ -1,6 +1,4 @@
-use Rattle.std.proofs.Common.{◌≡◌, ◌∙◌, ap, sym, refl}
 use Rattle.pager_model.specs.declared.region.Rights.TheVariants.{NoAccess}
-use Rattle.space_core.specs.Standing.{Kept}
 use Rattle.space_core.specs.Tables.{own_in}
 use Rattle.space_core.proofs.SameView.{as_fields}
 use Rattle.space_core.proofs.RegionChanges.{changed_kept, gains_mapped, pins_region}
