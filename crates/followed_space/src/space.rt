@@ -1,27 +1,28 @@
 //! A space whose entries are followed.
 
-ghost use Rattle.std.specs.Prelude.{◌≡◌, ℕ, ◌+◌, ◌/◌, ◌<◌, ◌≤◌, Bool, true, false, Some, None, IfOk, option_map};
+ghost use Rattle.std.specs.Prelude.{◌≡◌, ℕ, ◌+◌, ◌/◌, ◌<◌, ◌≤◌, Bool, true, false, Some, None, IfOk, IfSome, IfNone, option_map};
 ghost use Rattle.pager_model.specs.declared.call.Call.TheVariants.{Map, Grow, Unmap, Protect, Store, Sync, Evict, Discard, Wire, Unwire};
 ghost use Rattle.pager_model.specs.declared.entry.Entry.{Entry as Item};
 ghost use Rattle.pager_model.specs.declared.entry.What.TheVariants.{Out, Give, Clear};
 ghost use Rattle.pager_model.specs.Bounds.{most_frames, space_bytes, space_pages};
-ghost use Rattle.pager_model.specs.Regions.{in_range, rights_by};
+ghost use Rattle.pager_model.specs.Regions.{in_range, rights_by, region_at, wanted, map_reply, grow_reply};
+ghost use Rattle.pager_model.specs.PreferredSize.{IsWanted};
 ghost use Rattle.pager_model.specs.SizeSets.{SizeSet};
 ghost use Rattle.pager_model.specs.SpaceStates.{SpaceState, empty_state, space_after};
 ghost use Rattle.pager_model.specs.Tiles.{tile_in, is_tile_in};
 ghost use Rattle.page_rights.specs.Rights.{rights_of};
 ghost use Rattle.tiles.specs.Cleared.{Clears};
-ghost use Rattle.tiles.specs.Resident.{frames_in, mapping_at, with_flag};
+ghost use Rattle.tiles.specs.Resident.{frames_in, mapping_at, with_flag, IsNextResident, NoneResident};
 ghost use Rattle.tiles.specs.Touched.{IsInSpace, is_touched};
 ghost use Rattle.followed_space.specs.Changed.{IsChange};
-ghost use Rattle.followed_space.specs.Follows.{AnswersBy, Follows, IsNext, MapsOne, Serves, filled};
+ghost use Rattle.followed_space.specs.Follows.{AnswersBy, Follows, IsNext, MapsOne, Serves, filled, rights_at};
 
 use crate::changed::Changed;
 use crate::reply::is_lawful;
 use page_rights::PageRights;
 use pager_model::{
     Call, Entry, Kind, LARGEST, Mapping, NoMemory, PageRange, Region, Reply, Rights, Sizes, Tile,
-    What, page_of,
+    Want, What, page_of,
 };
 use region_table::Regions;
 use std::alloc::Global;
@@ -75,6 +76,75 @@ impl FollowedSpace {
         ensures { result ≡ is_tile_in sizes (mapping_at self.now.pages) tile.now }
     {
         self.pages.is_tile(tile, sizes)
+    }
+
+    /// The region of a page, where it has one.
+    pub fn region_at(&self, page: u32) -> Option<Region>
+        ensures value { result ≡ region_at self.now.regions page }
+        ensures in_space { IfSome result (λ _. page < space_pages) }
+        ensures ends { IfSome result (λ r. r.first + r.length ≤ space_pages) }
+    {
+        let region = self.regions.find(page)?;
+        Some(region)
+    }
+
+    /// What is said of a page, where it is resident.
+    pub fn mapping(&self, page: u32) -> Option<Mapping>
+        ensures { result ≡ mapping_at self.now.pages page }
+    {
+        self.pages.mapping(page)
+    }
+
+    /// The rights of a page of this region.
+    pub fn rights_in(&self, page: u32, region: Region) -> Rights
+        requires region { region_at self.now.regions page ≡ Some region }
+        requires page { page < space_pages }
+        ensures { result ≡ rights_at self.now page }
+    {
+        self.rights(page, region)
+    }
+
+    /// What the region of a page wants of a frame for it, where it has one.
+    pub fn want_at(&self, page: u32) -> Option<Want>
+        ensures want { result ≡ wanted self.now.regions page }
+        ensures for_page { IfSome result (λ want. IsWanted want page) }
+    {
+        self.regions.want_at(page)
+    }
+
+    /// The first resident page of a range.
+    pub fn next_resident(&self, from: u32, end: u32) -> Option<u32>
+        requires { end ≤ space_pages }
+        ensures some { IfSome result (IsNextResident (mapping_at self.now.pages) from end) }
+        ensures none { IfNone result (NoneResident (mapping_at self.now.pages) from end) }
+    {
+        self.pages.next_resident(from, end)
+    }
+
+    /// Whether no page of a range is resident.
+    pub fn is_empty_in(&self, first: u32, length: u32) -> bool
+        requires { first + length ≤ space_pages }
+        ensures empty { result ≡ true → NoneResident (mapping_at self.now.pages) first (first + length) }
+        ensures some { result ≡ false → NoneResident (mapping_at self.now.pages) first (first + length) → ⊥ }
+    {
+        self.next_resident(first, first + length).is_none()
+    }
+
+    /// What a map of these pages would be answered.
+    pub fn reply_to_map(&self, page: u32, length: u32) -> Reply
+        requires some { 1 ≤ length }
+        requires in_space { page < space_pages }
+        ensures { result ≡ map_reply self.now.regions page length }
+    {
+        self.regions.reply_to_map(page, length)
+    }
+
+    /// What a growth of the region that has the page would be answered.
+    pub fn reply_to_grow(&self, page: u32, by: u32) -> Reply
+        requires { 1 ≤ by }
+        ensures { result ≡ grow_reply self.now.regions page by }
+    {
+        self.regions.reply_to_grow(page, by)
     }
 
     /// A page got this frame, which no other page has.
@@ -326,7 +396,7 @@ impl FollowedSpace {
     }
 
     /// A call was answered. A refusal changes nothing, nor does an answer for want of a frame, of a store or of memory.
-    fn answer(&mut self, call: &Call, reply: Reply) -> Changed
+    pub fn answer(&mut self, call: &Call, reply: Reply) -> Changed
         requires next { (st : SpaceState) × (e : Item) × AnswersBy e call.now reply × IsNext self.old st e }
         ensures frames { frames_in self.new.pages ≡ frames_in self.old.pages }
         ensures follows { (st : SpaceState) (e : Item) → AnswersBy e call.now reply → IsNext self.old st e → Follows self.new (space_after st e) }

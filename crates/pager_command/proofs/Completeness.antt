@@ -7,7 +7,7 @@ use Rattle.pager_command.specs.declared.status.TheConstants.{REFUSED, READ_FAULT
 use Rattle.pager_command.specs.Forms.{IsForOneProcessor, Admits}
 use Rattle.pager_command.specs.Runs.{CountsProcessors, CountsStores, IsRefused, IsRunnable, WasRead, WasRunnable, status_of}
 use Rattle.trace_reader.specs.declared.fault.TraceFault.{TraceFault}
-use Rattle.trace_reader.specs.declared.fault.TraceFault.TheVariants.{ReadFault, TooLong, Line, NoEnd, TooManyCalls, TooFewStores, OneProcessor, NoMemory}
+use Rattle.trace_reader.specs.declared.fault.TraceFault.TheVariants.{ReadFault, TooLong, Line, NoEnd, TooManyCalls, TooFewStores, OneProcessor, HistoryLine, HistoryNoEnd, NoMemory}
 use Rattle.trace_reader.specs.Refusals.{refusal_of, IsCause}
 use Rattle.trace_reader.proofs.CutTexts.{not_refused}
 use Rattle.trace_reader.proofs.UniqueTexts.{one_plan}
@@ -38,25 +38,40 @@ runs_read report (Some bytes) after trace stores runs read =
     let same : runs.0 ≡ trace = one_plan runs.0 trace runs.1.0 read.0.0 (sym runs.1.1 ∙ read.0.1) in
     subst (λ plan. Admits report plan × (plan.spaces ≤ stores)) same (runs.2, runs.3)
 
+-- a text that has no refusal is refused for a failed read or for want of memory alone
+pub without_refusal : (refusal : Option TraceFault) (fault : TraceFault) → refusal ≡ None → IsCause refusal fault → (fault ≡ ReadFault → ⊥)
+    → status_of fault ≡ MEMORY
+without_refusal refusal ReadFault none cause read = absurd (read refl)
+without_refusal refusal NoMemory none cause read = refl
+without_refusal refusal TooLong none cause read = absurd (none-some _ (sym none ∙ cause))
+without_refusal refusal (Line number c) none cause read = absurd (none-some _ (sym none ∙ cause))
+without_refusal refusal NoEnd none cause read = absurd (none-some _ (sym none ∙ cause))
+without_refusal refusal TooManyCalls none cause read = absurd (none-some _ (sym none ∙ cause))
+without_refusal refusal (TooFewStores stores spaces) none cause read = absurd cause
+without_refusal refusal (OneProcessor processors) none cause read = absurd cause
+without_refusal refusal (HistoryLine number) none cause read = absurd cause
+without_refusal refusal HistoryNoEnd none cause read = absurd cause
+
+-- and what is told of a text that is refused is its refusal
+pub with_refusal : (refusal : Option TraceFault) (fault : TraceFault) → IsCause refusal fault → status_of fault ≡ REFUSED → refusal ≡ Some fault
+with_refusal refusal ReadFault cause refused = absurd (omega (arith, refused))
+with_refusal refusal NoMemory cause refused = absurd (omega (arith, refused))
+with_refusal refusal TooLong cause refused = cause
+with_refusal refusal (Line number c) cause refused = cause
+with_refusal refusal NoEnd cause refused = cause
+with_refusal refusal TooManyCalls cause refused = cause
+with_refusal refusal (TooFewStores stores spaces) cause refused = absurd cause
+with_refusal refusal (OneProcessor processors) cause refused = absurd cause
+with_refusal refusal (HistoryLine number) cause refused = absurd cause
+with_refusal refusal HistoryNoEnd cause refused = absurd cause
+
 -- a trace's text is refused for a failed read or for want of memory alone
 pub not_refused_text : (report : Report) (left : Option (List ℕ)) (fault : TraceFault) (stores status : ℕ)
     → IsSomeAnd left (IsRunnable report stores) → IfSome left (λ bytes. IsCause (refusal_of bytes) fault) → status ≡ status_of fault
     → (fault ≡ ReadFault → ⊥) → status ≡ MEMORY
 not_refused_text report None fault stores status runs cause is read = absurd runs
 not_refused_text report (Some bytes) fault stores status runs cause is read =
-    let none : refusal_of bytes ≡ None = ap refusal_of runs.1.1 ∙ not_refused runs.0 runs.1.0 in
-    by_fault fault none cause is read
-  where
-    by_fault : (fault : TraceFault) → refusal_of bytes ≡ None → IsCause (refusal_of bytes) fault → status ≡ status_of fault
-        → (fault ≡ ReadFault → ⊥) → status ≡ MEMORY
-    by_fault ReadFault none cause is read = absurd (read refl)
-    by_fault NoMemory none cause is read = is
-    by_fault TooLong none cause is read = absurd (none-some _ (sym none ∙ cause))
-    by_fault (Line number c) none cause is read = absurd (none-some _ (sym none ∙ cause))
-    by_fault NoEnd none cause is read = absurd (none-some _ (sym none ∙ cause))
-    by_fault TooManyCalls none cause is read = absurd (none-some _ (sym none ∙ cause))
-    by_fault (TooFewStores stores spaces) none cause is read = absurd cause
-    by_fault (OneProcessor processors) none cause is read = absurd cause
+    is ∙ without_refusal (refusal_of bytes) fault (ap refusal_of runs.1.1 ∙ not_refused runs.0 runs.1.0) cause read
 
 -- and what is refused of a text is what the text is refused for
 pub refused_text : (report : Report) (left : Option (List ℕ)) (fault : TraceFault) (stores status : ℕ) (refusal : Option TraceFault)
@@ -64,17 +79,8 @@ pub refused_text : (report : Report) (left : Option (List ℕ)) (fault : TraceFa
     → IfSome left (λ bytes. IsSomeAnd refusal (IsRefused report stores bytes))
 refused_text report None fault stores status refusal cause is told refused = tt
 refused_text report (Some bytes) fault stores status refusal cause is told refused =
-    subst (λ refusal. IsSomeAnd refusal (IsRefused report stores bytes)) (sym told) (inl (by_fault fault cause (sym is ∙ refused)))
-  where
-    by_fault : (fault : TraceFault) → IsCause (refusal_of bytes) fault → status_of fault ≡ REFUSED → refusal_of bytes ≡ Some fault
-    by_fault ReadFault cause refused = absurd (omega (arith, refused))
-    by_fault NoMemory cause refused = absurd (omega (arith, refused))
-    by_fault TooLong cause refused = cause
-    by_fault (Line number c) cause refused = cause
-    by_fault NoEnd cause refused = cause
-    by_fault TooManyCalls cause refused = cause
-    by_fault (TooFewStores stores spaces) cause refused = absurd cause
-    by_fault (OneProcessor processors) cause refused = absurd cause
+    subst (λ refusal. IsSomeAnd refusal (IsRefused report stores bytes)) (sym told)
+    (inl (with_refusal (refusal_of bytes) fault cause (sym is ∙ refused)))
 
 -- the status of a refusal is one of three
 pub status_told : (fault : TraceFault) → (status_of fault ≡ REFUSED) ⊎ ((status_of fault ≡ READ_FAULT) ⊎ (status_of fault ≡ MEMORY))
@@ -86,6 +92,8 @@ status_told NoEnd = inl refl
 status_told TooManyCalls = inl refl
 status_told (TooFewStores stores spaces) = inl refl
 status_told (OneProcessor processors) = inl refl
+status_told (HistoryLine number) = inl refl
+status_told HistoryNoEnd = inl refl
 
 -- a text that was read is one that can be run, where its trace is
 pub was_runnable : (report : Report) (stores : ℕ) (left after : Option (List ℕ)) (plan : Plan) → WasRead plan left after → Admits report plan

@@ -7,3 +7,4 @@ mod CurveRuns
 mod FormRuns
 mod LargeRuns
 mod Results
+pub mod CheckRuns

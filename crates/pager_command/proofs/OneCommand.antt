@@ -8,7 +8,7 @@ use Rattle.std.specs.Str.Parse.{digits_value}
 use Rattle.report_text.specs.declared.report.Parts.{Parts}
 use Rattle.report_text.specs.declared.report.Parts.TheVariants.{Answers, AnswersAndHistory}
 use Rattle.pager_command.specs.declared.form.Command.{Command}
-use Rattle.pager_command.specs.declared.form.Command.TheVariants.{Run, Make, Large}
+use Rattle.pager_command.specs.declared.form.Command.TheVariants.{Run, Make, Large, Check}
 use Rattle.pager_command.specs.declared.form.Form.{Form}
 use Rattle.pager_command.specs.declared.form.Making.{Making}
 use Rattle.pager_command.specs.declared.form.Order.{Order}
@@ -16,7 +16,7 @@ use Rattle.pager_command.specs.declared.form.Order.TheVariants.{InTurns, Threads
 use Rattle.pager_command.specs.declared.form.Report.{Report}
 use Rattle.pager_command.specs.declared.form.Report.TheVariants.{Answers as Answered, Plan as Planned, Curves}
 use Rattle.pager_command.specs.declared.form.Turns.TheVariants.{Lines, Drawn}
-use Rattle.pager_command.specs.Forms.{AreLargeWords, AreMakingWords, AreOfCommand, AreWords, IsSeedInRange, IsSizeInRange, Spell, are_of, large_words, making_words, parts_words, words_of}
+use Rattle.pager_command.specs.Forms.{AreCheckWords, AreLargeWords, AreMakingWords, AreOfCommand, AreWords, IsSeedInRange, IsSizeInRange, Spell, are_of, large_words, making_words, parts_words, words_of}
 use Rattle.trace_make.specs.Made.{CanMake}
 
 abbrev asked : Order → Report → Form
@@ -151,6 +151,37 @@ one_large words number seed number' seed' is also =
     λ i. ap (λ (ws : List (List ℕ)). get_or ws i []) (sym is.are ∙ also.are) in
     (decimal_injective number number' is.number_in also.number_in (at 1), decimal_injective seed seed' is.seed_in also.seed_in (at 2))
 
+-- the second letter of the first word, which only `check` has
+abbrev second : List (List ℕ) → ℕ
+second words = get_or (get_or words 0 []) 1 0
+
+begins_otherwise : (order : Order) (report : Report) (words : List (List ℕ)) → words_of order report ≡ Some words → (second words == 104) ≡ false
+begins_otherwise (InTurns Lines) (Answered parts) words are =
+    ap (λ ws. second ws == 104) (sym (same_Some (codes "order" ∷ parts_words parts) words are))
+begins_otherwise (InTurns (Drawn n)) (Answered parts) words are =
+    ap (λ ws. second ws == 104) (sym (same_Some (codes "turns" ∷ decimal n ∷ parts_words parts) words are))
+begins_otherwise Threads (Answered parts) words are =
+    ap (λ ws. second ws == 104) (sym (same_Some (codes "replay" ∷ parts_words parts) words are))
+begins_otherwise (InTurns Lines) (Planned n) words are =
+    ap (λ ws. second ws == 104) (sym (same_Some (codes "plan" ∷ decimal n ∷ []) words are))
+begins_otherwise (InTurns Lines) Curves words are =
+    ap (λ ws. second ws == 104) (sym (same_Some (codes "curve" ∷ []) words are))
+begins_otherwise order report words are = absurd (none-some words are)
+
+check_is_no_form : (words : List (Bor (List ℕ))) → AreCheckWords words → (form : Form) → AreWords words form → ⊥
+check_is_no_form words is form spelled =
+    false≢true (sym (begins_otherwise form.order form.report (are_of words) spelled.are) ∙ ap (λ ws. second ws == 104) is)
+
+check_is_not_making : (words : List (Bor (List ℕ))) → AreCheckWords words → (m : Making) → AreMakingWords words m → ⊥
+check_is_not_making words is m making =
+    let same : 99 ≡ 109 = ap letter (sym is ∙ making.are) in
+    omega (arith, same)
+
+check_is_not_large : (words : List (Bor (List ℕ))) → AreCheckWords words → (number seed : ℕ) → AreLargeWords words number seed → ⊥
+check_is_not_large words is number seed large =
+    let same : 99 ≡ 108 = ap letter (sym is ∙ large.are) in
+    omega (arith, same)
+
 -- words are of one command
 pub one_command : (words : List (Bor (List ℕ))) (a b : Command) → AreOfCommand words a → AreOfCommand words b → a ≡ b
 one_command words (Run a) (Run b) is also = ap Run (one_form (are_of words) a b is also)
@@ -164,3 +195,10 @@ one_command words (Large number seed) (Make m) is also = absurd (making_is_not_l
 one_command words (Large number seed) (Large number' seed') is also =
     let same = one_large words number seed number' seed' is also in
     ap (λ n. Large n seed) same.0 ∙ ap (Large number') same.1
+one_command words (Run a) Check is also = absurd (check_is_no_form words also a is)
+one_command words (Make m) Check is also = absurd (check_is_not_making words also m is)
+one_command words (Large number seed) Check is also = absurd (check_is_not_large words also number seed is)
+one_command words Check (Run a) is also = absurd (check_is_no_form words is a also)
+one_command words Check (Make m) is also = absurd (check_is_not_making words is m also)
+one_command words Check (Large number seed) is also = absurd (check_is_not_large words is number seed also)
+one_command words Check Check is also = refl

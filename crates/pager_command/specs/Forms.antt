@@ -8,7 +8,7 @@ use Rattle.pager_model.specs.TurnOrders.{IsSeeded}
 use Rattle.report_text.specs.declared.report.Parts.{Parts}
 use Rattle.report_text.specs.declared.report.Parts.TheVariants.{Answers, AnswersAndHistory}
 use Rattle.pager_command.specs.declared.form.Command.{Command}
-use Rattle.pager_command.specs.declared.form.Command.TheVariants.{Run, Make, Large}
+use Rattle.pager_command.specs.declared.form.Command.TheVariants.{Run, Make, Large, Check}
 use Rattle.pager_command.specs.declared.form.Form.{Form}
 use Rattle.pager_command.specs.declared.form.Making.{Making}
 use Rattle.pager_command.specs.declared.form.Order.{Order}
@@ -112,11 +112,16 @@ IsMaking words = (m : Making) × AreMakingWords words m
 abbrev pub IsLarge : List (Bor (List ℕ)) → Type 0
 IsLarge words = (number : ℕ) × (seed : ℕ) × AreLargeWords words number seed
 
+-- the words ask for a history to be judged
+abbrev pub AreCheckWords : List (Bor (List ℕ)) → Type 0
+AreCheckWords words = are_of words ≡ codes "check" ∷ []
+
 -- the words are of this command
 abbrev pub AreOfCommand : List (Bor (List ℕ)) → Command → Type 0
 AreOfCommand words (Run form) = AreWords words form
 AreOfCommand words (Make m) = AreMakingWords words m
 AreOfCommand words (Large number seed) = AreLargeWords words number seed
+AreOfCommand words Check = AreCheckWords words
 
 -- the words are of some command
 abbrev pub IsCommand : List (Bor (List ℕ)) → Type 0

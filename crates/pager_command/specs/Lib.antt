@@ -3,3 +3,4 @@ pub mod Runs
 pub mod MadeRuns
 pub mod Messages
 pub mod Views
+pub mod Checks

@@ -3,7 +3,7 @@
 ghost use Rattle.std.specs.Prelude.{◌≡◌, ◌≢◌, ℕ, ◌^◌, ◌<◌, ◌≤◌, [], ◌∷◌, ◌↔◌, IsTrue, IfSome, IfNone, codes, decimal};
 ghost use Rattle.report_text.specs.declared.report.Parts.{Parts as Printed};
 ghost use Rattle.pager_command.specs.declared.form.Form.{Form as Asked};
-ghost use Rattle.pager_command.specs.Forms.{AreBehind, AreLargeWords, AreMakingWords, AreOfCommand, AreWords, IsCommand, IsForm, IsLarge, IsMaking, IsForOneProcessor, are_of, parts_words};
+ghost use Rattle.pager_command.specs.Forms.{AreBehind, AreCheckWords, AreLargeWords, AreMakingWords, AreOfCommand, AreWords, IsCommand, IsForm, IsLarge, IsMaking, IsForOneProcessor, are_of, parts_words};
 ghost use Rattle.trace_make.specs.Made.{CanMake};
 
 use itoa::Buffer;
@@ -19,6 +19,8 @@ pub enum Command {
     Make(Making),
     /// To make a large trace from this number, run it in turns that are drawn from this seed, and print the counts.
     Large { number: u64, seed: u64 },
+    /// To read a trace and a history of it, and say whether the history is legal and shows the trace.
+    Check,
 }
 
 /// In which order a trace that is read is run, and what is printed of the run.
@@ -102,6 +104,9 @@ pub fn command_of(words: &[&str]) -> Option<Command>
     if let Some(making) = making_of(words) {
         return Some(Command::Make(making));
     }
+    if is_check(words) {
+        return Some(Command::Check);
+    }
     let (number, seed) = large_of(words)?;
     Some(Command::Large { number, seed })
 }
@@ -144,6 +149,16 @@ fn large_of(words: &[&str]) -> Option<(u64, u64)>
     match words {
         [word, number, seed] if *word == "large" => Some((number_of(number)?, number_of(seed)?)),
         _ => None,
+    }
+}
+
+/// Whether the words ask for a history to be judged.
+fn is_check(words: &[&str]) -> bool
+    ensures { IsTrue result ↔ AreCheckWords words.now }
+{
+    match words {
+        [word] => *word == "check",
+        _ => false,
     }
 }
 

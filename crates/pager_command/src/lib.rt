@@ -1,6 +1,7 @@
 //! A run of the program, by its words, over a source, a sink and stores.
 #![tactic(auto)]
 
+mod checking;
 mod form;
 mod making;
 mod outcome;

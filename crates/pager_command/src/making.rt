@@ -1,6 +1,6 @@
 //! Traces that are made from a number: written, or run.
 
-ghost use Rattle.std.specs.Prelude.{◌≡◌, ◌≤◌, true, IfOk, IfErr, length, map};
+ghost use Rattle.std.specs.Prelude.{◌≡◌, ◌≤◌, true, None, IfOk, IfErr, length, map};
 ghost use Rattle.flight_core.specs.Lacking.{NoneLacked};
 ghost use Rattle.pager_model.specs.Legal.{entries_in};
 ghost use Rattle.pager_model.specs.TurnOrders.{IsSeeded};
@@ -42,7 +42,8 @@ pub fn write_made<K: Sink, S: Store + Send + Drop>(
     stores: Vec<S>,
 ) -> Outcome<S>
     requires { CanMake making.calls making.processors making.spaces making.frames }
-    ensures { MakesText (out_views K.taken K.faults S.seen) making stores.items (ending sink.old sink.new result) }
+    ensures makes { MakesText (out_views K.taken K.faults S.seen) making stores.items (ending sink.old sink.new result) }
+    ensures no_verdict { result.verdict ≡ None }
 {
     let Making {
         number,
@@ -61,6 +62,7 @@ pub fn write_made<K: Sink, S: Store + Send + Drop>(
         trace: Some(trace),
         history: History::of(Vec::new(alloc)),
         stores,
+        verdict: None,
     }
 }
 
@@ -75,6 +77,7 @@ pub fn run_large<K: Sink, S: Store + Send + Drop>(
 ) -> Outcome<S>
     ensures runs { RunsLarge (out_views K.taken K.faults S.seen) number seed stores.items (ending sink.old sink.new result) }
     ensures lasting { S.lasts ≡ true → NoneLacked (entries_in result.history.items) }
+    ensures no_verdict { result.verdict ≡ None }
 {
     let count = stores.len() as u64;
     if count < u64::from(LARGE_SPACES) {

@@ -45,6 +45,7 @@ pub fn write_run<K: Sink, S: Store + Send + Drop>(
     ensures trace { result.trace ≡ Some trace }
     ensures history { result.history ≡ gathered.history }
     ensures stores { result.stores ≡ gathered.stores }
+    ensures no_verdict { result.verdict ≡ None }
     ensures ends { (stores : List Stored) → WasRun (replayed trace stores gathered.history.items) gathered.summary
         → EndsRun K.taken K.faults sink.old sink.new report (replayed trace stores gathered.history.items) result.status }
 {
@@ -60,6 +61,7 @@ pub fn write_run<K: Sink, S: Store + Send + Drop>(
         trace: Some(trace),
         history,
         stores,
+        verdict: None,
     }
 }
 

@@ -1,22 +1,24 @@
 //! A run of the program, from the bytes read to the bytes written.
 
-ghost use Rattle.std.specs.Prelude.{ℕ, ◌≡◌, ◌≢◌, ◌≤◌, ◌⊎◌, ◌↔◌, true, Some, IfOk, IfErr, IsSomeAnd, length, map};
+ghost use Rattle.std.specs.Prelude.{ℕ, ◌≡◌, ◌≢◌, ◌≤◌, ◌⊎◌, ◌↔◌, true, None, IfOk, IfErr, IsSome, IsSomeAnd, length, map};
 ghost use Rattle.flight_core.specs.Lacking.{NoneLacked};
 ghost use Rattle.io_core.specs.Faults.{Rose};
 ghost use Rattle.pager_model.specs.Legal.{entries_in};
 ghost use Rattle.replay_core.specs.Replays.{IsReplay, AreItsCounts};
 ghost use Rattle.pager_command.specs.declared.form.Form.{Form as Asked};
 ghost use Rattle.pager_command.specs.declared.form.Making.{Making as ToMake};
-ghost use Rattle.pager_command.specs.Forms.{Admits, AreLargeWords, AreMakingWords, AreWords, ComesBy, IsCommand};
+ghost use Rattle.pager_command.specs.Checks.{Checks};
+ghost use Rattle.pager_command.specs.Forms.{Admits, AreCheckWords, AreLargeWords, AreMakingWords, AreWords, ComesBy, IsCommand};
 ghost use Rattle.pager_command.specs.MadeRuns.{MakesText, RunsLarge};
-ghost use Rattle.pager_command.specs.Runs.{DidNothing, IsRunnable, IsStatus, IsStopped, IsTold, RunsBy, WasRead, status_of};
+ghost use Rattle.pager_command.specs.Runs.{DidNothing, IsRunnable, IsStatus, IsStopped, IsTold, RunsBy, WasRead};
 ghost use Rattle.pager_command.specs.Views.{ending, ends, out_views, views};
 
+use crate::checking::check_history;
 use crate::form::{Command, Form, Order, Report, Turns, command_of};
 use crate::making::{run_large, write_made};
-use crate::outcome::{Outcome, stopped};
+use crate::outcome::{Outcome, Stop, refused, stopped};
 use crate::printing::write_run;
-use crate::status::{DONE, MEMORY, READ_FAULT, REFUSED, USAGE};
+use crate::status::{DONE, MEMORY, USAGE};
 use io_core::{Sink, Source};
 use pager_model::Trace;
 use replay_core::{Gathered, replay, replay_file_order, replay_turns};
@@ -28,7 +30,8 @@ use trace_reader::{TraceFault, read_trace};
 
 /// Runs the program with these words over these backing stores, of which each space uses the one of its number. By words of a form it reads a
 /// trace to the end of the source, runs it in the form's order, and writes the form's report to the sink. By words that read nothing it makes a trace from a
-/// number and writes its text, or runs the large one and writes the counts.
+/// number and writes its text, or runs the large one and writes the counts. By `check` it reads a trace and a history, and writes whether the history is a
+/// legal one of the trace.
 ///
 /// The handle is for the order of threads alone, which starts threads and waits for locks: nothing is proved of when such a run returns. A
 /// run in turns is made by a function that takes no handle, and so is proved to return.
@@ -72,8 +75,13 @@ pub fn run<T: Source, K: Sink, S: Store + Send + Drop, R: Threads + Wait + Sync>
         → (source.new ≡ source.old)
         × RunsLarge (out_views K.taken K.faults S.seen) number seed stores.items (ending sink.old sink.new result) }
 
-    // Over stores that keep every page of a space for good no call was answered for want of memory.
-    ensures lasting { S.lasts ≡ true → NoneLacked (entries_in result.history.items) }
+    // A history that is read behind its trace, and not made.
+    ensures checks { AreCheckWords words.now → Checks (views T.left T.faults K.taken K.faults S.seen)
+        (ends source.old sink.old) (ends source.new sink.new) stores.items result }
+    ensures verdict { IsSome result.verdict → AreCheckWords words.now }
+
+    // Over stores that keep every page of a space for good no call of a run was answered for want of memory.
+    ensures lasting { S.lasts ≡ true → (AreCheckWords words.now → ⊥) → NoneLacked (entries_in result.history.items) }
 {
     let Some(command) = command_of(words) else {
         return stopped(alloc, USAGE, None, stores);
@@ -82,6 +90,7 @@ pub fn run<T: Source, K: Sink, S: Store + Send + Drop, R: Threads + Wait + Sync>
         Command::Run(form) => run_form(rt, alloc, form, source, sink, stores),
         Command::Make(making) => write_made(alloc, making, sink, stores),
         Command::Large { number, seed } => run_large(alloc, number, seed, sink, stores),
+        Command::Check => check_history(alloc, source, sink, stores),
     }
 }
 
@@ -97,6 +106,7 @@ fn run_form<T: Source, K: Sink, S: Store + Send + Drop, R: Threads + Wait + Sync
     ensures runs { RunsBy (views T.left T.faults K.taken K.faults S.seen) form.order form.report
         (ends source.old sink.old) (ends source.new sink.new) stores.items result }
     ensures lasting { S.lasts ≡ true → NoneLacked (entries_in result.history.items) }
+    ensures no_verdict { result.verdict ≡ None }
 {
     let Form { order, report } = form;
     match order {
@@ -117,6 +127,7 @@ fn run_in_turns<T: Source, K: Sink, S: Store + Send + Drop>(
     ensures runs { RunsBy (views T.left T.faults K.taken K.faults S.seen) (Order.InTurns turns) report
         (ends source.old sink.old) (ends source.new sink.new) stores.items result }
     ensures lasting { S.lasts ≡ true → NoneLacked (entries_in result.history.items) }
+    ensures no_verdict { result.verdict ≡ None }
 {
     let trace = match trace_to_run(alloc, &report, source, stores.len()) {
         Ok(trace) => trace,
@@ -141,6 +152,7 @@ fn run_in_threads<T: Source, K: Sink, S: Store + Send + Drop, R: Threads + Wait 
     ensures runs { RunsBy (views T.left T.faults K.taken K.faults S.seen) Order.Threads report
         (ends source.old sink.old) (ends source.new sink.new) stores.items result }
     ensures lasting { S.lasts ≡ true → NoneLacked (entries_in result.history.items) }
+    ensures no_verdict { result.verdict ≡ None }
 {
     let trace = match trace_to_run(alloc, &report, source, stores.len()) {
         Ok(trace) => trace,
@@ -150,13 +162,6 @@ fn run_in_threads<T: Source, K: Sink, S: Store + Send + Drop, R: Threads + Wait 
         Ok(gathered) => write_run(alloc, sink, report, trace, gathered),
         Err(stores) => stopped(alloc, MEMORY, None, stores),
     }
-}
-
-/// Why no run is made of what a source has.
-#[derive(Drop)]
-struct Stop {
-    status: u8,
-    refusal: Option<TraceFault>,
 }
 
 /// Reads a trace, to be run with a report over so many stores. Where the report is for one processor alone and the trace has more, it is refused
@@ -188,22 +193,6 @@ fn trace_to_run<T: Source>(
         return Err(refused(TraceFault::TooFewStores { stores, spaces }));
     }
     Ok(trace)
-}
-
-/// The refusal of a text that was not read, or whose trace has too many processors or wants more stores.
-fn refused(fault: TraceFault) -> Stop
-    ensures status { result.status ≡ status_of fault }
-    ensures refusal { result.refusal ≡ Some fault }
-{
-    let status = match fault {
-        TraceFault::ReadFault => READ_FAULT,
-        TraceFault::NoMemory => MEMORY,
-        _ => REFUSED,
-    };
-    Stop {
-        status,
-        refusal: Some(fault),
-    }
 }
 
 /// Replays the trace in turns.

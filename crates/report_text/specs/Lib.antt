@@ -4,3 +4,4 @@ pub mod Written
 pub mod Lines
 pub mod Parts
 pub mod PlanText
+pub mod VerdictText

@@ -1,5 +1,5 @@
-//! The whole text of a run: its answers, the history where it is asked for, and the counts; the counts alone; and the texts of a plan and of miss
-//! curves.
+//! The whole text of a run: its answers, the history where it is asked for, and the counts; the counts alone; and the texts of a plan, of miss
+//! curves and of a verdict.
 #![tactic(auto)]
 
 mod curve_lines;
@@ -8,10 +8,12 @@ mod line;
 mod plan_lines;
 mod report;
 mod summary_lines;
+mod verdict_line;
 mod writing;
 
 pub use curve_lines::write_curves;
 pub use line::Line;
 pub use plan_lines::write_plan;
 pub use report::{Parts, write_report, write_summary};
+pub use verdict_line::write_verdict;
 pub use writing::Room;

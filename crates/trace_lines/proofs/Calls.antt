@@ -82,7 +82,7 @@ pub misfit : (head : Head) (form : List Place) (words : List (List ℕ)) → fit
 misfit head form words other = record { range = tt; text = tt; err = rw other refl }
 
 -- more or fewer arguments than the form has places for
-pub unfit : (form : List Place) (processor name : List ℕ) (arguments : List (Bor (List ℕ))) → length form ≢ length arguments + 2
+unfit : (form : List Place) (processor name : List ℕ) (arguments : List (Bor (List ℕ))) → length form ≢ length arguments + 2
     → fits form (processor ∷ name ∷ seen arguments) ≡ false
 unfit form processor name arguments other =
     let words = processor ∷ name ∷ seen arguments in
@@ -90,3 +90,9 @@ unfit form processor name arguments other =
       | inl fit ↦ absurd (other (omega (arith, fits_length form words fit, length-map arguments (λ (w : Bor (List ℕ)). w.now))))
       | inr other_form ↦ other_form
     ]
+
+-- so they aren't read
+pub other_count : (head : Head) (form : List Place) (processor name : List ℕ) (arguments : List (Bor (List ℕ)))
+    → length form ≢ length arguments + 2 → IsRead head (form ∷ []) (processor ∷ name ∷ seen arguments) (Err causes.Form)
+other_count head form processor name arguments other =
+    misfit head form (processor ∷ name ∷ seen arguments) (unfit form processor name arguments other)

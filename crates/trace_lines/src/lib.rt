@@ -10,4 +10,4 @@ mod word;
 
 pub use cause::LineCause;
 pub use line::{Head, call, daemon, daemon_numbers, first_line};
-pub use word::cut;
+pub use word::{any_number, cut, words};

@@ -343,6 +343,22 @@ fn pages_of(
     })
 }
 
+/// Where such a call of this processor is made, with these arguments, where it names nothing else.
+fn only_pages(head: &Head, processor: &[u8], arguments: &[&[u8]]) -> Result<Pages, LineCause>
+    ensures range { IfOk result (λ at. (at.processor < head.now.processors) × (at.space < head.now.spaces)
+        × (at.page < PAGES) × (1 ≤ at.length) × (at.length ≤ PAGES)) }
+    ensures text { IfOk result (λ at. processor.now ∷ seen arguments.now
+        ≡ decimal at.processor ∷ decimal at.space ∷ decimal at.page ∷ decimal at.length ∷ []) }
+    ensures err { IfErr result
+        (λ cause. line_fault ((Number 1 0 head.now.processors ∷ Number 1 0 head.now.spaces ∷ page ∷ pages ∷ []) ∷ [])
+        (processor.now ∷ seen arguments.now) ≡ Some cause) }
+{
+    let [space, first, count] = arguments else {
+        return Err(LineCause::Form);
+    };
+    pages_of(head, processor, space, first, count)
+}
+
 /// The call `map` of this processor, with these arguments.
 fn map(head: &Head, processor: &[u8], arguments: &[&[u8]]) -> Result<Line, LineCause>
     ensures { IsRead head.now (map_form head.now.processors head.now.spaces ∷ []) (processor.now ∷ codes "map" ∷ seen arguments.now) result }
@@ -373,15 +389,12 @@ fn map(head: &Head, processor: &[u8], arguments: &[&[u8]]) -> Result<Line, LineC
 fn grow(head: &Head, processor: &[u8], arguments: &[&[u8]]) -> Result<Line, LineCause>
     ensures { IsRead head.now (grow_form head.now.processors head.now.spaces ∷ []) (processor.now ∷ codes "grow" ∷ seen arguments.now) result }
 {
-    let [space, first, count] = arguments else {
-        return Err(LineCause::Form);
-    };
     let Pages {
         processor,
         space,
         page,
         length: by,
-    } = pages_of(head, processor, space, first, count)?;
+    } = only_pages(head, processor, arguments)?;
     let call = Call::Grow { space, page, by };
     Ok(Line { processor, call })
 }
@@ -416,15 +429,12 @@ fn discard(head: &Head, processor: &[u8], arguments: &[&[u8]]) -> Result<Line, L
     requires { 3 ≤ head.now.version }
     ensures { IsRead head.now (discard_form head.now.processors head.now.spaces ∷ []) (processor.now ∷ codes "discard" ∷ seen arguments.now) result }
 {
-    let [space, first, count] = arguments else {
-        return Err(LineCause::Form);
-    };
     let Pages {
         processor,
         space,
         page,
         length,
-    } = pages_of(head, processor, space, first, count)?;
+    } = only_pages(head, processor, arguments)?;
     let call = Call::Discard {
         space,
         page,

@@ -10,8 +10,8 @@ use arrayvec::ArrayVec;
 use pager_model::{Kind, Rights, Sizes};
 use std::ops::Range;
 
-/// The most words that a form has.
-pub const MAX_WORDS: usize = 7;
+/// The most words that a line of a text has: seven of a trace, eleven of a history.
+pub const MAX_WORDS: usize = 11;
 
 /// Where a byte first stands.
 fn find(text: &[u8], wanted: u8) -> Option<usize>

@@ -37,7 +37,7 @@ abbrev pub IsWord : List ℕ → Type 0
 IsWord word = AllByRecursion (λ b. 32 < b) word
 
 -- for a word that is written out
-is_word : (word : List ℕ) → list_all (λ b. ltb 32 b) word ≡ true → IsWord word
+pub is_word : (word : List ℕ) → list_all (λ b. ltb 32 b) word ≡ true → IsWord word
 is_word [] e = tt
 is_word (b ∷ word) e =
     let p = and_parts (ltb 32 b) (list_all (λ c. ltb 32 c) word) e in
@@ -47,7 +47,7 @@ digits_are : (word : List ℕ) → AllDigits 10 word → IsWord word
 digits_are [] h = tt
 digits_are (b ∷ word) h = (let r = digit_from_value b h.0 in omega arith, digits_are word h.1)
 
-decimal_is : (n : ℕ) → n < 2 ^ 64 → IsWord (decimal n)
+pub decimal_is : (n : ℕ) → n < 2 ^ 64 → IsWord (decimal n)
 decimal_is n small = digits_are (decimal n) (all_digits n small)
 
 kind_is : (kind : Kind) → IsWord (kind_word kind)
@@ -112,12 +112,12 @@ call_words_are spaces (Wire space page) few is =
 call_words_are spaces (Unwire space page) few is =
     (is_word (codes "unwire") refl, (decimal_is space (omega arith), (decimal_is page (omega arith), tt)))
 
-line_words_are : (version processors spaces : ℕ) (line : Line) → processors ≤ 2 ^ 64 → spaces ≤ 2 ^ 64 → IsLine version processors spaces line
+pub line_words_are : (version processors spaces : ℕ) (line : Line) → processors ≤ 2 ^ 64 → spaces ≤ 2 ^ 64 → IsLine version processors spaces line
     → AllByRecursion IsWord (line_words line)
 line_words_are version processors spaces line some few is =
     (decimal_is line.processor (omega (arith, is.0)), call_words_are spaces line.call few is.1)
 
-first_words_are : (plan : Plan) → HasText plan → AllByRecursion IsWord
+pub first_words_are : (plan : Plan) → HasText plan → AllByRecursion IsWord
     (first_words plan.version plan.frames plan.processors plan.spaces plan.sizes)
 first_words_are plan has =
     let version = version_low plan.version plan.sizes has.version_in in
@@ -142,7 +142,7 @@ lacks : (byte : ℕ) (word : List ℕ) → byte ≤ 32 → IsWord word → AllBy
 lacks byte [] low is = tt
 lacks byte (b ∷ word) low is = (ne_eqb b byte (λ e. omega (arith, is.0)), lacks byte word low is.1)
 
-lacks_all : (byte : ℕ) (word : List ℕ) → byte ≤ 32 → IsWord word → All (λ b. eqb b byte ≡ false) word
+pub lacks_all : (byte : ℕ) (word : List ℕ) → byte ≤ 32 → IsWord word → All (λ b. eqb b byte ≡ false) word
 lacks_all byte word low is = All-from_recursion _ word (lacks byte word low is)
 
 -- the words of a line that was joined of some
@@ -196,7 +196,7 @@ pub call_words_again : (version processors spaces : ℕ) (call : Line) → proce
 call_words_again version processors spaces call some few is = words_again (decimal call.processor) (call_words call.call)
     (line_words_are version processors spaces call some few is)
 
-three_words : (call : Call) → 3 ≤ length (call_words call)
+pub three_words : (call : Call) → 3 ≤ length (call_words call)
 three_words (Map space page len kind rights) = omega arith
 three_words (Grow space page by) = omega arith
 three_words (Unmap space page) = omega arith
@@ -235,7 +235,7 @@ calls_are_lawful version processors spaces number before (call ∷ calls) some f
 
 -- ---- the second line
 
-daemon_words_are : (d : Daemon) → IsDaemon (Some d) → AllByRecursion IsWord (daemon_words d)
+pub daemon_words_are : (d : Daemon) → IsDaemon (Some d) → AllByRecursion IsWord (daemon_words d)
 daemon_words_are d is =
     (is_word (codes "daemon") refl, (decimal_is d.low (omega (arith, is.0)), (decimal_is d.turns (omega (arith, is.1)), tt)))
 

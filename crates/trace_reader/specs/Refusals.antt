@@ -7,7 +7,9 @@ use Rattle.std.specs.Str.Parse.{digits_value}
 use Rattle.trace_lines.specs.declared.cause.LineCause.{LineCause}
 use Rattle.trace_lines.specs.declared.cause.LineCause.TheVariants as causes
 use Rattle.trace_reader.specs.declared.fault.TraceFault.{TraceFault}
-use Rattle.trace_reader.specs.declared.fault.TraceFault.TheVariants.{ReadFault, TooLong, Line, NoEnd, TooManyCalls, TooFewStores, OneProcessor, NoMemory}
+use Rattle.trace_reader.specs.declared.fault.TraceFault.TheVariants.{ReadFault, TooLong, Line, NoEnd, TooManyCalls, TooFewStores, OneProcessor, HistoryLine, HistoryNoEnd, NoMemory}
+use Rattle.trace_reader.specs.declared.input.AllFault.{AllFault}
+use Rattle.trace_reader.specs.declared.input.AllFault.TheVariants as whole
 use Rattle.trace_lines.specs.Forms.{Place, first_forms, daemon_form, call_forms, fits, leftmost, line_fault}
 use Rattle.trace_lines.specs.Words.{words_of}
 use Rattle.pager_model.specs.Bounds.{most_calls}
@@ -61,11 +63,27 @@ refusal_of_lines lines = Some NoEnd
 unfoldable pub refusal_of : List ℕ → Option TraceFault
 refusal_of text = if nat_lt 16777216 (length text) then Some TooLong else refusal_of_lines (lines_of text)
 
+-- a fault that a reader of traces may tell: how many stores there are, how many processors a run is for, and a history are no matter of its
+abbrev pub IsOfReader : TraceFault → Type 0
+IsOfReader (TooFewStores stores spaces) = ⊥
+IsOfReader (OneProcessor processors) = ⊥
+IsOfReader (HistoryLine number) = ⊥
+IsOfReader HistoryNoEnd = ⊥
+IsOfReader fault = Unit {0}
+
 -- what a reader's fault says of the text, which has this refusal or none: a refusal is the text's own. A failed read and want of memory
--- say nothing of it; how many stores there are, and how many processors a run is for, is no matter of a reader.
+-- say nothing of it.
 abbrev pub IsCause : Option TraceFault → TraceFault → Type 0
 IsCause refusal ReadFault = Unit {0}
 IsCause refusal NoMemory = Unit {0}
 IsCause refusal (TooFewStores stores spaces) = ⊥
 IsCause refusal (OneProcessor processors) = ⊥
+IsCause refusal (HistoryLine number) = ⊥
+IsCause refusal HistoryNoEnd = ⊥
 IsCause refusal fault = refusal ≡ Some fault
+
+-- why there is no trace where its bytes weren't read to their end
+abbrev pub trace_fault : AllFault → TraceFault
+trace_fault whole.ReadFault = ReadFault
+trace_fault whole.TooLong = TooLong
+trace_fault whole.NoMemory = NoMemory

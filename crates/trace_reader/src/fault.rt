@@ -3,7 +3,7 @@
 use std::fmt;
 use trace_lines::LineCause;
 
-/// Why there is no trace, or none that can be run.
+/// Why there is no trace, or none that can be run, or no history of it.
 #[derive(Clone, Copy, Debug, PartialEq, Eq)]
 pub enum TraceFault {
     /// A read failed.
@@ -20,6 +20,10 @@ pub enum TraceFault {
     TooFewStores { stores: u64, spaces: u32 },
     /// A run that is for one processor alone was asked for, of a trace of so many.
     OneProcessor { processors: u32 },
+    /// A line behind the trace, by its number from 1 there, is no line of a history of it.
+    HistoryLine { number: u64 },
+    /// The bytes behind the trace end before a line `end`.
+    HistoryNoEnd,
     /// There isn't enough memory.
     NoMemory,
 }
@@ -38,6 +42,8 @@ impl fmt::Display for TraceFault {
             TraceFault::OneProcessor { processors } => {
                 write!(f, "curve of {processors} processors")
             }
+            TraceFault::HistoryLine { number } => write!(f, "history line {number}"),
+            TraceFault::HistoryNoEnd => f.write_str("history without end"),
             TraceFault::NoMemory => f.write_str("memory"),
         }
     }

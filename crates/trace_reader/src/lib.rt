@@ -12,5 +12,6 @@ pub mod laws;
 mod text;
 
 pub use fault::TraceFault;
-pub use input::read_trace;
+pub use input::{AllFault, read_trace, read_within};
+pub use text::parse;
 pub use trace_lines::LineCause;

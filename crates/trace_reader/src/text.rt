@@ -3,7 +3,7 @@ ghost use Rattle.std.specs.Prelude.{◌≡◌, ◌≤◌, ◌+◌, ◌∷◌, �
 ghost use Rattle.pager_model.specs.TraceText.{IsDaemon, IsLine, IsTextOf, call_line, daemon_line, line_of_words};
 ghost use Rattle.trace_lines.specs.Forms.{Place, call_forms};
 ghost use Rattle.trace_lines.specs.Heads.{IsInRange};
-ghost use Rattle.trace_reader.specs.Refusals.{IsCause, calls_refusal, first_call, lines_of, refusal_of, second_refusal};
+ghost use Rattle.trace_reader.specs.Refusals.{IsCause, IsOfReader, calls_refusal, first_call, lines_of, refusal_of, second_refusal};
 
 use crate::fault::TraceFault;
 use pager_model::{Daemon, Line, Trace};
@@ -55,6 +55,7 @@ fn calls(alloc: Global, head: &Head, first: u64, text: &[u8]) -> Result<Vec<Line
     ensures refused { IfErr result (λ fault. IsCause
         (calls_refusal (call_forms head.now.version head.now.processors head.now.spaces) first 0 (lines_of text.now)) fault) }
     ensures all_was_read { IsErrOf result TraceFault.ReadFault → ⊥ }
+    ensures own_fault { IfErr result IsOfReader }
 {
     let mut calls = Vec::new(alloc);
     let mut rest = text;
@@ -89,6 +90,7 @@ pub fn parse(alloc: Global, text: &[u8]) -> Result<Trace, TraceFault>
     ensures ok { IfOk result (λ trace. IsTextOf text.now trace) }
     ensures refused { IfErr result (λ fault. IsCause (refusal_of text.now) fault) }
     ensures all_was_read { IsErrOf result TraceFault.ReadFault → ⊥ }
+    ensures own_fault { IfErr result IsOfReader }
 {
     if text.len() > MAX_BYTES {
         return Err(TraceFault::TooLong);

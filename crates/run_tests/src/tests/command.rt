@@ -72,22 +72,27 @@ const LAST_PAGE: &str = "trace 1 512 1 1; 0 map 0 1048575 1 fixed write; \
 const EIGHT_PAGES: &str =
     "trace 1 512 1 1; 0 map 0 0 8 fixed write; 0 load 0 0; 7 times 8192: 0 load 0 #; end";
 
-/// Texts, and the first and the last of their reads that fail: of the traces each, of which the last finds the end. The others are no traces,
-/// and the read before their fault or behind it is told.
-static READS: [(&str, u64, u64); 4] = [
-    (LAST_PAGE, 1, 113),
-    (EIGHT_PAGES, 1, 160),
-    ("x; 0 load", 4, 4),
-    ("trace 1 512 1 1; end; end", 24, 24),
+/// A trace and a history of it.
+const JUDGED: &str = "trace 1 512 1 1; 0 map 0 0 8 fixed write; 0 load 0 0; end; \
+0 0 s0 answer 0 done; 1 0 s0+f take 0 0 0 8 8 0; 2 0 s0 answer 1 value 0 miss 0; end";
+
+/// Words, texts, and the first and the last of their reads that fail: of the traces and the history each, of which the last finds the end. The
+/// others are no traces, and the read before their fault or behind it is told.
+static READS: [(&str, &str, u64, u64); 5] = [
+    ("order", LAST_PAGE, 1, 113),
+    ("order", EIGHT_PAGES, 1, 160),
+    ("order", "x; 0 load", 4, 4),
+    ("order", "trace 1 512 1 1; end; end", 24, 24),
+    ("check", JUDGED, 1, 138),
 ];
 
 #[test]
 fn each_read_that_fails_ends_the_run_with_nothing_printed(rt: HostRuntime) {
     let wanted = (READ_FAULT, Some(TraceFault::ReadFault));
-    for (lines, first, last) in &READS {
+    for (word, lines, first, last) in &READS {
         for read in *first..=*last {
             let streams = (16_384, read, 0);
-            assert!(rt; is_stopped(&rt, &["order"], lines, streams, "writes", wanted));
+            assert!(rt; is_stopped(&rt, &[*word], lines, streams, "writes", wanted));
         }
     }
 }
@@ -130,7 +135,7 @@ const MAKE: &[&str] = &["make", "7", "3", "1", "1", "512"];
 /// is read: by `order` over `NO_REGION` the second write fails of a sink that takes 16,384 bytes, and 4,090 bytes are there.
 type Cut = (&'static [&'static str], &'static str, usize, u64, usize);
 
-static CUTS: [Cut; 14] = [
+static CUTS: [Cut; 16] = [
     (&["order"], LAST_PAGE, 0, 0, 0),
     (&["order"], LAST_PAGE, 4, 0, 4),
     (&["order"], LAST_PAGE, 9, 0, 9),
@@ -141,6 +146,8 @@ static CUTS: [Cut; 14] = [
     (&["order"], NO_REGION, 16_384, 3, 8185),
     (&["plan", "3"], TWO_SPACES, 12, 0, 12),
     (&["curve"], EIGHT_PAGES, 21, 0, 21),
+    (&["check"], JUDGED, 3, 0, 3),
+    (&["check"], JUDGED, 16_384, 1, 0),
     (MAKE, "", 0, 0, 0),
     (MAKE, "", 4, 0, 4),
     (MAKE, "", 121, 0, 121),
@@ -160,6 +167,6 @@ fn is_cut<R: Abort + AllocGlobal + Threads + Wait + Sync>(rt: &R, row: &Cut) -> 
 #[test]
 fn a_sink_that_fails_has_the_first_bytes(rt: HostRuntime) {
     for row in &CUTS {
-        assert!(rt; is_cut(&rt, row), "{} bytes by {}", row.4, row.0[0]);
+        assert!(rt; is_cut(&rt, row), "{} bytes", row.4);
     }
 }

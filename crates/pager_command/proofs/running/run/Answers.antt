@@ -1,16 +1,22 @@
-use Rattle.std.proofs.Common.{◌≡◌, inl, inr, refl, subst, sym, arith}
+use Rattle.std.proofs.Common.{◌≡◌, Option, None, IsSome, inl, inr, refl, subst, sym, ap, arith}
+use Rattle.std.proofs.lemmas.Bool.{false≢true}
 use Rattle.flight_core.specs.Lacking.{NoneLacked}
 use Rattle.pager_model.specs.Legal.{entries_in}
-use Rattle.pager_command.specs.declared.form.Command.TheVariants.{Run, Make, Large}
+use Rattle.pager_command.specs.declared.form.Command.TheVariants.{Run, Make, Large, Check}
 use Rattle.pager_command.specs.declared.form.Command.{Command}
 use Rattle.pager_command.specs.declared.form.Form.{Form}
 use Rattle.pager_command.specs.declared.form.Making.{Making}
-use Rattle.pager_command.specs.Forms.{AreLargeWords, AreMakingWords, AreOfCommand, AreWords}
+use Rattle.pager_command.specs.Forms.{AreCheckWords, AreLargeWords, AreMakingWords, AreOfCommand, AreWords}
 use Rattle.pager_command.specs.Views.{ending, ends, out_views, views}
 use Rattle.pager_command.proofs.FormRuns.{RunsBy-command, RunsBy-complete, RunsBy-status, RunsBy-told, run_of, told_none}
 use Rattle.pager_command.proofs.LargeRuns.{RunsLarge-command, RunsLarge-status, RunsLarge-told}
 use Rattle.pager_command.proofs.OneCommand.{one_command}
+use Rattle.pager_command.proofs.CheckRuns.{Checks-command, Checks-status, Checks-told}
 use Rattle.pager_command.proofs.running.run.Goals as goal
+
+-- there is no verdict
+no_verdict : {V : Type 0} (verdict : Option V) → verdict ≡ None → IsSome verdict → ⊥
+no_verdict verdict none some = false≢true (subst IsSome none some)
 
 -- the words are of no command
 pub returns-in_default : goal.returns-in_default
@@ -32,7 +38,9 @@ returns-in_default g c =
       complete = λ form is. absurd (no_command (Run form, is));
       makes = λ m is. absurd (no_command (Make m, is));
       large = λ number seed is. absurd (no_command (Large number seed, is));
-      lasting = λ _. subst (λ h. NoneLacked (entries_in h)) (sym stop.history) tt;
+      checks = λ is. absurd (no_command (Check, is));
+      verdict = λ some. absurd (no_verdict _ stop.verdict some);
+      lasting = λ _ _. subst (λ h. NoneLacked (entries_in h)) (sym stop.history) tt;
     }
 
 pub returns-in-Run : goal.returns-in-Run
@@ -56,7 +64,9 @@ returns-in-Run g c =
       complete = λ other is. rw (← same other is) (RunsBy-complete seen form.order form.report ran runs);
       makes = λ m is. absurd (let e : Run form ≡ Make m = one (Make m) is in cc);
       large = λ number seed is. absurd (let e : Run form ≡ Large number seed = one (Large number seed) is in cc);
-      lasting = c.run_form.ensures.lasting;
+      checks = λ is. absurd (let e : Run form ≡ Check = one Check is in cc);
+      verdict = λ some. absurd (no_verdict _ c.run_form.ensures.no_verdict some);
+      lasting = λ lasts _. c.run_form.ensures.lasting lasts;
     }
 
 pub returns-in-Make : goal.returns-in-Make
@@ -66,7 +76,7 @@ returns-in-Make g c =
     let are : AreMakingWords words m = subst (AreOfCommand words) c.in-Make.is c.in-Some.ensures.some in
     let one = λ (other : Command) (is : AreOfCommand words other). one_command words (Make m) other are is in
     let same = λ (other : Making) (is : AreMakingWords words other). (let e : Make m ≡ Make other = one (Make other) is in let found : m ≡ other = cc in found) in
-    let made = c.write_made.ensures in
+    let made = c.write_made.ensures.makes in
     let which = made.statuses in
     record {
       statuses = elim which [
@@ -81,7 +91,9 @@ returns-in-Make g c =
       complete = λ form is. absurd (let e : Make m ≡ Run form = one (Run form) is in cc);
       makes = λ other is. (refl, rw (← same other is) made);
       large = λ number seed is. absurd (let e : Make m ≡ Large number seed = one (Large number seed) is in cc);
-      lasting = λ _. subst (λ h. NoneLacked (entries_in h)) (sym made.no_history) tt;
+      checks = λ is. absurd (let e : Make m ≡ Check = one Check is in cc);
+      verdict = λ some. absurd (no_verdict _ c.write_made.ensures.no_verdict some);
+      lasting = λ _ _. subst (λ h. NoneLacked (entries_in h)) (sym made.no_history) tt;
     }
 
 pub returns-in-Large : goal.returns-in-Large
@@ -105,5 +117,32 @@ returns-in-Large g c =
       makes = λ m is. absurd (let e : Large number seed ≡ Make m = one (Make m) is in cc);
       large = λ other drawn is. (let e : Large number seed ≡ Large other drawn = one (Large other drawn) is in
           let first : number ≡ other = cc in let second : seed ≡ drawn = cc in (refl, rw (← first, ← second) runs));
-      lasting = c.run_large.ensures.lasting;
+      checks = λ is. absurd (let e : Large number seed ≡ Check = one Check is in cc);
+      verdict = λ some. absurd (no_verdict _ c.run_large.ensures.no_verdict some);
+      lasting = λ lasts _. c.run_large.ensures.lasting lasts;
+    }
+
+pub returns-in-Check : goal.returns-in-Check
+returns-in-Check g c =
+    let words = c.args.words.now in
+    let are : AreCheckWords words = subst (AreOfCommand words) c.in-Check.is c.in-Some.ensures.some in
+    let one = λ (other : Command) (is : AreOfCommand words other). one_command words Check other are is in
+    let seen = views g.T.Source.left g.T.Source.faults g.K.Sink.taken g.K.Sink.faults g.S.Store.seen in
+    let from = ends c.args.source.now c.args.sink.now in
+    let to = ends c.check_history.new.source c.check_history.new.sink in
+    let outcome = c.check_history.result in
+    let checks = c.check_history.ensures in
+    let command = Checks-command seen from to c.args.stores.items outcome checks in
+    record {
+      statuses = Checks-status seen from to c.args.stores.items outcome checks;
+      told = Checks-told seen from to c.args.stores.items outcome checks;
+      command = (λ _. command, λ _. (Check, are));
+      usage = λ is. absurd (command is);
+      runs = λ form is. absurd (let e : Check ≡ Run form = one (Run form) is in cc);
+      complete = λ form is. absurd (let e : Check ≡ Run form = one (Run form) is in cc);
+      makes = λ m is. absurd (let e : Check ≡ Make m = one (Make m) is in cc);
+      large = λ number seed is. absurd (let e : Check ≡ Large number seed = one (Large number seed) is in cc);
+      checks = λ _. checks;
+      verdict = λ _. are;
+      lasting = λ _ other. absurd (other are);
     }

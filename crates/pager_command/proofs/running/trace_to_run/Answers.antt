@@ -8,6 +8,7 @@ use Rattle.pager_command.specs.Forms.{IsForOneProcessor}
 use Rattle.pager_command.specs.declared.status.TheConstants.{REFUSED, READ_FAULT, MEMORY}
 use Rattle.pager_command.specs.Runs.{status_of}
 use Rattle.pager_command.proofs.Completeness.{another_fault, counts_processors, counts_stores, refused_processors, refused_stores, runs_read, not_refused_text, refused_text, status_told}
+use Rattle.trace_reader.specs.Refusals.{IsOfReader}
 use Rattle.pager_command.proofs.running.trace_to_run.Goals as goal
 
 pub returns-in-Err-clause-stopped : goal.returns-in-Err-clause-stopped
@@ -18,10 +19,9 @@ returns-in-Err-clause-stopped g c =
     record {
       statuses = subst (λ n. (n ≡ REFUSED) ⊎ ((n ≡ READ_FAULT) ⊎ (n ≡ MEMORY))) (sym told.status) (status_told c.in-Err.fault);
       told = search rules;
-      few_stores = λ count wanted is. absurd (c.in-Err.ensures.asks_no_stores count wanted
-          (ap Err (same_Some _ _ (sym told.refusal ∙ is))));
+      few_stores = λ count wanted is. absurd (subst IsOfReader (same_Some _ _ (sym told.refusal ∙ is)) c.in-Err.ensures.own_fault);
       one_processor = another_fault c.args.report.now c.refused.result.refusal c.in-Err.fault told.refusal
-          (λ processors is. c.in-Err.ensures.asks_no_processors processors (ap Err is));
+          (λ processors is. absurd (subst IsOfReader is c.in-Err.ensures.own_fault));
       refused = λ is. refused_text c.args.report.now left c.in-Err.fault c.args.stores status c.refused.result.refusal
           c.in-Err.ensures.refused told.status told.refusal is;
       read_fault = search rules;

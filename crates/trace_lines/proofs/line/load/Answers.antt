@@ -1,20 +1,17 @@
 use Rattle.std.proofs.Common.{[], ◌∷◌, codes, refl, arith}
 use Rattle.trace_lines.specs.Forms.{load_form, address}
-use Rattle.trace_lines.proofs.Calls.{word_at, two, at_fault, misfit, unfit}
+use Rattle.trace_lines.proofs.Calls.{word_at, two, at_fault, other_count}
 use Rattle.trace_lines.proofs.line.load.Goals as goal
-use Rattle.trace_lines.specs.Words.{seen}
 
 pub returns-in_default : goal.returns-in_default
 returns-in_default c =
-    let form = load_form c.args.head.now.processors c.args.head.now.spaces in
-    misfit c.args.head.now form (c.args.processor.now ∷ codes "load" ∷ seen c.args.arguments.now)
-    (unfit form c.args.processor.now (codes "load") c.args.arguments.now (λ e. omega (arith, e)))
+    other_count c.args.head.now (load_form c.args.head.now.processors c.args.head.now.spaces) c.args.processor.now (codes "load")
+    c.args.arguments.now (λ e. omega (arith, e))
 
 pub returns-in_default-2 : goal.returns-in_default-2
 returns-in_default-2 c =
-    let form = load_form c.args.head.now.processors c.args.head.now.spaces in
-    misfit c.args.head.now form (c.args.processor.now ∷ codes "load" ∷ seen c.args.arguments.now)
-    (unfit form c.args.processor.now (codes "load") c.args.arguments.now (λ e. omega (arith, e)))
+    other_count c.args.head.now (load_form c.args.head.now.processors c.args.head.now.spaces) c.args.processor.now (codes "load")
+    c.args.arguments.now (λ e. omega (arith, e))
 
 pub returns-in_err-processor : goal.returns-in_err-processor
 returns-in_err-processor c =

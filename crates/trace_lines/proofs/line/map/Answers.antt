@@ -1,20 +1,17 @@
 use Rattle.std.proofs.Common.{[], ◌∷◌, codes, refl, arith}
 use Rattle.trace_lines.specs.Forms.{map_form}
-use Rattle.trace_lines.specs.Words.{seen}
-use Rattle.trace_lines.proofs.Calls.{word_at, five, at_fault, misfit, unfit}
+use Rattle.trace_lines.proofs.Calls.{word_at, five, at_fault, misfit, other_count}
 use Rattle.trace_lines.proofs.line.map.Goals as goal
 
 pub returns-in_default : goal.returns-in_default
 returns-in_default c =
-    let form = map_form c.args.head.now.processors c.args.head.now.spaces in
-    misfit c.args.head.now form (c.args.processor.now ∷ codes "map" ∷ seen c.args.arguments.now)
-    (unfit form c.args.processor.now (codes "map") c.args.arguments.now (λ e. omega (arith, e)))
+    other_count c.args.head.now (map_form c.args.head.now.processors c.args.head.now.spaces) c.args.processor.now (codes "map")
+    c.args.arguments.now (λ e. omega (arith, e))
 
 pub returns-in_default-3 : goal.returns-in_default-3
 returns-in_default-3 c =
-    let form = map_form c.args.head.now.processors c.args.head.now.spaces in
-    misfit c.args.head.now form (c.args.processor.now ∷ codes "map" ∷ seen c.args.arguments.now)
-    (unfit form c.args.processor.now (codes "map") c.args.arguments.now (λ e. omega (arith, e)))
+    other_count c.args.head.now (map_form c.args.head.now.processors c.args.head.now.spaces) c.args.processor.now (codes "map")
+    c.args.arguments.now (λ e. omega (arith, e))
 
 pub returns-in_default-2 : goal.returns-in_default-2
 returns-in_default-2 c =

@@ -1,21 +1,18 @@
 use Rattle.std.proofs.Common.{◌^◌, [], ◌∷◌, codes, refl, sym, arith}
 use Rattle.trace_lines.proofs.Numbers.{number_in_takes}
 use Rattle.trace_lines.specs.Forms.{Number, store_form, address}
-use Rattle.trace_lines.specs.Words.{seen}
-use Rattle.trace_lines.proofs.Calls.{word_at, three, at_fault, misfit, unfit}
+use Rattle.trace_lines.proofs.Calls.{word_at, three, at_fault, other_count}
 use Rattle.trace_lines.proofs.line.store.Goals as goal
 
 pub returns-in_default : goal.returns-in_default
 returns-in_default c =
-    let form = store_form c.args.head.now.processors c.args.head.now.spaces in
-    misfit c.args.head.now form (c.args.processor.now ∷ codes "store" ∷ seen c.args.arguments.now)
-    (unfit form c.args.processor.now (codes "store") c.args.arguments.now (λ e. omega (arith, e)))
+    other_count c.args.head.now (store_form c.args.head.now.processors c.args.head.now.spaces) c.args.processor.now (codes "store")
+    c.args.arguments.now (λ e. omega (arith, e))
 
 pub returns-in_default-2 : goal.returns-in_default-2
 returns-in_default-2 c =
-    let form = store_form c.args.head.now.processors c.args.head.now.spaces in
-    misfit c.args.head.now form (c.args.processor.now ∷ codes "store" ∷ seen c.args.arguments.now)
-    (unfit form c.args.processor.now (codes "store") c.args.arguments.now (λ e. omega (arith, e)))
+    other_count c.args.head.now (store_form c.args.head.now.processors c.args.head.now.spaces) c.args.processor.now (codes "store")
+    c.args.arguments.now (λ e. omega (arith, e))
 
 pub returns-in_err-processor : goal.returns-in_err-processor
 returns-in_err-processor c =

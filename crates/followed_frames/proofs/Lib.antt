@@ -1,0 +1,4 @@
+pub mod FullCounts
+pub mod Rows
+pub mod Hands
+pub mod PinnedHands

@@ -1,0 +1,12 @@
+pub mod OneVerdict
+pub mod FirstBad
+pub mod Places
+pub mod ClearedRange
+pub mod ShownCalls
+pub mod RegionsWithin
+pub mod ReadyFrames
+pub mod Judged
+pub mod JudgedAlone
+pub mod KeptHistory
+pub mod Rested
+pub mod ReadTexts

@@ -1,0 +1,9 @@
+pub mod OneRefusal
+pub mod Names
+pub mod DealtCalls
+pub mod ReadLines
+pub mod Words
+pub mod Parts
+pub mod CutHistories
+pub mod OneHistory
+pub mod TraceEnds

@@ -1,0 +1,5 @@
+pub mod HistoryText
+pub mod Refusals
+pub mod Lines
+pub mod Calls
+pub mod Replies

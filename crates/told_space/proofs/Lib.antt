@@ -1,0 +1,5 @@
+pub mod Alike
+pub mod Standing
+pub mod StoredWords
+pub mod KeptImages
+pub mod FollowedSpaces
