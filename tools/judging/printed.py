@@ -3,8 +3,8 @@ from typing import Callable, Dict, List, Optional, Sequence, Tuple
 
 from .legal import Pager
 from .trace_text import number_of
-from .values import (Answer, Claim, Clear, DropHeld, Entry, Failed, Give, Got, Kept, Need, Out, Pin, Refused, Rest, Take, Trace, Unclaim, UseHeld, Want,
-                     What)
+from .values import (LAST_COUNT, LAST_NUMBER, MOST_LEVEL, Answer, Claim, Clear, DropHeld, Entry, Failed, Give, Got, Kept, Need, Out, Pin, Refused,
+                     Rest, Take, Trace, Unclaim, UseHeld, Want, What)
 
 
 class BadLine(Exception):
@@ -88,10 +88,10 @@ class Words:
     def __init__(self, line: bytes):
         self.words = line.split(b' ')
 
-    def number(self) -> int:
-        """The next word, which is a number."""
+    def number(self, most: int = LAST_NUMBER) -> int:
+        """The next word, which is a number up to this one."""
         n = number_of(self.words.pop(0)) if self.words else None
-        if n is None:
+        if n is None or n > most:
             raise BadLine
         return n
 
@@ -126,7 +126,7 @@ def read_claim(words: Words) -> Claim:
 
 READERS: Dict[str, Callable[[Words], What]] = {
     'out': lambda words: Out(words.number(), not words.one_of('written', 'clean')),
-    'failed': lambda words: Failed(words.number(), bool(words.one_of('read', 'write')), words.number()),
+    'failed': lambda words: Failed(words.number(), bool(words.one_of('read', 'write')), words.number(LAST_COUNT)),
     'take': lambda words: Take(words.number(), words.number(), read_want(words)),
     'use': lambda words: UseHeld(words.number(), words.number(), read_want(words)),
     'give': lambda words: Give(words.number(), words.number()),
@@ -140,19 +140,20 @@ READERS: Dict[str, Callable[[Words], What]] = {
     'refused': lambda words: Refused(words.number(), words.number(), words.number()),
     'rest': lambda words: Rest(read_flag(words)),
 }
-# The replies, with how many numbers each has.
-REPLIES = {'done': 0, 'value': 1, 'clean': 0, 'written': 0, 'unmapped': 0, 'denied': 0, 'overlap': 0, 'outofspace': 0, 'notgrowing': 0,
-           'regionsfull': 0, 'noframes': 3, 'storefault': 2, 'nomemory': 0, 'busy': 1}
+# The replies, with the most that each of their numbers may be.
+REPLIES: Dict[str, Sequence[int]] = {
+    'done': (), 'value': (LAST_COUNT,), 'clean': (), 'written': (), 'unmapped': (), 'denied': (), 'overlap': (), 'outofspace': (), 'notgrowing': (),
+    'regionsfull': (), 'noframes': (LAST_NUMBER,) * 3, 'storefault': (LAST_NUMBER, LAST_COUNT), 'nomemory': (), 'busy': (LAST_NUMBER,)}
 
 
 def read_answer(words: Words, calls: list) -> Answer:
     """An answer, whose call is the processor's of this number. (PrintedText.antt)"""
     number = words.number()
     name = list(REPLIES)[words.one_of(*REPLIES)]
-    reply = (name, *(words.number() for _ in range(REPLIES[name])))
+    reply = (name, *(words.number(most) for most in REPLIES[name]))
     hit, size = False, None
     if words.words:
-        hit, size = not words.one_of('hit', 'miss'), words.number()
+        hit, size = not words.one_of('hit', 'miss'), words.number(MOST_LEVEL)
     if number >= len(calls):
         raise BadLine
     return Answer(number, calls[number], reply, hit, size)
@@ -169,7 +170,7 @@ def read_entry(line: bytes, number: int, trace: Trace, calls: List[list]) -> Ent
     """The entry of a line of a history. (PrintedText.antt: history_line)"""
     words = Words(line)
     processors = len(calls) + (trace.daemon is not None)
-    if words.number() != number:
+    if words.number(LAST_COUNT) != number:
         raise BadLine
     c = words.number()
     if c >= processors:

@@ -5,8 +5,8 @@ from . import flat as flats
 from .flat import Flat
 from .tiles import Tiles, tile_of
 from .values import (DONE, LAST_COUNT, NO_MEMORY, WANTS, WRITTEN, Answer, Call, Claim, Clear, Discard, Entry, Evict, Failed, Give, Kept, Load, Out, Pin,
-                     Protect, Reply, Sizes, Store, Sync, Take, Unclaim, Unmap, Unwire, UseHeld, Wire, has_size, is_access, page_of, page_of_call,
-                     word_of)
+                     Protect, Reply, Sizes, Store, Sync, Take, Unclaim, Unmap, Unwire, UseHeld, Want, Wire, has_size, is_access, page_of,
+                     page_of_call, word_of)
 
 
 class Space:
@@ -116,8 +116,8 @@ def wrong_with(space: Space, e: Entry) -> Optional[str]:
     if isinstance(w, Answer):
         return wrong_with_answer(space, e)
     if isinstance(w, (Take, UseHeld)):
-        fine = w.page not in base and w.want == flats.wanted(flat, w.page)
-    elif isinstance(w, Give):
+        return 'its page is resident' if w.page in base else wrong_with_want(w, flats.wanted(flat, w.page))
+    if isinstance(w, Give):
         fine = base.get(w.page) == w.frame and w.page not in flat.dirty
     elif isinstance(w, (Clear, Pin, Kept)):
         fine = has_its_range(flat.region_at(w.first), w)
@@ -131,6 +131,13 @@ def wrong_with(space: Space, e: Entry) -> Optional[str]:
     else:
         fine = isinstance(w, Claim) and is_needed(space, w)
     return None if fine else 'the space is in no state for it'
+
+
+def wrong_with_want(w: Union[Take, UseHeld], wanted: Optional[Want]) -> Optional[str]:
+    """Where a reservation for the page may lie, and whether its region is wired, is what the regions say. (SpaceStates.antt: WhatAllowed)"""
+    if wanted is None:
+        return 'no region has its page'
+    return None if w.want == wanted else 'its LOW, HIGH, CAP and W should be %d %d %d %d' % tuple(vars(wanted).values())
 
 
 def has_its_range(region: Optional[flats.Region], w: Union[Clear, Pin, Kept]) -> bool:
@@ -155,12 +162,14 @@ def wrong_with_answer(space: Space, e: Entry) -> Optional[str]:
     and of a store that was done: the hit as the tile was before, the size as it is then. (SpaceStates.antt: AnswerAllowed)"""
     w = e.what
     if not reply_allowed(space, e.processor, w.call, w.reply):
-        return "the reply isn't allowed: the flat memory's is %s" % ' '.join(map(str, flats.reply_of(space.flat, w.call)))
+        return "its reply isn't allowed: the flat memory's is %s" % ' '.join(map(str, flats.reply_of(space.flat, w.call)))
     frees = isinstance(w.call, Evict) and flats.is_lawful(w.reply) and w.call.page in space.base
     if e.frames != frees:
         return 'an answer names the frames exactly where the resident page of an evict goes with it'
     hit, size = hit_and_size(space, e.processor, w.call, w.reply)
-    return None if (w.hit, w.size) == (hit, size) else 'hit and size are %s and %s' % (hit, size)
+    if (w.hit, w.size) == (hit, size):
+        return None
+    return 'it should have no hit and size' if size is None else 'its hit and size should be %s %d' % ('hit' if hit else 'miss', size)
 
 
 def hit_and_size(space: Space, processor: int, call: Call, reply: Reply) -> Tuple[bool, Optional[int]]:

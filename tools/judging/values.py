@@ -12,6 +12,9 @@ IMAGE_ROOM = 128
 MOST_CALLS = 262144
 MOST_BYTES = 16777216
 LAST_COUNT = 2 ** 64 - 1
+# The largest number of a page, a frame or a space that an entry can tell, and the largest level.
+LAST_NUMBER = 2 ** 32 - 1
+MOST_LEVEL = 3
 # Which page sizes there are: levels, ascending, and 0 is always one.
 Sizes = Tuple[int, ...]
 ALL_SIZES: Sizes = (0, 1, 2, 3)
