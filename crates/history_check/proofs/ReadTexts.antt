@@ -22,7 +22,7 @@ use Rattle.pager_model.specs.Plans.{Plan}
 use Rattle.pager_model.specs.Showing.{calls_of}
 use Rattle.pager_model.specs.TraceText.{HasText, IsCall, IsLine, IsTextOf, text_of}
 use Rattle.trace_reader.specs.declared.fault.TraceFault.{TraceFault}
-use Rattle.trace_reader.specs.declared.fault.TraceFault.TheVariants.{ReadFault, TooLong, Line, NoEnd, TooManyCalls, TooFewStores, OneProcessor, HistoryLine, HistoryNoEnd, NoMemory}
+use Rattle.trace_reader.specs.declared.fault.TraceFault.TheVariants.{ReadFault, TooLong, Line, LongLine, NoEnd, TooManyCalls, TooFewStores, OneProcessor, HistoryLine, HistoryNoEnd, NoMemory}
 use Rattle.trace_reader.specs.declared.input.AllFault.{AllFault}
 use Rattle.trace_reader.specs.declared.input.AllFault.TheVariants as whole
 use Rattle.trace_reader.specs.Refusals.{IsCause, lines_of, refusal_of, trace_fault}
@@ -151,6 +151,7 @@ its_own bytes ReadFault few cause = tt
 its_own bytes NoMemory few cause = tt
 its_own bytes TooLong few cause = inr (few, inl cause)
 its_own bytes (Line number c) few cause = inr (few, inl cause)
+its_own bytes (LongLine number) few cause = inr (few, inl cause)
 its_own bytes NoEnd few cause = inr (few, inl cause)
 its_own bytes TooManyCalls few cause = inr (few, inl cause)
 its_own bytes (TooFewStores stores spaces) few cause = cause
@@ -168,6 +169,7 @@ fails refusal ReadFault none cause = tt
 fails refusal NoMemory none cause = tt
 fails refusal TooLong none cause = absurd (none-some _ (sym none ∙ cause))
 fails refusal (Line number c) none cause = absurd (none-some _ (sym none ∙ cause))
+fails refusal (LongLine number) none cause = absurd (none-some _ (sym none ∙ cause))
 fails refusal NoEnd none cause = absurd (none-some _ (sym none ∙ cause))
 fails refusal TooManyCalls none cause = absurd (none-some _ (sym none ∙ cause))
 fails refusal (TooFewStores stores spaces) none cause = cause

@@ -5,7 +5,7 @@ use Rattle.history_check.specs.Texts.{AreCause, AreRefused, IsFailure, IsJudgeab
 use Rattle.io_core.specs.Faults.{one_more, Rose}
 use Rattle.io_core.proofs.FaultCounts.{rose_by_one}
 use Rattle.trace_reader.specs.declared.fault.TraceFault.{TraceFault}
-use Rattle.trace_reader.specs.declared.fault.TraceFault.TheVariants.{ReadFault, TooLong, Line, NoEnd, TooManyCalls, TooFewStores, OneProcessor, HistoryLine, HistoryNoEnd, NoMemory}
+use Rattle.trace_reader.specs.declared.fault.TraceFault.TheVariants.{ReadFault, TooLong, Line, LongLine, NoEnd, TooManyCalls, TooFewStores, OneProcessor, HistoryLine, HistoryNoEnd, NoMemory}
 use Rattle.pager_command.specs.declared.outcome.Outcome.{Outcome}
 use Rattle.pager_command.specs.declared.status.TheConstants.{DONE, USAGE, REFUSED, READ_FAULT, MEMORY, WRITE_FAULT}
 use Rattle.pager_command.specs.Checks.{Checks, IsUnjudged, Judged, JudgedNone}
@@ -21,6 +21,7 @@ with_cause bytes ReadFault cause refused = absurd (omega (arith, refused))
 with_cause bytes NoMemory cause refused = absurd (omega (arith, refused))
 with_cause bytes TooLong cause refused = cause
 with_cause bytes (Line number c) cause refused = cause
+with_cause bytes (LongLine number) cause refused = cause
 with_cause bytes NoEnd cause refused = cause
 with_cause bytes TooManyCalls cause refused = cause
 with_cause bytes (TooFewStores stores spaces) cause refused = absurd cause
@@ -33,6 +34,7 @@ fails_for_memory ReadFault failure read = absurd (read refl)
 fails_for_memory NoMemory failure read = refl
 fails_for_memory TooLong failure read = absurd failure
 fails_for_memory (Line number c) failure read = absurd failure
+fails_for_memory (LongLine number) failure read = absurd failure
 fails_for_memory NoEnd failure read = absurd failure
 fails_for_memory TooManyCalls failure read = absurd failure
 fails_for_memory (TooFewStores stores spaces) failure read = absurd failure
@@ -46,6 +48,7 @@ is_read_fault ReadFault is = refl
 is_read_fault NoMemory is = absurd (omega (arith, is))
 is_read_fault TooLong is = absurd (omega (arith, is))
 is_read_fault (Line number cause) is = absurd (omega (arith, is))
+is_read_fault (LongLine number) is = absurd (omega (arith, is))
 is_read_fault NoEnd is = absurd (omega (arith, is))
 is_read_fault TooManyCalls is = absurd (omega (arith, is))
 is_read_fault (TooFewStores stores spaces) is = absurd (omega (arith, is))

@@ -7,7 +7,7 @@ use Rattle.pager_command.specs.declared.status.TheConstants.{REFUSED, READ_FAULT
 use Rattle.pager_command.specs.Forms.{IsForOneProcessor, Admits}
 use Rattle.pager_command.specs.Runs.{CountsProcessors, CountsStores, IsRefused, IsRunnable, WasRead, WasRunnable, status_of}
 use Rattle.trace_reader.specs.declared.fault.TraceFault.{TraceFault}
-use Rattle.trace_reader.specs.declared.fault.TraceFault.TheVariants.{ReadFault, TooLong, Line, NoEnd, TooManyCalls, TooFewStores, OneProcessor, HistoryLine, HistoryNoEnd, NoMemory}
+use Rattle.trace_reader.specs.declared.fault.TraceFault.TheVariants.{ReadFault, TooLong, Line, LongLine, NoEnd, TooManyCalls, TooFewStores, OneProcessor, HistoryLine, HistoryNoEnd, NoMemory}
 use Rattle.trace_reader.specs.Refusals.{refusal_of, IsCause}
 use Rattle.trace_reader.proofs.CutTexts.{not_refused}
 use Rattle.trace_reader.proofs.UniqueTexts.{one_plan}
@@ -45,6 +45,7 @@ without_refusal refusal ReadFault none cause read = absurd (read refl)
 without_refusal refusal NoMemory none cause read = refl
 without_refusal refusal TooLong none cause read = absurd (none-some _ (sym none ∙ cause))
 without_refusal refusal (Line number c) none cause read = absurd (none-some _ (sym none ∙ cause))
+without_refusal refusal (LongLine number) none cause read = absurd (none-some _ (sym none ∙ cause))
 without_refusal refusal NoEnd none cause read = absurd (none-some _ (sym none ∙ cause))
 without_refusal refusal TooManyCalls none cause read = absurd (none-some _ (sym none ∙ cause))
 without_refusal refusal (TooFewStores stores spaces) none cause read = absurd cause
@@ -58,6 +59,7 @@ with_refusal refusal ReadFault cause refused = absurd (omega (arith, refused))
 with_refusal refusal NoMemory cause refused = absurd (omega (arith, refused))
 with_refusal refusal TooLong cause refused = cause
 with_refusal refusal (Line number c) cause refused = cause
+with_refusal refusal (LongLine number) cause refused = cause
 with_refusal refusal NoEnd cause refused = cause
 with_refusal refusal TooManyCalls cause refused = cause
 with_refusal refusal (TooFewStores stores spaces) cause refused = absurd cause
@@ -88,6 +90,7 @@ status_told ReadFault = inr (inl refl)
 status_told NoMemory = inr (inr refl)
 status_told TooLong = inl refl
 status_told (Line number c) = inl refl
+status_told (LongLine number) = inl refl
 status_told NoEnd = inl refl
 status_told TooManyCalls = inl refl
 status_told (TooFewStores stores spaces) = inl refl

@@ -8,3 +8,4 @@ mod FormRuns
 mod LargeRuns
 mod Results
 pub mod CheckRuns
+mod StreamEnds

@@ -1,5 +1,5 @@
 -- Words are of one command: what they ask for is read off them.
-use Rattle.std.proofs.Common.{◌≡◌, ℕ, ◌==◌, ◌||◌, ◌<◌, ◌^◌, if◌then◌else◌, Bool, false, List, [], ◌∷◌, codes, decimal, drop, get_or, Some, sym, ap, subst, refl, ◌∙◌, arith}
+use Rattle.std.proofs.Common.{◌≡◌, ℕ, ◌==◌, ◌||◌, ◌<◌, ◌≤◌, ◌^◌, if◌then◌else◌, Bool, false, List, [], ◌∷◌, codes, decimal, drop, get_or, length, Option, None, Some, IfSome, sym, ap, subst, refl, ◌∙◌, arith}
 use Rattle.std.proofs.lemmas.Bool.{false≢true}
 use Rattle.std.proofs.lemmas.Fmt.{decimal_injective, decimal_is_IsNumeral}
 use Rattle.std.proofs.lemmas.Option.{none-some, same_Some}
@@ -8,7 +8,7 @@ use Rattle.std.specs.Str.Parse.{digits_value}
 use Rattle.report_text.specs.declared.report.Parts.{Parts}
 use Rattle.report_text.specs.declared.report.Parts.TheVariants.{Answers, AnswersAndHistory}
 use Rattle.pager_command.specs.declared.form.Command.{Command}
-use Rattle.pager_command.specs.declared.form.Command.TheVariants.{Run, Make, Large, Check}
+use Rattle.pager_command.specs.declared.form.Command.TheVariants.{Run, Make, Large, Check, Stream}
 use Rattle.pager_command.specs.declared.form.Form.{Form}
 use Rattle.pager_command.specs.declared.form.Making.{Making}
 use Rattle.pager_command.specs.declared.form.Order.{Order}
@@ -16,7 +16,7 @@ use Rattle.pager_command.specs.declared.form.Order.TheVariants.{InTurns, Threads
 use Rattle.pager_command.specs.declared.form.Report.{Report}
 use Rattle.pager_command.specs.declared.form.Report.TheVariants.{Answers as Answered, Plan as Planned, Curves}
 use Rattle.pager_command.specs.declared.form.Turns.TheVariants.{Lines, Drawn}
-use Rattle.pager_command.specs.Forms.{AreCheckWords, AreLargeWords, AreMakingWords, AreOfCommand, AreWords, IsSeedInRange, IsSizeInRange, Spell, are_of, large_words, making_words, parts_words, words_of}
+use Rattle.pager_command.specs.Forms.{AreCheckWords, AreLargeWords, AreMakingWords, AreOfCommand, AreStreamWords, AreWords, IsSeedInRange, IsSizeInRange, Spell, are_of, large_words, making_words, parts_words, words_of}
 use Rattle.trace_make.specs.Made.{CanMake}
 
 abbrev asked : Order → Report → Form
@@ -75,9 +75,9 @@ back_form words form is = back form.order form.report words is.are is.seed is.si
 one_form : (words : List (List ℕ)) (a b : Form) → Spell words a → Spell words b → a ≡ b
 one_form words a b is also = sym (back_form words a is) ∙ back_form words b also
 
--- the words of the other commands begin with letters of their own
+-- the words of three other commands begin with letters of their own
 abbrev is_others : ℕ → Bool
-is_others n = (n == 108) || (n == 109)
+is_others n = (n == 108) || ((n == 109) || (n == 115))
 
 begins : (order : Order) (report : Report) (words : List (List ℕ)) → words_of order report ≡ Some words → is_others (letter words) ≡ false
 begins (InTurns Lines) (Answered parts) words are =
@@ -182,6 +182,45 @@ check_is_not_large words is number seed large =
     let same : 99 ≡ 108 = ap letter (sym is ∙ large.are) in
     omega (arith, same)
 
+-- the words of a stream
+
+stream_letter : (words : List (Bor (List ℕ))) (every : Option ℕ) → AreStreamWords words every → letter (are_of words) ≡ 115
+stream_letter words None is = ap letter is
+stream_letter words (Some every) is = ap letter is.0
+
+stream_is_no_form : (words : List (Bor (List ℕ))) (every : Option ℕ) → AreStreamWords words every → (form : Form) → AreWords words form → ⊥
+stream_is_no_form words every is form spelled =
+    false≢true (sym (begins form.order form.report (are_of words) spelled.are) ∙ ap is_others (stream_letter words every is))
+
+stream_is_not_making : (words : List (Bor (List ℕ))) (every : Option ℕ) → AreStreamWords words every → (m : Making) → AreMakingWords words m → ⊥
+stream_is_not_making words every is m making =
+    let same : 115 ≡ 109 = sym (stream_letter words every is) ∙ ap letter making.are in
+    omega (arith, same)
+
+stream_is_not_large : (words : List (Bor (List ℕ))) (every : Option ℕ) → AreStreamWords words every → (number seed : ℕ)
+    → AreLargeWords words number seed → ⊥
+stream_is_not_large words every is number seed large =
+    let same : 115 ≡ 108 = sym (stream_letter words every is) ∙ ap letter large.are in
+    omega (arith, same)
+
+stream_is_not_check : (words : List (Bor (List ℕ))) (every : Option ℕ) → AreStreamWords words every → AreCheckWords words → ⊥
+stream_is_not_check words every is check =
+    let same : 115 ≡ 99 = sym (stream_letter words every is) ∙ ap letter check in
+    omega (arith, same)
+
+-- the same words ask for the counts so far after as many calls
+one_stream : (words : List (Bor (List ℕ))) (a b : Option ℕ) → AreStreamWords words a → AreStreamWords words b → a ≡ b
+one_stream words None None is also = refl
+one_stream words None (Some b) is also = absurd (let same : 1 ≡ 2 = ap length (sym is ∙ also.0) in omega (arith, same))
+one_stream words (Some a) None is also = absurd (let same : 2 ≡ 1 = ap length (sym is.0 ∙ also) in omega (arith, same))
+one_stream words (Some a) (Some b) is also =
+    ap Some (one_number a b is.2 also.2 (ap (λ (ws : List (List ℕ)). get_or ws 1 []) (sym is.0 ∙ also.0)))
+
+-- words that ask for them do so after one call at least
+pub stream_some : (words : List (Bor (List ℕ))) (every : Option ℕ) → AreStreamWords words every → IfSome every (λ n. 1 ≤ n)
+stream_some words None is = tt
+stream_some words (Some every) is = is.1
+
 -- words are of one command
 pub one_command : (words : List (Bor (List ℕ))) (a b : Command) → AreOfCommand words a → AreOfCommand words b → a ≡ b
 one_command words (Run a) (Run b) is also = ap Run (one_form (are_of words) a b is also)
@@ -202,3 +241,12 @@ one_command words Check (Run a) is also = absurd (check_is_no_form words is a al
 one_command words Check (Make m) is also = absurd (check_is_not_making words is m also)
 one_command words Check (Large number seed) is also = absurd (check_is_not_large words is number seed also)
 one_command words Check Check is also = refl
+one_command words (Stream a) (Stream b) is also = ap Stream (one_stream words a b is also)
+one_command words (Stream a) (Run b) is also = absurd (stream_is_no_form words a is b also)
+one_command words (Stream a) (Make m) is also = absurd (stream_is_not_making words a is m also)
+one_command words (Stream a) (Large number seed) is also = absurd (stream_is_not_large words a is number seed also)
+one_command words (Stream a) Check is also = absurd (stream_is_not_check words a is also)
+one_command words (Run a) (Stream b) is also = absurd (stream_is_no_form words b also a is)
+one_command words (Make m) (Stream b) is also = absurd (stream_is_not_making words b also m is)
+one_command words (Large number seed) (Stream b) is also = absurd (stream_is_not_large words b also number seed is)
+one_command words Check (Stream b) is also = absurd (stream_is_not_check words b also is)

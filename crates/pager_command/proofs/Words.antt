@@ -52,6 +52,15 @@ pub another_number : (word : List ℕ) (found number : ℕ) → found < 2 ^ 32 �
 another_number word found number below other is differ = λ same.
     differ (decimal_injective found number (omega (arith, below)) (omega (arith, other)) (sym is ∙ same))
 
+-- two words: the bytes of the first are equal to these, and the other is this
+pub two_words : (words : List (Bor (List ℕ))) (d : Bor (List ℕ)) (first second : List ℕ) (b : Bool)
+    → 2 ≤ length words → length words < 3 → b ≡ bytes_eq (get_or words 0 d).now first → IsTrue b
+    → (get_or words 1 d).now ≡ second → are_of words ≡ first ∷ second ∷ []
+two_words [] d first second b some few is holds then = absurd (omega arith)
+two_words (v ∷ []) d first second b some few is holds then = absurd (omega arith)
+two_words (v ∷ w ∷ []) d first second b some few is holds then = (let equal = (bytes_decides v.now first).0 (sym is ∙ holds) in cc)
+two_words (v ∷ w ∷ x ∷ ws) d first second b some few is holds then = absurd (omega arith)
+
 -- three words: the bytes of the first are equal to these, and the others are these
 pub three_words : (words : List (Bor (List ℕ))) (d : Bor (List ℕ)) (first second third : List ℕ) (b : Bool)
     → 3 ≤ length words → length words < 4 → b ≡ bytes_eq (get_or words 0 d).now first → IsTrue b

@@ -8,7 +8,7 @@ use Rattle.pager_model.specs.TurnOrders.{IsSeeded}
 use Rattle.report_text.specs.declared.report.Parts.{Parts}
 use Rattle.report_text.specs.declared.report.Parts.TheVariants.{Answers, AnswersAndHistory}
 use Rattle.pager_command.specs.declared.form.Command.{Command}
-use Rattle.pager_command.specs.declared.form.Command.TheVariants.{Run, Make, Large, Check}
+use Rattle.pager_command.specs.declared.form.Command.TheVariants.{Run, Make, Large, Check, Stream}
 use Rattle.pager_command.specs.declared.form.Form.{Form}
 use Rattle.pager_command.specs.declared.form.Making.{Making}
 use Rattle.pager_command.specs.declared.form.Order.{Order}
@@ -116,12 +116,21 @@ IsLarge words = (number : ℕ) × (seed : ℕ) × AreLargeWords words number see
 abbrev pub AreCheckWords : List (Bor (List ℕ)) → Type 0
 AreCheckWords words = are_of words ≡ codes "check" ∷ []
 
+-- the words ask for a trace to be run as it is read, and for the counts so far after each so many calls, or not
+abbrev pub AreStreamWords : List (Bor (List ℕ)) → (every : Option ℕ) → Type 0
+AreStreamWords words None = are_of words ≡ codes "stream" ∷ []
+AreStreamWords words (Some every) = (are_of words ≡ codes "stream" ∷ decimal every ∷ []) × (1 ≤ every) × (every < 2 ^ 32)
+
+abbrev pub IsStream : List (Bor (List ℕ)) → Type 0
+IsStream words = (every : Option ℕ) × AreStreamWords words every
+
 -- the words are of this command
 abbrev pub AreOfCommand : List (Bor (List ℕ)) → Command → Type 0
 AreOfCommand words (Run form) = AreWords words form
 AreOfCommand words (Make m) = AreMakingWords words m
 AreOfCommand words (Large number seed) = AreLargeWords words number seed
 AreOfCommand words Check = AreCheckWords words
+AreOfCommand words (Stream every) = AreStreamWords words every
 
 -- the words are of some command
 abbrev pub IsCommand : List (Bor (List ℕ)) → Type 0

@@ -4,3 +4,4 @@ pub mod MadeRuns
 pub mod Messages
 pub mod Views
 pub mod Checks
+pub mod StreamRuns

@@ -3,7 +3,7 @@
 ghost use Rattle.std.specs.Prelude.{◌≡◌, ◌≢◌, ℕ, ◌^◌, ◌<◌, ◌≤◌, [], ◌∷◌, ◌↔◌, IsTrue, IfSome, IfNone, codes, decimal};
 ghost use Rattle.report_text.specs.declared.report.Parts.{Parts as Printed};
 ghost use Rattle.pager_command.specs.declared.form.Form.{Form as Asked};
-ghost use Rattle.pager_command.specs.Forms.{AreBehind, AreCheckWords, AreLargeWords, AreMakingWords, AreOfCommand, AreWords, IsCommand, IsForm, IsLarge, IsMaking, IsForOneProcessor, are_of, parts_words};
+ghost use Rattle.pager_command.specs.Forms.{AreBehind, AreCheckWords, AreLargeWords, AreMakingWords, AreOfCommand, AreStreamWords, AreWords, IsCommand, IsForm, IsForOneProcessor, IsLarge, IsMaking, IsStream, are_of, parts_words};
 ghost use Rattle.trace_make.specs.Made.{CanMake};
 
 use itoa::Buffer;
@@ -21,6 +21,8 @@ pub enum Command {
     Large { number: u64, seed: u64 },
     /// To read a trace and a history of it, and say whether the history is legal and shows the trace.
     Check,
+    /// To run a trace as it is read, and print the counts; before them, where it is asked for, the counts so far after each so many calls.
+    Stream { every: Option<u32> },
 }
 
 /// In which order a trace that is read is run, and what is printed of the run.
@@ -107,6 +109,9 @@ pub fn command_of(words: &[&str]) -> Option<Command>
     if is_check(words) {
         return Some(Command::Check);
     }
+    if let Some(every) = stream_of(words) {
+        return Some(Command::Stream { every });
+    }
     let (number, seed) = large_of(words)?;
     Some(Command::Large { number, seed })
 }
@@ -160,6 +165,30 @@ fn is_check(words: &[&str]) -> bool
         [word] => *word == "check",
         _ => false,
     }
+}
+
+/// After how many calls each the words ask for the counts so far, or that they don't, where they ask for a stream.
+fn stream_of(words: &[&str]) -> Option<Option<u32>>
+    ensures some { IfSome result (AreStreamWords words.now) }
+    ensures none { IfNone result (IsStream words.now → ⊥) }
+{
+    match words {
+        [word] if *word == "stream" => Some(None),
+        [word, every] if *word == "stream" => Some(Some(every_of(every)?)),
+        _ => None,
+    }
+}
+
+/// The number of calls that a word names, where it is one at least.
+fn every_of(word: &str) -> Option<u32>
+    ensures some { IfSome result (λ every. (word.now ≡ decimal every) × (1 ≤ every) × (every < 2 ^ 32)) }
+    ensures none { IfNone result ((every : ℕ) → 1 ≤ every → every < 2 ^ 32 → word.now ≢ decimal every) }
+{
+    let every = small_number_of(word)?;
+    if every == 0 {
+        return None;
+    }
+    Some(every)
 }
 
 /// The form of the words, where they are of one.

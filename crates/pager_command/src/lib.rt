@@ -8,6 +8,7 @@ mod outcome;
 mod printing;
 mod running;
 mod status;
+mod streaming;
 
 pub use form::{is_command, small_number_of};
 pub use outcome::Outcome;

@@ -1,6 +1,6 @@
 //! A run of the program, from the bytes read to the bytes written.
 
-ghost use Rattle.std.specs.Prelude.{ℕ, ◌≡◌, ◌≢◌, ◌≤◌, ◌⊎◌, ◌↔◌, true, None, IfOk, IfErr, IsSome, IsSomeAnd, length, map};
+ghost use Rattle.std.specs.Prelude.{ℕ, ◌≡◌, ◌≢◌, ◌≤◌, ◌⊎◌, ◌↔◌, true, Option, None, IfOk, IfErr, IsSome, IsSomeAnd, length, map};
 ghost use Rattle.flight_core.specs.Lacking.{NoneLacked};
 ghost use Rattle.io_core.specs.Faults.{Rose};
 ghost use Rattle.pager_model.specs.Legal.{entries_in};
@@ -8,9 +8,10 @@ ghost use Rattle.replay_core.specs.Replays.{IsReplay, AreItsCounts};
 ghost use Rattle.pager_command.specs.declared.form.Form.{Form as Asked};
 ghost use Rattle.pager_command.specs.declared.form.Making.{Making as ToMake};
 ghost use Rattle.pager_command.specs.Checks.{Checks};
-ghost use Rattle.pager_command.specs.Forms.{Admits, AreCheckWords, AreLargeWords, AreMakingWords, AreWords, ComesBy, IsCommand};
+ghost use Rattle.pager_command.specs.Forms.{Admits, AreCheckWords, AreLargeWords, AreMakingWords, AreStreamWords, AreWords, ComesBy, IsCommand};
 ghost use Rattle.pager_command.specs.MadeRuns.{MakesText, RunsLarge};
 ghost use Rattle.pager_command.specs.Runs.{DidNothing, IsRunnable, IsStatus, IsStopped, IsTold, RunsBy, WasRead};
+ghost use Rattle.pager_command.specs.StreamRuns.{Streams};
 ghost use Rattle.pager_command.specs.Views.{ending, ends, out_views, views};
 
 use crate::checking::check_history;
@@ -19,6 +20,7 @@ use crate::making::{run_large, write_made};
 use crate::outcome::{Outcome, Stop, refused, stopped};
 use crate::printing::write_run;
 use crate::status::{DONE, MEMORY, USAGE};
+use crate::streaming::stream_text;
 use io_core::{Sink, Source};
 use pager_model::Trace;
 use replay_core::{Gathered, replay, replay_file_order, replay_turns};
@@ -31,7 +33,7 @@ use trace_reader::{TraceFault, read_trace};
 /// Runs the program with these words over these backing stores, of which each space uses the one of its number. By words of a form it reads a
 /// trace to the end of the source, runs it in the form's order, and writes the form's report to the sink. By words that read nothing it makes a trace from a
 /// number and writes its text, or runs the large one and writes the counts. By `check` it reads a trace and a history, and writes whether the history is a
-/// legal one of the trace.
+/// legal one of the trace. By `stream` it runs a trace as it is read, a line at a time, and writes the counts.
 ///
 /// The handle is for the order of threads alone, which starts threads and waits for locks: nothing is proved of when such a run returns. A
 /// run in turns is made by a function that takes no handle, and so is proved to return.
@@ -80,6 +82,10 @@ pub fn run<T: Source, K: Sink, S: Store + Send + Drop, R: Threads + Wait + Sync>
         (ends source.old sink.old) (ends source.new sink.new) stores.items result }
     ensures verdict { IsSome result.verdict → AreCheckWords words.now }
 
+    // A trace that is run as it is read, and not kept.
+    ensures streams { (every : Option ℕ) → AreStreamWords words.now every → Streams (views T.left T.faults K.taken K.faults S.seen) S.lasts every
+        (ends source.old sink.old) (ends source.new sink.new) stores.items result }
+
     // Over stores that keep every page of a space for good no call of a run was answered for want of memory.
     ensures lasting { S.lasts ≡ true → (AreCheckWords words.now → ⊥) → NoneLacked (entries_in result.history.items) }
 {
@@ -91,6 +97,7 @@ pub fn run<T: Source, K: Sink, S: Store + Send + Drop, R: Threads + Wait + Sync>
         Command::Make(making) => write_made(alloc, making, sink, stores),
         Command::Large { number, seed } => run_large(alloc, number, seed, sink, stores),
         Command::Check => check_history(alloc, source, sink, stores),
+        Command::Stream { every } => stream_text(alloc, every, source, sink, stores),
     }
 }
 

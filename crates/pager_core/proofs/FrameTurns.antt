@@ -10,8 +10,9 @@ use Rattle.flight_core.specs.Flights.{IsReady, IsAtRest}
 use Rattle.flight_core.specs.Rows.{row_of, space_under}
 use Rattle.pager_core.specs.Running.{flight_at, jobs_at}
 use Rattle.flight_core.specs.Steps.{MakesOnFrames}
-use Rattle.pager_core.proofs.Lands.{Lands, own_kept}
-use Rattle.pager_core.proofs.LegalSteps.{space_at-unnamed}
+use Rattle.pager_core.proofs.Lands.{Lands}
+use Rattle.step_log.proofs.FlightSteps.{own_kept}
+use Rattle.step_log.proofs.LegalSteps.{space_at-unnamed}
 use Rattle.pager_core.proofs.MachineTurns.{Goes, IsWhole, Keeps, MachineParts, Step, state_then, state_was, victim_within}
 use Rattle.flight_core.proofs.NextFlights.{keeps_none, under_cases}
 

@@ -30,16 +30,6 @@ same_job (OfTurn low evictions) (OfCall call claimed) kind same mark = absurd (f
 pub job_kept : {old new : Flight} → SameWork old new → job_in new.purpose ≡ job_in old.purpose
 job_kept {old} {new} same = same_job old.purpose new.purpose same.same_kind same.call same.mark
 
--- and on the same space of its own
-pub own_kept : {old new : Flight} → SameWork old new → own_space new.purpose ≡ own_space old.purpose
-own_kept {old} {new} same = by old.purpose new.purpose same.same_kind same.call
-  where
-    by : (p q : Purpose) → is_of_call q ≡ is_of_call p → call_in q ≡ call_in p → own_space q ≡ own_space p
-    by (OfCall call claimed) (OfCall call' claimed') kind is = ap (λ k. own_space (OfCall k claimed)) is
-    by (OfTurn low evictions) (OfTurn low' evictions') kind is = refl
-    by (OfCall call claimed) (OfTurn low evictions) kind is = absurd (false≢true kind)
-    by (OfTurn low evictions) (OfCall call claimed) kind is = absurd (false≢true (sym kind))
-
 pub mark_of_job : (mark : ℕ) (p : Purpose) → FitsMark mark (job_in p) → mark ≡ mark_in p
 mark_of_job mark (OfCall call claimed) fits = fits
 mark_of_job mark (OfTurn low evictions) fits = fits.0
@@ -124,7 +114,7 @@ pub ended_progress : (f : Flight) (mark : ℕ) → has_ended (row_of f).outcome 
 ended_progress f mark ended fits for = ended_progress_in f.processor f.number mark
     (own_space f.purpose) f.purpose f.phase ended fits for.kind
 
-ended_keeps : (f : Flight) → has_ended (row_of f).outcome ≡ true → (row_of f).keeps ≡ None
+pub ended_keeps : (f : Flight) → has_ended (row_of f).outcome ≡ true → (row_of f).keeps ≡ None
 ended_keeps f = ended_keeps_in f.processor f.number (own_space f.purpose) f.purpose f.phase
 
 -- What comes of a flight's processor of this mark, among whose jobs the flight's is.

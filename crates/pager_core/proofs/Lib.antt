@@ -1,5 +1,4 @@
 pub mod Lists
-pub mod LegalSteps
 pub mod Lands
 pub mod MachineTurns
 pub mod SpaceTurns

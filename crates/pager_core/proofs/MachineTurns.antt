@@ -38,8 +38,9 @@ use Rattle.flight_core.specs.Rows.{Outcome, Going, TurnEnded, Answered, call_in,
 use Rattle.pager_core.specs.Running.{Running, AreOfMark, FitsMark, call_of, calls_among, job_in, jobs_at, flight_at, left_behind, progress_by_flight, progress_of_actor, kept_by, entries_left, left_at, IsNumbered, IsLawful}
 use Rattle.flight_core.specs.Steps.{MakesEntry, answer_made}
 use Rattle.pager_core.proofs.Lists.{enumerate-push, sum_by-lower}
-use Rattle.pager_core.proofs.LegalSteps.{MayFollow-step, frames_at-step, victim_placed}
-use Rattle.pager_core.proofs.Lands.{Fits-for, Lands, Starts-for, ended_progress, job_kept, mark_of_job, own-for, own_kept, under-for}
+use Rattle.step_log.proofs.LegalSteps.{MayFollow-step, frames_at-step, victim_placed}
+use Rattle.pager_core.proofs.Lands.{Fits-for, Lands, Starts-for, ended_progress, job_kept, mark_of_job, own-for, under-for}
+use Rattle.step_log.proofs.FlightSteps.{own_kept}
 use Rattle.flight_core.proofs.NextFlights.{ended_by, made_going, turn_goes_on}
 
 -- The parts of a machine: its run, its spaces, its frames, and the room of its history.

@@ -13,9 +13,10 @@ use Rattle.flight_core.specs.Rows.{row_of, space_under}
 use Rattle.pager_core.specs.Running.{flight_at, jobs_at, IsKeptByOther}
 use Rattle.flight_core.specs.Steps.{Makes, after_named}
 use Rattle.flight_core.proofs.EntrySteps.{Fits-left}
-use Rattle.pager_core.proofs.Lands.{Lands, own_kept}
-use Rattle.pager_core.proofs.LegalSteps.{IsIn, IsIn-left, space_at-elsewhere, space_at-here, space_known}
-use Rattle.pager_core.proofs.Lists.{slice_get-set_same, slice_get-set_other}
+use Rattle.pager_core.proofs.Lands.{Lands}
+use Rattle.step_log.proofs.FlightSteps.{own_kept}
+use Rattle.step_log.proofs.LegalSteps.{IsIn, IsIn-left, space_at-elsewhere, space_at-here, space_known}
+use Rattle.step_log.proofs.Lists.{slice_get-set_same, slice_get-set_other}
 use Rattle.pager_core.proofs.MachineTurns.{Goes, IsWhole, Keeps, MachineParts, Step, state_then, state_was, victim_within}
 use Rattle.flight_core.proofs.NextFlights.{keeps_under, under_cases}
 

@@ -39,7 +39,3 @@ pub record AreAtRest (given : Given) (history : List Entry) (spaces : List Kept)
   pub count : length spaces ≡ length given.told
   pub spaces_rest : (s : ℕ) (kept : Kept) → slice_get spaces s ≡ Some kept → IsAtRest kept (space_at given history s)
   pub pool_is : pool ≡ frames_at given history
-
--- at most so many entries has a history: 17 processors make at most 2^31 each
-abbrev pub most_in_history : ℕ
-most_in_history = 36507222016

@@ -8,4 +8,6 @@ mod machine;
 mod run_parts;
 
 pub use machine::{ENTRIES_OF_CALL, Machine, Turn};
-pub use run_parts::{Gathered, RunRoom, SpaceRooms, jobs_by_processor, marks_of};
+pub use run_parts::{
+    Gathered, RunRoom, SpaceRooms, counts_of, jobs_by_processor, marks_of, stores_of,
+};

@@ -19,7 +19,7 @@ ghost use Rattle.pager_core.specs.Running.{Running, progress_of_actor, flight_at
 ghost use Rattle.flight_core.specs.Steps.{AreAgreed, Makes, Passes};
 
 use crate::jobs::Jobs;
-use crate::run_parts::{Gathered, RunRoom, marks_of};
+use crate::run_parts::{Gathered, RunRoom};
 use flight_core::{Flight, Needs};
 use frame_pool::Pool;
 use pager_model::{Daemon, Entry, Job, NoMemory, Setting, Trace};
@@ -286,7 +286,7 @@ fn parts_of<'a, S: Store + Send + Drop>(
     let flights = first_of_each(alloc, &jobs, trace.actors())?;
     let spaces = trace.spaces();
     let keepers = no_keepers(alloc, spaces)?;
-    let room = room_of(alloc, trace, stores)?;
+    let room = RunRoom::of(alloc, trace, stores)?;
     Ok(Parts {
         jobs,
         flights,
@@ -294,24 +294,6 @@ fn parts_of<'a, S: Store + Send + Drop>(
         history,
         room,
     })
-}
-
-/// The room of a run over these stores, of which those of its spaces are looked at.
-fn room_of<S: Store + Send + Drop>(
-    alloc: Global,
-    trace: &Trace,
-    stores: &[S],
-) -> Result<RunRoom<S>, NoMemory>
-    requires enough { trace.now.spaces ≤ length stores.now }
-    ensures setting { IfOk result (λ room. room.setting ≡ setting_over trace.now (map S.seen stores.now)) }
-    ensures spaces { IfOk result (λ room. AreRoomsOver room.setting (take trace.now.spaces (map S.seen stores.now)) room.spaces) }
-    ensures pool { IfOk result (λ room. room.pool ≡ start_frames trace.now.sizes trace.now.frames (actors trace.now)) }
-    ensures capped { IfOk result (λ _. AreCapped trace.now.spaces (map S.seen stores.now)) }
-{
-    let spaces = trace.spaces();
-    let marks = marks_of(alloc, trace)?;
-    let own = &stores[..spaces as usize];
-    RunRoom::create(alloc, trace.frames(), trace.sizes(), marks.as_slice(), own)
 }
 
 /// That no flight keeps one of so many spaces.

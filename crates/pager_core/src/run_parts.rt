@@ -1,18 +1,21 @@
 //! What a run begins with and what it leaves, whoever makes its entries.
 
-ghost use Rattle.std.specs.Prelude.{◌≡◌, ℕ, ◌+◌, ◌^◌, ◌<◌, ◌≤◌, ◌%◌, [], ◌∷◌, ◌++◌, Some, IfOk, length, map, drop, take, reverse, replicate, true, slice_get, vec_capacity};
+ghost use Rattle.std.specs.Prelude.{◌≡◌, ℕ, ◌+◌, ◌^◌, ◌<◌, ◌≤◌, ◌%◌, List, [], ◌∷◌, ◌++◌, Some, IfOk, length, map, drop, take, reverse, replicate, true, slice_get, vec_capacity};
 ghost use Rattle.std.specs.List.{range_with_len, All};
 ghost use Rattle.pager_model.specs.declared.call.Line.{Line};
-ghost use Rattle.pager_model.specs.Counts.{counts};
-ghost use Rattle.pager_model.specs.FrameStates.{start_frames};
+ghost use Rattle.pager_model.specs.declared.entry.Entry.{Entry};
+ghost use Rattle.pager_model.specs.declared.entry.Numbered.{Numbered};
+ghost use Rattle.pager_model.specs.Counts.{counts, hits_in, misses_in};
+ghost use Rattle.pager_model.specs.FrameStates.{FrameState, start_frames};
 ghost use Rattle.pager_model.specs.Legal.{entries_in};
 ghost use Rattle.pager_model.specs.Settings.{Given};
 ghost use Rattle.pager_model.specs.Showing.{actors, calls_of, jobs_of, marks_of, turns_of};
 ghost use Rattle.pager_model.specs.TraceText.{HasText};
-ghost use Rattle.pager_model.specs.Stores.{given_over, StoresEnd, AreCapped};
+ghost use Rattle.pager_model.specs.Stores.{given_over, setting_over, StoresEnd, AreCapped};
 ghost use Rattle.pager_model.specs.Stored.{Stored, TellsZero};
 ghost use Rattle.space_core.specs.Standing.{Kept};
-ghost use Rattle.pager_core.specs.RunParts.{AreRoomsOver, AreNewSpaces, AreAtRest, most_in_history};
+ghost use Rattle.pager_core.specs.RunParts.{AreRoomsOver, AreNewSpaces, AreAtRest};
+ghost use Rattle.step_log.specs.Counting.{most_in_history};
 ghost use Rattle.pager_core.specs.Sums.{AreFewer, sum_at, tiles_in, promotions_in, demotions_in};
 ghost use Rattle.pager_model.specs.Bounds.{most_frames, most_spaces, most_actors};
 
@@ -64,6 +67,20 @@ impl<S: Store + Send + Drop> RunRoom<S> {
             spaces,
             pool,
         })
+    }
+
+    /// The room of a trace's run over these stores, of which those of its spaces are looked at.
+    pub fn of(alloc: Global, trace: &Trace, stores: &[S]) -> Result<RunRoom<S>, NoMemory>
+        requires enough { trace.now.spaces ≤ length stores.now }
+        ensures setting { IfOk result (λ room. room.setting ≡ setting_over trace.now (map S.seen stores.now)) }
+        ensures spaces { IfOk result (λ room. AreRoomsOver room.setting (take trace.now.spaces (map S.seen stores.now)) room.spaces) }
+        ensures pool { IfOk result (λ room. room.pool ≡ start_frames trace.now.sizes trace.now.frames (actors trace.now)) }
+        ensures capped { IfOk result (λ _. AreCapped trace.now.spaces (map S.seen stores.now)) }
+    {
+        let spaces = trace.spaces();
+        let marks = marks_of(alloc, trace)?;
+        let own = &stores[..spaces as usize];
+        RunRoom::create(alloc, trace.frames(), trace.sizes(), marks.as_slice(), own)
     }
 }
 
@@ -159,31 +176,58 @@ impl<S: Store + Send + Drop> Gathered<S> {
         ensures count { length result.stores.items ≡ length spaces.items + length unused.items }
         ensures summary { (given : Given) → AreAtRest given (entries_in history.items) spaces.items pool → result.summary ≡ counts given (entries_in history.items) }
     {
-        let frames = pool.counts();
-        let preemptions = pool.preempted();
-        drop(pool);
-        let tiles = tiles_of(spaces.as_slice());
-        let (promotions, demotions) = moves_of(spaces.as_slice());
         let accesses = history.accesses();
-        let mut stores = unused;
-        give_back(spaces, &mut stores);
-        stores.reverse();
+        let summary = counts_of(spaces.as_slice(), &pool, accesses.hits, accesses.misses);
+        drop(pool);
         Gathered {
             history,
-            stores,
-            summary: Summary {
-                tiles,
-                promotions,
-                demotions,
-                preemptions,
-                hits: accesses.hits,
-                misses: accesses.misses,
-                free: frames.free,
-                reserved: frames.reserved,
-                used: frames.used,
-            },
+            stores: stores_of(spaces, unused),
+            summary,
         }
     }
+}
+
+/// The counts of a run so far, of whose accesses so many hit and so many missed, whoever counted them. No call or turn is in progress.
+pub fn counts_of<S: Store + Send + Drop>(
+    spaces: &[Space<S>],
+    pool: &Pool,
+    hits: u64,
+    misses: u64,
+) -> Summary
+    requires few { length spaces.now ≤ most_spaces }
+    requires rest { (given : Given) × (history : List Entry) × AreAtRest given history spaces.now pool.now × (length history ≤ most_in_history) }
+    ensures { (given : Given) (history : List Entry) → AreAtRest given history spaces.now pool.now → length history ≤ most_in_history
+        → hits ≡ hits_in history → misses ≡ misses_in history → result ≡ counts given history }
+{
+    let frames = pool.counts();
+    let (promotions, demotions) = moves_of(spaces);
+    Summary {
+        tiles: tiles_of(spaces),
+        promotions,
+        demotions,
+        preemptions: pool.preempted(),
+        hits,
+        misses,
+        free: frames.free,
+        reserved: frames.reserved,
+        used: frames.used,
+    }
+}
+
+/// The stores of spaces in which nothing is in progress, in their order, and behind them those that no space uses, which are handed in last
+/// first, with room for the others. Takes no memory.
+pub fn stores_of<S: Store + Send + Drop>(spaces: Vec<Space<S>>, unused: Vec<S>) -> Vec<S>
+    requires room { length unused.items + length spaces.items ≤ vec_capacity unused }
+    ensures stores { map S.seen result.items ≡ map (λ (k : Kept). k.store) spaces.items ++ map S.seen (reverse unused.items) }
+    ensures ends { (given : Given) (history : List Numbered) (pool : FrameState) → AreAtRest given (entries_in history) spaces.items pool
+        → StoresEnd given history (map S.seen result.items) }
+    ensures unused { drop (length spaces.items) (map S.seen result.items) ≡ map S.seen (reverse unused.items) }
+    ensures count { length result.items ≡ length spaces.items + length unused.items }
+{
+    let mut stores = unused;
+    give_back(spaces, &mut stores);
+    stores.reverse();
+    stores
 }
 
 /// The setting over stores: what each says of its copies, and its count of faults.

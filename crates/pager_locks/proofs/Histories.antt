@@ -27,11 +27,12 @@ use Rattle.flight_core.specs.declared.flight.Flight.{Flight}
 use Rattle.flight_core.specs.declared.flight.Phase.TheVariants.{Out as OutPhase}
 use Rattle.flight_core.specs.Flights.{IsReady}
 use Rattle.flight_core.specs.Rows.{mark_in, row_of}
-use Rattle.pager_core.specs.RunParts.{most_in_history}
+use Rattle.step_log.specs.Counting.{most_in_history}
 use Rattle.flight_core.specs.Steps.{AreAgreed, MakesEntry}
 use Rattle.pager_laws.proofs.UnknownSpaces.{base-unknown}
-use Rattle.pager_core.proofs.LegalSteps.{victim_placed}
-use Rattle.pager_locks.specs.Locked.{Departure, SaysWhy, StandsAt, IsPoolAt, IsFlying, later, state_by}
+use Rattle.step_log.proofs.LegalSteps.{victim_placed}
+use Rattle.pager_locks.specs.Locked.{Departure, SaysWhy, StandsAt, IsPoolAt, IsFlying, state_by}
+use Rattle.step_log.specs.Flying.{later}
 
 few_entries : (g : Given) (h : List Entry) → IsHistory g h → length h ≤ most_in_history
 few_entries g h met =

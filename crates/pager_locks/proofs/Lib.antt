@@ -1,5 +1,4 @@
 pub mod Entries
-pub mod Later
 pub mod Refusals
 pub mod Flights
 pub mod Histories

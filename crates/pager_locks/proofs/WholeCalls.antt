@@ -29,10 +29,11 @@ use Rattle.pager_core.proofs.Lands.{Fits-for, Starts, Starts-for, ended_progress
 use Rattle.flight_core.proofs.NextFlights.{ended_by, of_calls, turn_goes_on}
 use Rattle.flight_core.proofs.Purposes.{of_call-is}
 use Rattle.pager_locks.specs.Calls.{MakesCall, MakesTurn, IsNextFlight}
-use Rattle.pager_locks.specs.Locked.{Departure, IsFlying, SaysWhy, later}
+use Rattle.pager_locks.specs.Locked.{Departure, IsFlying, SaysWhy}
+use Rattle.step_log.specs.Flying.{later}
 use Rattle.pager_locks.specs.Prepared.{MayCall, MayTurn}
 use Rattle.pager_locks.proofs.CountedCalls.{counted}
-use Rattle.pager_locks.proofs.Later.{later_none}
+use Rattle.step_log.proofs.Later.{later_none}
 
 -- a flight of a call
 of_call_job : (p : Purpose) (call : Call) → job_in p ≡ CallJob call → (is_of_call p ≡ true) × (call_in p ≡ call)

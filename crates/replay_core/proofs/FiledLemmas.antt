@@ -96,14 +96,14 @@ FilesLines-turn c mark (suc n) (l ∷ lines) h turn many filed is = (
 )
 
 -- entries that are all of one processor are its entries
-own_entries : (c : ℕ) (es : List Entry) → AllByRecursion (λ (e : Entry). e.processor ≡ c) es → entries_of c es ≡ es
+pub own_entries : (c : ℕ) (es : List Entry) → AllByRecursion (λ (e : Entry). e.processor ≡ c) es → entries_of c es ≡ es
 own_entries c [] own = refl
 own_entries c (e ∷ es) own =
     let here : is_of c e ≡ true = (let same : e.processor ≡ c = own.0 in grind (arith, nat_tests)) in
     ap (λ b. cond b (e ∷ filter (is_of c) es) (filter (is_of c) es)) here ∙ ap (λ l. e ∷ l) (own_entries c es own.1)
 
 -- a processor's entries in a history that goes on by its own
-entries_on : (c : ℕ) (h piece : List Entry) → AllByRecursion (λ (e : Entry). e.processor ≡ c) piece
+pub entries_on : (c : ℕ) (h piece : List Entry) → AllByRecursion (λ (e : Entry). e.processor ≡ c) piece
     → entries_of c (h ++ piece) ≡ entries_of c h ++ piece
 entries_on c h piece own = filter-append (is_of c) h piece ∙ ap (λ l. entries_of c h ++ l) (own_entries c piece own)
 
@@ -380,16 +380,16 @@ module _ (plan : Plan) (has : HasText plan) (stores : List Stored) (k : ℕ) (wi
 -- One more line.
 
 -- the calls of a processor, of lines one after another
-calls_of-append : (c : ℕ) (xs ys : List Line) → calls_of c (xs ++ ys) ≡ calls_of c xs ++ calls_of c ys
+pub calls_of-append : (c : ℕ) (xs ys : List Line) → calls_of c (xs ++ ys) ≡ calls_of c xs ++ calls_of c ys
 calls_of-append c xs ys =
     ap (map (λ (l : Line). l.call)) (filter-append (λ (l : Line). l.processor == c) xs ys) ∙ map-append (λ (l : Line). l.call) _ _
 
-calls_of-own : (c : ℕ) (line : Line) → line.processor ≡ c → calls_of c (line ∷ []) ≡ line.call ∷ []
+pub calls_of-own : (c : ℕ) (line : Line) → line.processor ≡ c → calls_of c (line ∷ []) ≡ line.call ∷ []
 calls_of-own c line same =
     let here : (line.processor == c) ≡ true = grind (arith, nat_tests) in
     ap (λ b. map (λ (l : Line). l.call) (cond b (line ∷ []) [])) here
 
-calls_of-other : (c : ℕ) (line : Line) → line.processor ≢ c → calls_of c (line ∷ []) ≡ []
+pub calls_of-other : (c : ℕ) (line : Line) → line.processor ≢ c → calls_of c (line ∷ []) ≡ []
 calls_of-other c line differs =
     let away : (line.processor == c) ≡ false = grind (arith, nat_tests) in
     ap (λ b. map (λ (l : Line). l.call) (cond b (line ∷ []) [])) away

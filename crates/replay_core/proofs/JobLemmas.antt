@@ -34,7 +34,7 @@ use Rattle.pager_laws.proofs.HistoryLists.{filter_map-push}
 use Rattle.pager_core.proofs.Lists.{enumerate-push}
 use Rattle.pager_core.proofs.MachineTurns.{all_calls, take_are}
 use Rattle.pager_core.proofs.WholeRuns.{IsWholeRun-legal}
-use Rattle.pager_locks.specs.Locked.{replies_in}
+use Rattle.step_log.specs.Logged.{replies_in}
 use Rattle.replay_core.specs.declared.jobs.Worker.{Worker}
 use Rattle.replay_core.proofs.TurnLemmas.{all_join, all_tested}
 use Rattle.replay_core.specs.Jobs.{jobs_in, room_for, DoesJob, HasDone, IsReady, IsDoneFrom, HasPass, KeepsToRooms, MayDo, MayDoAll, MayDoNext, HaveDone}

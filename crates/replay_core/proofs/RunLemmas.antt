@@ -7,16 +7,17 @@ use Rattle.std.proofs.lemmas.List.{append-nil, length-replicate, length-take-le}
 use Rattle.std.proofs.lemmas.List.FromFn.{get_or-map-range_with_len, length-map-range_with_len}
 use Rattle.std.specs.List.{enumerate_from, range_with_len}
 use Rattle.pager_model.specs.declared.call.Call.{Call}
+use Rattle.pager_model.specs.declared.entry.Entry.{Entry}
 use Rattle.pager_model.specs.declared.entry.Numbered.{Numbered}
 use Rattle.pager_model.specs.declared.summary.Summary.{Summary}
 use Rattle.pager_model.specs.Counts.{counts}
-use Rattle.pager_model.specs.Legal.{entries_in}
+use Rattle.pager_model.specs.Legal.{AllWhole, IsLegal, entries_in}
 use Rattle.pager_model.specs.Plans.{Plan}
 use Rattle.pager_model.specs.Settings.{Given, faults_at_entry, mark_of}
 use Rattle.pager_model.specs.Showing.{actors, calls_of, jobs_of, turns_of, MakesTurns, Shows}
 use Rattle.pager_model.specs.TraceText.{HasText}
 use Rattle.pager_model.specs.Entries.{entries_of}
-use Rattle.pager_model.specs.Order.{at_rest, progress_of}
+use Rattle.pager_model.specs.Order.{IsWhole, at_rest, progress_of}
 use Rattle.pager_model.specs.declared.call.Line.{Line}
 use Rattle.pager_model.specs.declared.trace.Daemon.{Daemon}
 use Rattle.pager_model.specs.declared.trace.Job.{Job}
@@ -24,11 +25,15 @@ use Rattle.pager_model.specs.declared.trace.Job.TheVariants.{Call as MakesCall, 
 use Rattle.pager_model.specs.SpaceStates.{Rises, last_count}
 use Rattle.pager_model.specs.Stores.{setting_over, EndsWith, StoresEnd, AreCapped}
 use Rattle.pager_model.specs.Stored.{Stored}
-use Rattle.pager_model.proofs.Actors.{daemon_known, mark_of_caller, mark_of_daemon, processor_known}
+use Rattle.pager_model.proofs.Actors.{actors_alone, actors_most, daemon_known, mark_of_caller, mark_of_daemon, processor_known}
+use Rattle.journal_core.specs.Parts.{numbered}
+use Rattle.journal_core.proofs.MergedEntries.{entries_in-numbered}
+use Rattle.pager_locks.proofs.ClosedPagers.{IsNumbered-closed}
+use Rattle.pager_laws.proofs.LegalHistories.{Agrees-legal, IsPartition-legal, NothingHeld-legal}
 use Rattle.pager_laws.proofs.OldestBroken.{PreemptsOldest-legal}
 use Rattle.pager_laws.proofs.KeptWires.{KeepsRightly-legal}
 use Rattle.pager_laws.proofs.OrderedRefusals.{IsNeverShort-legal, RefusesRightly-legal}
-use Rattle.pager_core.specs.Running.{Running, calls_among, jobs_at, IsLawful, IsWholeRun}
+use Rattle.pager_core.specs.Running.{Running, calls_among, jobs_at, IsLawful, IsNumbered, IsWholeRun}
 use Rattle.pager_laws.proofs.KeptLaws.{KeepsLawsAllAlong-legal}
 use Rattle.replay_core.specs.Replays.{NoneFailed, IsReplay, AreItsCounts}
 use Rattle.pager_laws.specs.Faults.{HasFailed}
@@ -85,7 +90,7 @@ jobs_of_daemon plan has d is =
     ∙ ap turns_of is
 
 -- the setting has a store for each space where there are enough
-told-over : (plan : Plan) (stores : List Stored) → plan.spaces ≤ length stores → length (setting_over plan stores).told ≡ plan.spaces
+pub told-over : (plan : Plan) (stores : List Stored) → plan.spaces ≤ length stores → length (setting_over plan stores).told ≡ plan.spaces
 told-over plan stores enough = length-map (take plan.spaces stores) (λ (s : Stored). s.told) ∙ length-take-le plan.spaces stores enough
 
 -- the setting's counts of faults are those of the stores
@@ -164,33 +169,71 @@ module _ (plan : Plan) (has : HasText plan) (stores : List Stored) (jobs : List 
     turns = turns_made plan.daemon refl;
   }
 
--- a whole run of its jobs over the stores is its replay, whoever makes it
+-- A history that shows a trace is of whole lists alone.
+module _ (plan : Plan) (stores : List Stored) (h : List Entry) (shows : Shows plan h) where
+  daemon_whole : (o : Option Daemon) → plan.daemon ≡ o → MakesTurns plan o h → plan.processors < actors plan
+      → IsWhole (mark_of (setting_over plan stores) plan.processors) (entries_of plan.processors h)
+  daemon_whole None is made known = (let alone = actors_alone plan is in absurd (omega (arith, alone, known)))
+  daemon_whole (Some d) is made known =
+      subst (λ m. IsWhole m (entries_of plan.processors h)) (sym (mark_of_daemon plan d is)) (d.turns, made)
+
+  AllWhole-shown : AllWhole (setting_over plan stores) h
+  AllWhole-shown c known = elim (cases_lt c plan.processors) [
+    | inl caller ↦ subst (λ m. IsWhole m (entries_of c h)) (sym (mark_of_caller plan c caller)) (shows.calls c caller).1
+    | inr past ↦
+        let most = actors_most plan in
+        let same : plan.processors ≡ c = omega (arith, past, most, known) in
+        subst (λ k. IsWhole (mark_of (setting_over plan stores) k) (entries_of k h)) same
+        (daemon_whole plan.daemon refl shows.turns (subst (λ k. k < actors plan) (sym same) known))
+  ]
+
+-- a legal history that shows a trace is that of a replay of it, whoever makes it
+pub IsReplay-shown : (plan : Plan) (stores after : List Stored) (history : List Numbered) → plan.spaces ≤ length stores
+    → AreCapped plan.spaces stores → IsNumbered history → IsLegal (setting_over plan stores) (entries_in history)
+    → Shows plan (entries_in history) → StoresEnd (setting_over plan stores) history after
+    → drop plan.spaces after ≡ drop plan.spaces stores → IsReplay plan stores history after
+IsReplay-shown plan stores after history enough capped numbered legal shows ends unused =
+    let given : Given = setting_over plan stores in
+    record {
+      numbered = numbered;
+      legal = legal;
+      shows = shows;
+      laws = KeepsLawsAllAlong-legal given (entries_in history) legal;
+      oldest = PreemptsOldest-legal given (entries_in history) legal;
+      refusals = RefusesRightly-legal given (entries_in history) legal;
+      kept = KeepsRightly-legal given (entries_in history) legal;
+      never_short = IsNeverShort-legal given (entries_in history) legal;
+      answered = AllAnswered-legal given (entries_in history) legal;
+      served = λ none. AllServed-legal given (entries_in history) legal (none_failed plan stores after history enough capped ends none);
+      partition = IsPartition-legal given (entries_in history) legal;
+      none_held = NothingHeld-legal given (entries_in history) legal (AllWhole-shown plan stores (entries_in history) shows);
+      agrees = Agrees-legal given (entries_in history) legal;
+      stores = ends;
+      unused = unused;
+    }
+
+-- its entries may be numbered afterwards
+pub IsReplay-numbered : (plan : Plan) (stores after : List Stored) (h : List Entry) → plan.spaces ≤ length stores
+    → AreCapped plan.spaces stores → IsLegal (setting_over plan stores) h → Shows plan h
+    → ((history : List Numbered) → entries_in history ≡ h → StoresEnd (setting_over plan stores) history after)
+    → drop plan.spaces after ≡ drop plan.spaces stores → (history : List Numbered) × (entries_in history ≡ h) × IsReplay plan stores history after
+IsReplay-numbered plan stores after h enough capped legal shows ends unused =
+    let same : entries_in (numbered h) ≡ h = entries_in-numbered h in (
+      numbered h,
+      same,
+      IsReplay-shown plan stores after (numbered h) enough capped (IsNumbered-closed (numbered h) (ap numbered (sym same)))
+          (subst (IsLegal (setting_over plan stores)) (sym same) legal) (subst (Shows plan) (sym same) shows) (ends (numbered h) same) unused,
+    )
+
+-- a whole run of its jobs over the stores is its replay
 pub IsReplay-of : (plan : Plan) → HasText plan → (stores after : List Stored) (given : Given) (jobs : List (List Job))
     (history : List Numbered) → plan.spaces ≤ length stores → AreCapped plan.spaces stores → given ≡ setting_over plan stores
     → jobs ≡ map (λ c. jobs_of c plan) (range_with_len 0 (actors plan)) → IsWholeRun given jobs history
     → StoresEnd given history after → drop plan.spaces after ≡ drop plan.spaces stores → IsReplay plan stores history after
 IsReplay-of plan has stores after given jobs history enough capped g are run_whole run_ends unused =
     let whole : IsWholeRun (setting_over plan stores) jobs history = subst (λ g. IsWholeRun g jobs history) g run_whole in
-    let ends : StoresEnd (setting_over plan stores) history after = subst (λ g. StoresEnd g history after) g run_ends in
-    let legal = whole.legal in
-    record {
-      numbered = whole.numbered;
-      legal = legal;
-      shows = Shows-whole plan has stores jobs history are whole;
-      laws = KeepsLawsAllAlong-legal (setting_over plan stores) (entries_in history) legal;
-      oldest = PreemptsOldest-legal (setting_over plan stores) (entries_in history) legal;
-      refusals = RefusesRightly-legal (setting_over plan stores) (entries_in history) legal;
-      kept = KeepsRightly-legal (setting_over plan stores) (entries_in history) legal;
-      never_short = IsNeverShort-legal (setting_over plan stores) (entries_in history) legal;
-      answered = AllAnswered-legal (setting_over plan stores) (entries_in history) legal;
-      served = λ none. AllServed-legal (setting_over plan stores) (entries_in history) legal
-          (none_failed plan stores after history enough capped ends none);
-      partition = whole.partition;
-      none_held = whole.none_held;
-      agrees = whole.agrees;
-      stores = ends;
-      unused = unused;
-    }
+    IsReplay-shown plan stores after history enough capped whole.numbered whole.legal (Shows-whole plan has stores jobs history are whole)
+    (subst (λ g. StoresEnd g history after) g run_ends) unused
 
 -- as a machine's is
 pub IsReplay-whole : (plan : Plan) → HasText plan → (stores after : List Stored) (run : Running) → plan.spaces ≤ length stores

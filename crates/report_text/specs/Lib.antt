@@ -5,3 +5,4 @@ pub mod Lines
 pub mod Parts
 pub mod PlanText
 pub mod VerdictText
+pub mod SoFarText

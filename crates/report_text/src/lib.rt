@@ -1,5 +1,5 @@
-//! The whole text of a run: its answers, the history where it is asked for, and the counts; the counts alone; and the texts of a plan, of miss
-//! curves and of a verdict.
+//! The whole text of a run: its answers, the history where it is asked for, and the counts; the counts alone, or those so far; and the texts of a
+//! plan, of miss curves and of a verdict.
 #![tactic(auto)]
 
 mod curve_lines;
@@ -7,6 +7,7 @@ mod entry_words;
 mod line;
 mod plan_lines;
 mod report;
+mod so_far_line;
 mod summary_lines;
 mod verdict_line;
 mod writing;
@@ -15,5 +16,6 @@ pub use curve_lines::write_curves;
 pub use line::Line;
 pub use plan_lines::write_plan;
 pub use report::{Parts, write_report, write_summary};
+pub use so_far_line::{SoFar, write_so_far};
 pub use verdict_line::write_verdict;
 pub use writing::Room;

@@ -8,7 +8,7 @@ use arrayvec::ArrayVec;
 use itoa::Buffer;
 
 /// No line is longer.
-const LONGEST: usize = 192;
+const LONGEST: usize = 256;
 
 /// A line: its first word, and others with a space before each.
 #[derive(Drop)]

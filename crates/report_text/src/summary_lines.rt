@@ -47,8 +47,8 @@ fn frame_counts(summary: &Summary) -> [u64; 3]
 }
 
 /// A line of a name and its counts.
-fn line_of_counts(name: &str, counts: &[u64]) -> Line
-    requires few { length counts.now ≤ 4 }
+pub fn line_of_counts(name: &str, counts: &[u64]) -> Line
+    requires few { length counts.now ≤ 11 }
     requires short { length name.now ≤ 20 }
     ensures { line_text result ≡ count_line name.now counts.now }
 {

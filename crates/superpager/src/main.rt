@@ -1,5 +1,6 @@
 //! Replays a trace of memory calls and prints each answer and the counts of the run, or what is planned after it, or its miss curves; or says whether a
-//! history is a legal one of a trace; or makes a trace from a number, and prints it or the counts of its run.
+//! history is a legal one of a trace; or runs a trace as it is read, of any length, and prints the counts; or makes a trace from a number, and prints it
+//! or the counts of its run.
 #![tactic(auto)]
 
 ghost use Rattle.std.specs.Prelude.{◌≡◌, ◌++◌, ◌∷◌, [], None, OnOk, codes};
@@ -107,7 +108,7 @@ fn tell_more<W: Write>(out: &mut W, status: u8, refusal: Option<TraceFault>) -> 
     if status == USAGE {
         return writeln!(
             out,
-            "usage: superpager [--folder DIR | --swap N] order|turns SEED|replay [--history], or plan K, or curve, <TRACE; check <TRACE-AND-HISTORY; make NUMBER CALLS PROCESSORS SPACES FRAMES; large NUMBER SEED"
+            "usage: superpager [--folder DIR | --swap N] order|turns SEED|replay [--history], or plan K, or curve, <TRACE; check <TRACE-AND-HISTORY; stream [EVERY] <TRACE; make NUMBER CALLS PROCESSORS SPACES FRAMES; large NUMBER SEED"
         );
     }
     match refusal {

@@ -42,7 +42,7 @@ goes_on forms number calls rest line after first other lawful few = let p = some
     rw (first, p.2, other, lawful, ne_eqb calls 262144 few) refl
 
 -- behind the end something stands
-something : (number : ℕ) (after first : List ℕ) (others : List (List ℕ)) → lines_of after ≡ first ∷ others → after ≢ []
+pub something : (number : ℕ) (after first : List ℕ) (others : List (List ℕ)) → lines_of after ≡ first ∷ others → after ≢ []
     → end_refusal number (first ∷ others) ≡ Some (Line (number + 1) causes.After)
 something number after [] [] e some = absurd (some (sym (join_with_byte-slice_split 10 after) ∙ ap (join_with_byte 10) e))
 something number after [] (line ∷ others) e some = refl

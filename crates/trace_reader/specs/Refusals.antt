@@ -7,7 +7,7 @@ use Rattle.std.specs.Str.Parse.{digits_value}
 use Rattle.trace_lines.specs.declared.cause.LineCause.{LineCause}
 use Rattle.trace_lines.specs.declared.cause.LineCause.TheVariants as causes
 use Rattle.trace_reader.specs.declared.fault.TraceFault.{TraceFault}
-use Rattle.trace_reader.specs.declared.fault.TraceFault.TheVariants.{ReadFault, TooLong, Line, NoEnd, TooManyCalls, TooFewStores, OneProcessor, HistoryLine, HistoryNoEnd, NoMemory}
+use Rattle.trace_reader.specs.declared.fault.TraceFault.TheVariants.{ReadFault, TooLong, Line, LongLine, NoEnd, TooManyCalls, TooFewStores, OneProcessor, HistoryLine, HistoryNoEnd, NoMemory}
 use Rattle.trace_reader.specs.declared.input.AllFault.{AllFault}
 use Rattle.trace_reader.specs.declared.input.AllFault.TheVariants as whole
 use Rattle.trace_lines.specs.Forms.{Place, first_forms, daemon_form, call_forms, fits, leftmost, line_fault}
@@ -63,8 +63,10 @@ refusal_of_lines lines = Some NoEnd
 unfoldable pub refusal_of : List ℕ → Option TraceFault
 refusal_of text = if nat_lt 16777216 (length text) then Some TooLong else refusal_of_lines (lines_of text)
 
--- a fault that a reader of traces may tell: how many stores there are, how many processors a run is for, and a history are no matter of its
+-- a fault that a reader of traces may tell: how many stores there are, how many processors a run is for, and a history are no
+-- matter of its, and it refuses no line for its length
 abbrev pub IsOfReader : TraceFault → Type 0
+IsOfReader (LongLine number) = ⊥
 IsOfReader (TooFewStores stores spaces) = ⊥
 IsOfReader (OneProcessor processors) = ⊥
 IsOfReader (HistoryLine number) = ⊥

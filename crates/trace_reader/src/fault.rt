@@ -12,6 +12,8 @@ pub enum TraceFault {
     TooLong,
     /// A line, by its number from 1, is no line of the grammar.
     Line { number: u64, cause: LineCause },
+    /// A line, by its number from 1, has more bytes than a line of a stream may have.
+    LongLine { number: u64 },
     /// The bytes end before a line `end`.
     NoEnd,
     /// There are more calls than a text may have.
@@ -34,6 +36,7 @@ impl fmt::Display for TraceFault {
             TraceFault::ReadFault => f.write_str("read fault"),
             TraceFault::TooLong => f.write_str("trace too long"),
             TraceFault::Line { number, cause } => write!(f, "line {number}: {cause}"),
+            TraceFault::LongLine { number } => write!(f, "line {number}: long"),
             TraceFault::NoEnd => f.write_str("no end"),
             TraceFault::TooManyCalls => f.write_str("too many calls"),
             TraceFault::TooFewStores { stores, spaces } => {

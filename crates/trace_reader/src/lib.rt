@@ -13,5 +13,5 @@ mod text;
 
 pub use fault::TraceFault;
 pub use input::{AllFault, read_trace, read_within};
-pub use text::parse;
+pub use text::{first_call, parse};
 pub use trace_lines::LineCause;

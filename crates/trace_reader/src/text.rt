@@ -37,8 +37,8 @@ fn second_line(text: &[u8]) -> Result<(Option<Daemon>, &[u8]), LineCause>
     Ok((Some(daemon), rest))
 }
 
-/// The number of the line of the first call.
-fn first_call(daemon: Option<Daemon>) -> u64
+/// The number of the line of the first call, behind a daemon's line or none.
+pub fn first_call(daemon: Option<Daemon>) -> u64
     ensures { result ≡ first_call daemon }
 {
     if daemon.is_some() { 3 } else { 2 }

@@ -8,7 +8,7 @@ use std::process::Abort;
 use std::sync::Wait;
 use std::thread::Threads;
 use store_core::Store;
-use trace_reader::TraceFault;
+use trace_reader::{LineCause, TraceFault};
 
 /// How many bytes the sink takes, and which read of the source and which write of the sink fail (none is 0).
 pub(super) type Streams = (usize, u64, u64);
@@ -78,12 +78,13 @@ const JUDGED: &str = "trace 1 512 1 1; 0 map 0 0 8 fixed write; 0 load 0 0; end;
 
 /// Words, texts, and the first and the last of their reads that fail: of the traces and the history each, of which the last finds the end. The
 /// others are no traces, and the read before their fault or behind it is told.
-static READS: [(&str, &str, u64, u64); 5] = [
+static READS: [(&str, &str, u64, u64); 6] = [
     ("order", LAST_PAGE, 1, 113),
     ("order", EIGHT_PAGES, 1, 160),
     ("order", "x; 0 load", 4, 4),
     ("order", "trace 1 512 1 1; end; end", 24, 24),
     ("check", JUDGED, 1, 138),
+    ("stream", EIGHT_PAGES, 1, 160),
 ];
 
 #[test]
@@ -112,6 +113,7 @@ fn too_few_stores_are_refused_behind_too_many_processors(rt: HostRuntime) {
         (&["order"][..], TWO_SPACES, "writes", few(1, 2)),
         (&["replay"], TWO_PROCESSORS, "writes", few(1, 2)),
         (&["curve"], TWO_SPACES, "writes", few(1, 2)),
+        (&["stream", "1"], TWO_SPACES, "writes", few(1, 2)),
         (&["curve"], TWO_PROCESSORS, "writes", two),
         (&["curve"], TWO_PROCESSORS, "writes; writes", two),
         (
@@ -135,7 +137,7 @@ const MAKE: &[&str] = &["make", "7", "3", "1", "1", "512"];
 /// is read: by `order` over `NO_REGION` the second write fails of a sink that takes 16,384 bytes, and 4,090 bytes are there.
 type Cut = (&'static [&'static str], &'static str, usize, u64, usize);
 
-static CUTS: [Cut; 16] = [
+static CUTS: [Cut; 22] = [
     (&["order"], LAST_PAGE, 0, 0, 0),
     (&["order"], LAST_PAGE, 4, 0, 4),
     (&["order"], LAST_PAGE, 9, 0, 9),
@@ -148,6 +150,12 @@ static CUTS: [Cut; 16] = [
     (&["curve"], EIGHT_PAGES, 21, 0, 21),
     (&["check"], JUDGED, 3, 0, 3),
     (&["check"], JUDGED, 16_384, 1, 0),
+    (&["stream"], EIGHT_PAGES, 0, 0, 0),
+    (&["stream"], EIGHT_PAGES, 16_384, 1, 0),
+    (&["stream", "4"], EIGHT_PAGES, 16_384, 1, 0),
+    (&["stream", "4"], EIGHT_PAGES, 12, 0, 12),
+    (&["stream", "4"], EIGHT_PAGES, 16_384, 2, 30),
+    (&["stream", "4"], EIGHT_PAGES, 16_384, 3, 60),
     (MAKE, "", 0, 0, 0),
     (MAKE, "", 4, 0, 4),
     (MAKE, "", 121, 0, 121),
@@ -168,5 +176,30 @@ fn is_cut<R: Abort + AllocGlobal + Threads + Wait + Sync>(rt: &R, row: &Cut) -> 
 fn a_sink_that_fails_has_the_first_bytes(rt: HostRuntime) {
     for row in &CUTS {
         assert!(rt; is_cut(&rt, row), "{} bytes", row.4);
+    }
+}
+
+/// The counts after each of two calls, a map and a load, over 512 frames.
+const AFTER_TWO: &[u8] = b"after 1 0 0 0 0 0 0 512 0 0 0\nafter 2 0 1 0 0 0 0 504 7 1 0\n";
+
+#[test]
+fn a_refused_line_ends_a_stream_behind_the_calls_before_it(rt: HostRuntime) {
+    let begun = "trace 1 512 1 1; 0 map 0 0 8 fixed write; 0 load 0 0; ";
+    let line = |number, cause| TraceFault::Line { number, cause };
+    for (rest, fault) in [
+        ("0 lode 0 0; end", line(4, LineCause::Form)),
+        ("0 load 0 9; end", line(4, LineCause::Range)),
+        ("end; end", line(5, LineCause::After)),
+        ("0 load 0 00", line(4, LineCause::Number)),
+    ] {
+        let lines = [begun, rest].concat(rt.alloc()).expect(&rt, NO_MEMORY);
+        let (told, sink) = ran(
+            &rt,
+            &["stream", "1"],
+            &lines,
+            AMPLE,
+            stores_of(&rt, "writes"),
+        );
+        assert!(rt; told == (REFUSED, Some(fault)) && sink.bytes() == AFTER_TWO);
     }
 }

@@ -19,8 +19,9 @@ const SIZED: &[u8] = b"trace 2 512 16 16 013\nend\n";
 const WIRED: &[u8] =
     b"trace 3 512 2 16 0123\n0 discard 15 8 1048576\n1 wire 0 1048575\n0 unwire 2 0\nend\n";
 
-/// What is said of the faults that the program doesn't meet, since it has stores enough and memory for a small text.
-static MESSAGES: [(TraceFault, &str); 2] = [
+/// What is said of the faults that the program doesn't meet, since it has stores enough and memory for a small text, and of a long line.
+static MESSAGES: [(TraceFault, &str); 3] = [
+    (TraceFault::LongLine { number: 7 }, "line 7: long"),
     (
         TraceFault::TooFewStores {
             stores: 1,

@@ -1,9 +1,9 @@
-//! The report of a small history. Lines of other entries are printed by examples.
+//! The report of a small history, and counts so far. Lines of other entries are printed by examples.
 
 use super::NO_MEMORY;
 use super::streams::{Slow, sink_of};
 use pager_model::{Answered, Call, Entry, Reply, Size, Summary, Want, What};
-use report_text::{Parts, write_report};
+use report_text::{Parts, SoFar, write_report, write_so_far};
 use run_history::History;
 use std::alloc::Global;
 use std::process::Abort;
@@ -112,4 +112,32 @@ fn each_write_that_fails_leaves_what_went_before(rt: HostRuntime) {
         let bytes = TEXT.len().min(gone.saturating_mul(16));
         assert!(rt; told == (gone == writes, Some(bytes)));
     }
+}
+
+/// Counts of which each is another one.
+const SO_FAR: SoFar = SoFar {
+    calls: 1000,
+    summary: SUMMARY_SO_FAR,
+    evictions: 8,
+    unserved: 9,
+};
+
+const SUMMARY_SO_FAR: Summary = Summary {
+    tiles: [11, 12, 13, 14],
+    promotions: 5,
+    demotions: 6,
+    preemptions: 7,
+    hits: 18_446_744_073_709_551_615,
+    misses: 2,
+    free: 504,
+    reserved: 3,
+    used: 4_294_967_295,
+};
+
+#[test]
+fn counts_so_far_are_one_line(rt: HostRuntime) {
+    let mut sink = sink_of(&rt, rt.alloc(), 300, 0);
+    let wrote = write_so_far(&mut sink, &SO_FAR).is_ok();
+    let text = b"after 1000 18446744073709551615 2 5 6 7 8 504 3 4294967295 9\n";
+    assert!(rt; wrote && sink.bytes() == text.as_slice());
 }

@@ -1,8 +1,8 @@
 -- Where an entry leads is told whatever a processor's number of calls or turns is counted from, but for answers.
-use Rattle.std.proofs.Common.{◌≡◌, ℕ, ◌+◌, Bool, true, false, cond, ◌&&◌, eqb, Option, Some, None, option_map, refl, ap, sym, subst, ◌∙◌, inl, inr, arith}
+use Rattle.std.proofs.Common.{◌≡◌, ℕ, ◌+◌, Bool, true, false, cond, ◌&&◌, eqb, Option, Some, None, option_map, refl, ap, sym, subst, ◌∙◌, arith}
 use Rattle.std.specs.Option.{option_and_then}
-use Rattle.std.proofs.lemmas.Bool.{cases_Bool, false≢true}
-use Rattle.journal_core.specs.Journals.{is_answer}
+use Rattle.std.proofs.lemmas.Option.{none-some}
+use Rattle.pager_model.specs.declared.call.Call.{Call}
 use Rattle.pager_model.specs.declared.entry.Need.{Need}
 use Rattle.pager_model.specs.declared.entry.Victim.{Victim}
 use Rattle.pager_model.specs.declared.entry.What.{What}
@@ -10,7 +10,8 @@ use Rattle.pager_model.specs.declared.entry.What.TheVariants.{Answer, Out, Faile
 use Rattle.pager_model.specs.Order.{Purpose, Doing, Progress, leads, after_take, after_use, after_clear, after_pin, after_kept, after_out, after_failure, after_give, after_claim, after_got, after_unclaim, lacking_for, faulted_for, after_drop, dropped_for, after_refusal, after_rest, progress_after}
 use Rattle.pager_model.specs.Order.Purpose.{ForAccess, ForTurn}
 use Rattle.pager_model.specs.Order.Doing.{Idle, Looking, Filling, Unfilling, Claiming, Emptied, Unwritten, Holding}
-use Rattle.pager_locks.specs.Locked.{later}
+use Rattle.pager_model.specs.Showing.{answer_in}
+use Rattle.step_log.specs.Flying.{later}
 
 module _ (k : ℕ) where
   abbrev Moves : Option Progress → Option Progress → Type 0
@@ -118,9 +119,9 @@ module _ (k : ℕ) where
   rests m (Looking mark evictions) short = lead_more _ m (Looking mark 0)
   rests m d short = refl
 
-  moves : (p : Progress) (space : Option ℕ) (what : What) → is_answer what ≡ false
+  moves : (p : Progress) (space : Option ℕ) (what : What) → answer_in what ≡ None
       → Moves (progress_after p space what) (progress_after (later k p) space what)
-  moves p space (Answer number call answered) none = absurd (false≢true (sym none))
+  moves p space (Answer number call answered) none = absurd (none-some (number, call) (sym none))
   moves p space (Out page written) none = named space (λ s. after_out p.made p.doing s page) (λ s. after_out (k + p.made) p.doing s page)
       (λ s. outs p.made p.doing s page)
   moves p space (Failed page writing count) none =
@@ -151,10 +152,12 @@ pub later_none : (p : Progress) → later 0 p ≡ p
 later_none p = ap (λ n. record { made = n; doing = p.doing }) (let e : 0 + p.made ≡ p.made = omega arith in e)
 
 -- so an entry leads on whatever was made before, where an answer comes only where nothing was
-pub leads_later : (k : ℕ) (p q : Progress) (space : Option ℕ) (what : What) → (is_answer what ≡ true → k ≡ 0)
+pub leads_later : (k : ℕ) (p q : Progress) (space : Option ℕ) (what : What) → ((x : ℕ × Call) → answer_in what ≡ Some x → k ≡ 0)
     → progress_after p space what ≡ Some q → progress_after (later k p) space what ≡ Some (later k q)
-leads_later k p q space what none is = elim (cases_Bool (is_answer what)) [
-  | inl answer ↦ subst (λ n. progress_after (later n p) space what ≡ Some (later n q)) (sym (none answer))
-      (ap (λ x. progress_after x space what) (later_none p) ∙ is ∙ ap Some (sym (later_none q)))
-  | inr other ↦ moves k p space what other ∙ ap (option_map (later k)) is
-]
+leads_later k p q space what none is = by (answer_in what) refl
+  where
+    by : (o : Option (ℕ × Call)) → answer_in what ≡ o → progress_after (later k p) space what ≡ Some (later k q)
+    by None other = moves k p space what other ∙ ap (option_map (later k)) is
+    by (Some x) answer =
+        subst (λ n. progress_after (later n p) space what ≡ Some (later n q)) (sym (none x answer))
+        (ap (λ y. progress_after y space what) (later_none p) ∙ is ∙ ap Some (sym (later_none q)))

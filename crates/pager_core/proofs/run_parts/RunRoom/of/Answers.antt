@@ -6,7 +6,7 @@ use Rattle.pager_model.specs.Stored.{Stored}
 use Rattle.pager_model.specs.Stores.{given_over}
 use Rattle.pager_core.specs.RunParts.{AreRoomsOver}
 use Rattle.pager_core.proofs.Stores.{slice_get-take}
-use Rattle.pager_core.proofs.machine.room_of.Goals as goal
+use Rattle.pager_core.proofs.run_parts.RunRoom.of.Goals as goal
 
 -- the stores of the spaces are the first
 first : {P : Type 0} (seen : P → Stored) (stores : List P) (n m : ℕ) → n ≡ m → map seen (take n stores) ≡ take m (map seen stores)

@@ -1,0 +1,6 @@
+pub mod LegalSteps
+pub mod Later
+pub mod Lists
+pub mod Entries
+pub mod FlightSteps
+pub mod WholeFlights

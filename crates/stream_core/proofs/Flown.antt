@@ -1,0 +1,151 @@
+-- A turn or a call that was flown from where a stream stands.
+use Rattle.std.proofs.Common.{◌≡◌, ◌≢◌, ℕ, ◌+◌, ◌<◌, ◌≤◌, min, Bool, true, List, [], ◌∷◌, ◌++◌, length, slice_index_or, Some, refl, ap, sym, subst, ◌∙◌, inl, inr, arith}
+use Rattle.std.proofs.Math.ListN.{set}
+use Rattle.std.proofs.Math.Nat.{min-eq_left, min-eq_right}
+use Rattle.std.proofs.lemmas.List.{append-nil}
+use Rattle.pager_model.specs.declared.call.Line.{Line}
+use Rattle.pager_model.specs.declared.entry.Entry.{Entry}
+use Rattle.pager_model.specs.declared.trace.Daemon.{Daemon}
+use Rattle.pager_model.specs.declared.trace.Job.{Job}
+use Rattle.pager_model.specs.declared.trace.Job.TheVariants.{Call as MakesCall, Turn}
+use Rattle.pager_model.specs.FrameStates.{FrameState}
+use Rattle.pager_model.specs.Plans.{Plan}
+use Rattle.pager_model.specs.Settings.{Given}
+use Rattle.pager_model.specs.Stored.{Stored}
+use Rattle.pager_model.specs.Stores.{setting_over}
+use Rattle.space_core.specs.Standing.{Kept}
+use Rattle.flight_core.specs.declared.flight.Flight.{Flight}
+use Rattle.flight_core.specs.Lacking.{NeverLacks}
+use Rattle.flight_core.specs.Rows.{has_ended, new_flight, new_turn, row_of}
+use Rattle.step_log.specs.Counting.{IsCounted}
+use Rattle.step_log.specs.Whole.{AreAt, CanGoOn, WentOn}
+use Rattle.step_log.specs.declared.counted.Counted.{Counted}
+use Rattle.pager_core.specs.Running.{flight_for}
+use Rattle.pager_core.proofs.StartMachines.{length-calls}
+use Rattle.stream_core.specs.Streaming.{IsAt, IsCalled, IsDue, IsNext, Streaming, TookTurns, turns_in}
+use Rattle.stream_core.proofs.MadeJobs.{IsNextJob, at_start, counted_for, lacks_none, lasting}
+use Rattle.stream_core.proofs.Streams.{IsAt-call, IsAt-turn, next_call, next_turn, so_far, standing}
+
+-- all steps of a flight were done
+abbrev pub Flown : Counted → List Kept → FrameState → Flight → Counted → Flight → List Kept → FrameState → Type 0
+Flown counted spaces pool f counted' f' spaces' pool' =
+    (g : Given) (h : List Entry) (before : ℕ) → IsCounted counted h → AreAt g h before spaces pool f
+    → WentOn counted_for g h before counted' f f' spaces' pool'
+
+module _ (plan : Plan) (stores : List Stored) (calls : List Line) (h : List Entry) (s : Streaming) (at : IsAt plan stores calls h s) where
+  -- a flight of a job that can be next
+  module _ (c n : ℕ) (job : Job) (next : IsNextJob (setting_over plan stores) h c n job) (f : Flight) (f_is : f ≡ flight_for c n job) where
+    begins : AreAt (setting_over plan stores) h 0 s.spaces s.pool f
+    begins = subst (AreAt (setting_over plan stores) h 0 s.spaces s.pool) (sym f_is)
+        (at_start (setting_over plan stores) h s.counted s.spaces s.pool c n job (standing plan stores calls h s at) next)
+
+    can_go : CanGoOn counted_for s.counted s.spaces s.pool f
+    can_go = record { setting = setting_over plan stores; history = h; before = 0; stands_for = at.counted; at = begins }
+
+    went_on : (counted' : Counted) (f' : Flight) (spaces' : List Kept) (pool' : FrameState)
+        → Flown s.counted s.spaces s.pool f counted' f' spaces' pool'
+        → WentOn counted_for (setting_over plan stores) h 0 counted' (flight_for c n job) f' spaces' pool'
+    went_on counted' f' spaces' pool' flown =
+        subst (λ (x : Flight). WentOn counted_for (setting_over plan stores) h 0 counted' x f' spaces' pool') f_is
+        (flown (setting_over plan stores) h 0 at.counted begins)
+
+    spaces_same : (counted' : Counted) (f' : Flight) (spaces' : List Kept) (pool' : FrameState)
+        → Flown s.counted s.spaces s.pool f counted' f' spaces' pool' → length spaces' ≡ length s.spaces
+    spaces_same counted' f' spaces' pool' flown = (went_on counted' f' spaces' pool' flown).at.count ∙ sym at.rest.count
+
+  -- A turn.
+  module _ (due : IsDue plan calls s.turns) (d : Daemon) (is : s.daemon ≡ Some d) (other : s.turns ≢ d.turns) (f : Flight)
+      (f_is : f ≡ new_turn s.processors s.turns d.low) where
+    has : plan.daemon ≡ Some d
+    has = sym at.daemon_is ∙ is
+
+    all : turns_in plan.daemon ≡ d.turns
+    all = ap turns_in has
+
+    left : s.turns < d.turns
+    left = (let few = at.few_turns in let most = all in grind (arith, few, most, other))
+
+    many : length calls ≤ s.turns
+    many = elim due [ inl most ↦ most | inr none ↦ absurd (other (none ∙ all)) ]
+
+    flight_is : f ≡ flight_for plan.processors s.turns (Turn d.low)
+    flight_is = f_is ∙ ap (λ p. new_turn p s.turns d.low) at.daemon_behind
+
+    next : IsNextJob (setting_over plan stores) h plan.processors s.turns (Turn d.low)
+    next = next_turn plan stores calls h s at d has left many
+
+    pub can_turn : CanGoOn counted_for s.counted s.spaces s.pool f
+    can_turn = can_go plan.processors s.turns (Turn d.low) next f flight_is
+
+    pub turn_count : (counted' : Counted) (f' : Flight) (spaces' : List Kept) (pool' : FrameState)
+        → Flown s.counted s.spaces s.pool f counted' f' spaces' pool' → length spaces' ≡ length s.spaces
+    turn_count = spaces_same plan.processors s.turns (Turn d.low) next f flight_is
+
+    pub TookTurns-flown : (counted' : Counted) (f' : Flight) (spaces' : List Kept) (pool' : FrameState)
+        → Flown s.counted s.spaces s.pool f counted' f' spaces' pool' → has_ended (row_of f').outcome ≡ true
+        → TookTurns plan stores calls h s.turns 1 (record s { turns = s.turns + 1; counted = counted'; spaces = spaces'; pool = pool' })
+    TookTurns-flown counted' f' spaces' pool' flown ended =
+        let went = went_on plan.processors s.turns (Turn d.low) next f flight_is counted' f' spaces' pool' flown in
+        record {
+          piece = went.piece;
+          at = IsAt-turn plan stores calls h s at d has left many counted' f' spaces' pool' went ended;
+          turns = sym (min-eq_right (let below = left in let most = all in omega (arith, below, most)));
+          lacks = lacks_none (setting_over plan stores) h counted' spaces' pool' plan.processors s.turns d.low f' went;
+        }
+
+  -- no turn, where none is left
+  pub TookTurns-none : (more : ℕ) → s.turns ≡ min (turns_in plan.daemon) (s.turns + more) → TookTurns plan stores calls h s.turns more s
+  TookTurns-none more same =
+      record { piece = []; at = subst (λ l. IsAt plan stores calls l s) (sym (append-nil h)) at; turns = same; lacks = tt }
+
+  pub TookTurns-all : turns_in s.daemon ≤ s.turns → TookTurns plan stores calls h s.turns 1 s
+  TookTurns-all most =
+      let same = ap turns_in at.daemon_is in
+      let few = at.few_turns in
+      let none : turns_in plan.daemon ≡ s.turns = omega (arith, same, few, most) in
+      TookTurns-none 1 (sym none ∙ sym (min-eq_left (omega (arith, none))))
+
+  -- A call.
+  module _ (line : Line) (ready : IsNext plan calls line) (turns : s.turns ≤ length calls + 1) (f : Flight)
+      (f_is : f ≡ new_flight line.processor (slice_index_or s.numbers line.processor 0) line.call) where
+    next_one : IsNextJob (setting_over plan stores) h line.processor (slice_index_or s.numbers line.processor 0) (MakesCall line.call)
+    next_one = next_call plan stores calls h s at line ready (slice_index_or s.numbers line.processor 0) refl turns
+
+    pub can_call : CanGoOn counted_for s.counted s.spaces s.pool f
+    can_call = can_go line.processor (slice_index_or s.numbers line.processor 0) (MakesCall line.call) next_one f f_is
+
+    pub call_count : (counted' : Counted) (f' : Flight) (spaces' : List Kept) (pool' : FrameState)
+        → Flown s.counted s.spaces s.pool f counted' f' spaces' pool' → length spaces' ≡ length s.spaces
+    call_count = spaces_same line.processor (slice_index_or s.numbers line.processor 0) (MakesCall line.call) next_one f f_is
+
+    -- its processor's number and that of all calls still have 32 bits
+    pub number_small : slice_index_or s.numbers line.processor 0 + 1 < 4294967296
+    number_small =
+        let own = so_far plan stores calls h s at line ready (slice_index_or s.numbers line.processor 0) refl turns in
+        let most = length-calls line.processor calls in
+        let few = ready.few in
+        omega (arith, own, most, few)
+
+    pub calls_small : s.calls + 1 < 4294967296
+    calls_small = (let all = at.calls_are in let few = ready.few in omega (arith, all, few))
+
+    pub IsCalled-flown : (lasts : Bool) (counted' : Counted) (f' : Flight) (spaces' : List Kept) (pool' : FrameState)
+        → Flown s.counted s.spaces s.pool f counted' f' spaces' pool' → has_ended (row_of f').outcome ≡ true
+        → (lasts ≡ true → NeverLacks f.phase f'.phase)
+        → IsCalled lasts plan stores (calls ++ line ∷ []) h s.turns (record s {
+          numbers = set s.numbers line.processor (slice_index_or s.numbers line.processor 0 + 1);
+          calls = s.calls + 1;
+          counted = counted';
+          spaces = spaces';
+          pool = pool';
+        })
+    IsCalled-flown lasts counted' f' spaces' pool' flown ended never =
+        let n : ℕ = slice_index_or s.numbers line.processor 0 in
+        let went = went_on line.processor n (MakesCall line.call) next_one f f_is counted' f' spaces' pool' flown in
+        record {
+          piece = went.piece;
+          at = IsAt-call plan stores calls h s at line ready n refl turns counted' f' spaces' pool' went ended;
+          turns = refl;
+          lasting = λ lasts_is. lasting (setting_over plan stores) h counted' spaces' pool' line.processor n line.call f' went ended
+              (subst (λ (x : Flight). NeverLacks x.phase f'.phase) f_is (never lasts_is));
+        }

@@ -1,0 +1,48 @@
+use Rattle.std.proofs.Common.{List, ap, sym, subst, arith}
+use Rattle.pager_model.specs.declared.call.Line.{Line}
+use Rattle.pager_model.specs.declared.entry.Entry.{Entry}
+use Rattle.pager_model.specs.Plans.{Plan}
+use Rattle.pager_model.specs.Stored.{Stored}
+use Rattle.stream_core.specs.Streaming.{CanTurn, IsAt, IsDue, Streaming, TookTurns, turns_in}
+use Rattle.stream_core.proofs.Flown.{TookTurns-all, TookTurns-flown, can_turn, turn_count}
+use Rattle.stream_core.proofs.stream.Stream.take_turn.Goals as goal
+
+-- that a stream went on to this one
+abbrev Took : Streaming → Streaming → Type 0
+Took new old = (plan : Plan) (stores : List Stored) (calls : List Line) (h : List Entry) → IsAt plan stores calls h old
+    → IsDue plan calls old.turns → TookTurns plan stores calls h old.turns 1 new
+
+pub returns-in_default : goal.returns-in_default
+returns-in_default g c = record {
+  took = subst (λ x. Took x x) c.self.view_is (λ plan stores calls h at due.
+      TookTurns-all plan stores calls h _ at (let none = ap turns_in c.in_default.is in omega (arith, none)));
+}
+
+pub returns-then-self-daemon : goal.returns-then-self-daemon
+returns-then-self-daemon g c = record {
+  took = subst (λ x. Took x x) c.self.view_is (λ plan stores calls h at due.
+      TookTurns-all plan stores calls h _ at
+      (let all = ap turns_in c.in-Some.is in let same = c.if-self-daemon.true in omega (arith, all, same)));
+}
+
+pub fly-requires-clause-can : goal.fly-requires-clause-can
+fly-requires-clause-can g c κs within =
+    let can = subst CanTurn (sym c.self.view_is) c.requires.can in
+    can_turn can.plan can.stores can.calls can.history _ can.at can.due c.in-Some.daemon c.in-Some.is c.if-self-daemon.false
+    c.of_turn-flight.result c.of_turn-flight.ensures
+
+pub invariant_of-self : goal.invariant_of-self
+invariant_of-self g c =
+    let can = subst CanTurn (sym c.self.view_is) c.requires.can in
+    let same = turn_count can.plan can.stores can.calls can.history _ can.at can.due c.in-Some.daemon c.in-Some.is c.if-self-daemon.false
+    c.of_turn-flight.result c.of_turn-flight.ensures c.fly.new.log c.fly.new.flight c.fly.new.spaces.items c.fly.new.pool c.fly.ensures.went in
+    let room = c.self.invariant in
+    omega (arith, same, room)
+
+pub returns : goal.returns
+returns g c = record {
+  took = subst (Took _) c.self.view_is (λ plan stores calls h at due.
+      TookTurns-flown plan stores calls h _ at due c.in-Some.daemon c.in-Some.is c.if-self-daemon.false
+      c.of_turn-flight.result c.of_turn-flight.ensures c.fly.new.log c.fly.new.flight c.fly.new.spaces.items c.fly.new.pool
+      c.fly.ensures.went c.fly.ensures.ended);
+}

@@ -1,0 +1,202 @@
+-- A run by the order of the lines of whose history nothing is kept: which histories it stands for, and what a call and its end make of them.
+use Rattle.std.specs.Prelude.{ℕ, ◌≡◌, ◌+◌, ◌*◌, ◌<◌, ◌≤◌, ◌⊎◌, min, Bool, true, List, ◌++◌, [], All, drop, length, slice_get, slice_index_or, Option, Some, None}
+use Rattle.pager_model.specs.declared.call.Line.{Line}
+use Rattle.pager_model.specs.declared.entry.Entry.{Entry}
+use Rattle.pager_model.specs.declared.entry.Numbered.{Numbered}
+use Rattle.pager_model.specs.declared.summary.Summary.{Summary}
+use Rattle.pager_model.specs.declared.trace.Daemon.{Daemon}
+use Rattle.pager_model.specs.Counts.{counts}
+use Rattle.pager_model.specs.Entries.{entries_of}
+use Rattle.pager_model.specs.FrameStates.{FrameState}
+use Rattle.pager_model.specs.Legal.{IsLegal, entries_in}
+use Rattle.pager_model.specs.Order.{at_rest, progress_of}
+use Rattle.pager_model.specs.Plans.{Plan}
+use Rattle.pager_model.specs.Showing.{FilesLines, IsFiled, Shows, calls_of}
+use Rattle.pager_model.specs.Stored.{Stored}
+use Rattle.pager_model.specs.Stores.{AreCapped, setting_over}
+use Rattle.pager_model.specs.TraceText.{HasText, IsLine}
+use Rattle.flight_core.specs.Lacking.{NoneLacked}
+use Rattle.space_core.specs.Standing.{Kept}
+use Rattle.step_log.specs.declared.counted.Counted.{Counted}
+use Rattle.step_log.specs.Counting.{IsCounted}
+use Rattle.step_log.specs.Flying.{IsSpaceIn}
+use Rattle.pager_core.specs.RunParts.{AreAtRest}
+use Rattle.replay_core.specs.Replays.{IsReplay}
+
+-- A stream as contracts see it.
+pub record Streaming : Type 0 where
+  -- how many calls each processor has made, and all of them
+  pub numbers : List ℕ
+  pub calls : ℕ
+  -- the daemon, the number of the processor that it is, and how many turns it has made
+  pub daemon : Option Daemon
+  pub processors : ℕ
+  pub turns : ℕ
+  pub counted : Counted
+  pub spaces : List Kept
+  pub pool : FrameState
+  -- the stores that no space uses
+  pub unused : List Stored
+
+-- Fronts of a trace.
+
+-- at most so many calls can be made: each has a number of 32 bits
+abbrev pub most_calls_made : ℕ
+most_calls_made = 4294967295
+
+-- the trace with these calls
+abbrev pub with_calls : Plan → List Line → Plan
+with_calls plan calls = record plan { calls = calls }
+
+-- how many turns a daemon makes, and its low mark
+abbrev pub turns_in : Option Daemon → ℕ
+turns_in None = 0
+turns_in (Some d) = d.turns
+
+abbrev pub low_in : Option Daemon → ℕ
+low_in None = 0
+low_in (Some d) = d.low
+
+-- the daemon, with as many turns as come before so many calls: one before each, while there are some
+abbrev pub daemon_before : Option Daemon → ℕ → Option Daemon
+daemon_before None n = None
+daemon_before (Some d) n = Some (record { low = d.low; turns = min d.turns n })
+
+-- the front of a trace that ends with these calls: they, and the turns that come before them
+abbrev pub front_of : Plan → List Line → Plan
+front_of plan calls = record plan { calls = calls; daemon = daemon_before plan.daemon (length calls) }
+
+-- What a stream stands for.
+
+-- the trace has a text, but for its calls, of which it has none
+pub record IsOpening (plan : Plan) : Type 0 where
+  pub has : HasText plan
+  pub none : plan.calls ≡ []
+
+-- After these calls of a trace that begins so, over these stores, and so many turns of its daemon: this is a legal history of them, filed by
+-- their lines; what was counted, the spaces and the frames are as it leaves them; and no call or turn is in progress.
+pub record IsAt (plan : Plan) (stores : List Stored) (calls : List Line) (h : List Entry) (s : Streaming) : Type 0 where
+  pub opening : IsOpening plan
+  pub enough : plan.spaces ≤ length stores
+  pub capped : AreCapped plan.spaces stores
+  pub lines : All (IsLine plan.version plan.processors plan.spaces) calls
+  pub few_calls : length calls ≤ most_calls_made
+  pub few_turns : s.turns ≤ turns_in plan.daemon
+  pub legal : IsLegal (setting_over plan stores) h
+  pub filed : FilesLines plan.processors (low_in plan.daemon) s.turns calls h
+  pub shows : Shows (record plan { calls = calls; daemon = daemon_before plan.daemon s.turns }) h
+  pub made : (c : ℕ) → c < plan.processors → progress_of 0 (entries_of c h) ≡ Some (at_rest 0 (length (calls_of c calls)))
+  pub short : length h ≤ 8 * length calls + 257 * s.turns
+  pub counted : IsCounted s.counted h
+  pub rest : AreAtRest (setting_over plan stores) h s.spaces s.pool
+  pub number : (n : ℕ) (kept : Kept) → slice_get s.spaces n ≡ Some kept → kept.number ≡ n
+  pub space : (n : ℕ) (kept : Kept) → slice_get s.spaces n ≡ Some kept → IsSpaceIn (setting_over plan stores) kept
+  pub calls_are : s.calls ≡ length calls
+  pub processors_are : length s.numbers ≡ 16
+  pub numbers_are : (c : ℕ) → c < plan.processors → slice_index_or s.numbers c 0 ≡ length (calls_of c calls)
+  pub daemon_is : s.daemon ≡ plan.daemon
+  pub daemon_behind : s.processors ≡ plan.processors
+  pub unused_are : s.unused ≡ drop plan.spaces stores
+
+-- After these calls, before each of which the daemon made a turn while it had one.
+pub record IsAfter (plan : Plan) (stores : List Stored) (calls : List Line) (h : List Entry) (s : Streaming) : Type 0 where
+  pub at : IsAt plan stores calls h s
+  pub turns : s.turns ≡ min (turns_in plan.daemon) (length calls)
+
+-- it stands so after some calls
+pub record CanStand (s : Streaming) : Type 0 where
+  pub plan : Plan
+  pub stores : List Stored
+  pub calls : List Line
+  pub history : List Entry
+  pub after : IsAfter plan stores calls history s
+
+-- it stands so after some calls and turns
+pub record IsStanding (s : Streaming) : Type 0 where
+  pub plan : Plan
+  pub stores : List Stored
+  pub calls : List Line
+  pub history : List Entry
+  pub at : IsAt plan stores calls history s
+
+-- Turns.
+
+-- as many turns were made as calls, or more, or none is left
+abbrev pub IsDue : Plan → List Line → ℕ → Type 0
+IsDue plan calls turns = (length calls ≤ turns) ⊎ (turns ≡ turns_in plan.daemon)
+
+-- it stands so after some calls and turns, and the daemon's next turn may come
+pub record CanTurn (s : Streaming) : Type 0 where
+  pub plan : Plan
+  pub stores : List Stored
+  pub calls : List Line
+  pub history : List Entry
+  pub at : IsAt plan stores calls history s
+  pub due : IsDue plan calls s.turns
+
+-- The history went on by this many turns after so many, or by all that were left, of which none answers a call.
+pub record TookTurns (plan : Plan) (stores : List Stored) (calls : List Line) (h : List Entry) (before more : ℕ) (s : Streaming) : Type 0 where
+  pub piece : List Entry
+  pub at : IsAt plan stores calls (h ++ piece) s
+  pub turns : s.turns ≡ min (turns_in plan.daemon) (before + more)
+  pub lacks : NoneLacked piece
+
+-- Calls.
+
+-- the line's call may come after these calls
+pub record IsNext (plan : Plan) (calls : List Line) (line : Line) : Type 0 where
+  pub range : IsLine plan.version plan.processors plan.spaces line
+  pub few : length calls < most_calls_made
+
+-- and it stands so after some calls, after which the line's may come
+pub record CanMake (s : Streaming) (line : Line) : Type 0 where
+  pub plan : Plan
+  pub stores : List Stored
+  pub calls : List Line
+  pub history : List Entry
+  pub after : IsAfter plan stores calls history s
+  pub next : IsNext plan calls line
+
+-- it stands so after some calls and turns, after which the line's may come
+pub record CanCall (s : Streaming) (line : Line) : Type 0 where
+  pub plan : Plan
+  pub stores : List Stored
+  pub calls : List Line
+  pub history : List Entry
+  pub at : IsAt plan stores calls history s
+  pub next : IsNext plan calls line
+  pub turns : s.turns ≤ length calls + 1
+
+-- The history went on by a call, to one of these calls and of as many turns as before.
+pub record IsCalled (lasts : Bool) (plan : Plan) (stores : List Stored) (calls : List Line) (h : List Entry) (before : ℕ)
+    (s : Streaming) : Type 0 where
+  pub piece : List Entry
+  pub at : IsAt plan stores calls (h ++ piece) s
+  pub turns : s.turns ≡ before
+  pub lasting : lasts ≡ true → NoneLacked piece
+
+-- The history went on, to one of these calls; over stores that keep every page for good no call in it was answered for want of memory.
+pub record IsMade (lasts : Bool) (plan : Plan) (stores : List Stored) (calls : List Line) (h : List Entry) (s : Streaming) : Type 0 where
+  pub piece : List Entry
+  pub after : IsAfter plan stores calls (h ++ piece) s
+  pub lasting : lasts ≡ true → NoneLacked piece
+
+-- Ends.
+
+-- Ended where it is: the history, numbered, is that of a run of the front of the trace that these calls end.
+pub record IsRunTo (plan : Plan) (stores : List Stored) (calls : List Line) (h : List Entry) (stores' : List Stored) : Type 0 where
+  pub history : List Numbered
+  pub entries : entries_in history ≡ h
+  pub run : IsReplay (front_of plan calls) stores history stores'
+  pub filed : IsFiled (front_of plan calls) h
+
+-- Ended with all of the daemon's turns: the history went on, to that of a run of the whole trace that has these calls, and these are its counts.
+pub record IsRunWhole (lasts : Bool) (plan : Plan) (stores : List Stored) (calls : List Line) (h : List Entry) (summary : Summary)
+    (stores' : List Stored) : Type 0 where
+  pub piece : List Entry
+  pub history : List Numbered
+  pub entries : entries_in history ≡ h ++ piece
+  pub run : IsReplay (with_calls plan calls) stores history stores'
+  pub filed : IsFiled (with_calls plan calls) (h ++ piece)
+  pub counts_are : summary ≡ counts (setting_over plan stores) (h ++ piece)
+  pub lasting : lasts ≡ true → NoneLacked piece

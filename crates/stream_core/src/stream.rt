@@ -1,0 +1,229 @@
+//! The stream: its start, a call, its counts, and its two ends.
+
+ghost use Rattle.std.specs.Prelude.{◌≡◌, ℕ, ◌+◌, ◌≤◌, [], ◌∷◌, ◌++◌, List, IfErr, IfOk, length, map};
+ghost use Rattle.pager_model.specs.declared.call.Line.{Line as CallLine};
+ghost use Rattle.pager_model.specs.declared.entry.Entry.{Entry};
+ghost use Rattle.pager_model.specs.Counts.{counts};
+ghost use Rattle.pager_model.specs.Plans.{Plan};
+ghost use Rattle.pager_model.specs.Stored.{Stored};
+ghost use Rattle.pager_model.specs.Stores.{setting_over};
+ghost use Rattle.stream_core.specs.Streaming.{CanCall, CanMake, CanStand, CanTurn, IsAfter, IsAt, IsCalled, IsDue, IsNext, IsMade, IsRunTo, IsRunWhole, IsStanding, TookTurns, turns_in};
+
+use flight_core::Flight;
+use frame_pool::Pool;
+use pager_core::{RunRoom, counts_of, stores_of};
+use pager_model::{Daemon, Line, Summary, Trace};
+use space_core::Space;
+use std::alloc::Global;
+use std::marker::Model;
+use step_log::{Counted, fly};
+use store_core::Store;
+
+/// A run by the order of the lines, of which nothing is kept but its counts. It owns the spaces with their stores, and the pool.
+#[derive(Drop)]
+pub struct Stream<S: Store + Send + Drop> {
+    // how many calls each processor has made, and all of them
+    numbers: [u32; 16],
+    calls: u32,
+    // the daemon, its number, and how many turns it has made
+    daemon: Option<Daemon>,
+    processors: u32,
+    turns: u32,
+    counted: Counted,
+    spaces: Vec<Space<S>>,
+    pool: Pool,
+    // the stores that no space uses, last first, with room for those of the spaces
+    stores: Vec<S>,
+}
+
+impl<S: Store + Send + Drop> Model for Stream<S> {
+    ghost use Rattle.std.specs.Prelude.{◌+◌, ◌≤◌, length, map, reverse, vec_capacity, vec_len};
+    ghost use Rattle.stream_core.specs.Streaming.{Streaming};
+
+    ghost Value = { Streaming };
+
+    ghost view = { λ s. record {
+      numbers = s.numbers;
+      calls = s.calls;
+      daemon = s.daemon;
+      processors = s.processors;
+      turns = s.turns;
+      counted = s.counted;
+      spaces = s.spaces.items;
+      pool = s.pool;
+      unused = map S.seen (reverse s.stores.items);
+    } };
+
+    ghost invariant = { λ s. vec_len s.stores + length s.spaces.items ≤ vec_capacity s.stores };
+}
+
+/// What a whole run leaves.
+#[derive(Drop)]
+pub struct Finished<S: Store + Send + Drop> {
+    pub summary: Summary,
+    /// The stores that were handed in, in their order.
+    pub stores: Vec<S>,
+}
+
+impl<S: Store + Send + Drop> Stream<S> {
+    /// A stream at the start of a trace of whose calls none is known, whose spaces use the stores of their numbers; there are at least as many
+    /// stores as spaces. All the memory that a run takes, but for that of the stores' writes, is taken here, and for want of it the stores come back.
+    pub fn create(alloc: Global, opening: &Trace, stores: Vec<S>) -> Result<Stream<S>, Vec<S>>
+        requires none { opening.now.calls ≡ [] }
+        requires enough { opening.now.spaces ≤ length stores.items }
+        ensures starts { IfOk result (λ s. IsAfter opening.now (map S.seen stores.items) [] [] s) }
+        ensures back { IfErr result (λ back. map S.seen back.items ≡ map S.seen stores.items) }
+    {
+        let Ok(room) = RunRoom::of(alloc, opening, stores.as_slice()) else {
+            return Err(stores);
+        };
+        let (spaces, stores) = room.spaces.over(stores);
+        Ok(Stream {
+            numbers: [0; 16],
+            calls: 0,
+            daemon: opening.daemon(),
+            processors: opening.processors(),
+            turns: 0,
+            counted: Counted::new(),
+            spaces,
+            pool: room.pool,
+            stores,
+        })
+    }
+
+    /// Makes a call to its end, and before it a turn of the daemon, while it has turns left.
+    pub fn make(&mut self, line: Line)
+        requires can { CanMake self.old line }
+        ensures made { (plan : Plan) (stores : List Stored) (calls : List CallLine) (h : List Entry) → IsAfter plan stores calls h self.old
+            → IsNext plan calls line → IsMade S.lasts plan stores (calls ++ line ∷ []) h self.new }
+    {
+        self.take_turn();
+        self.make_call(line);
+    }
+
+    /// How many calls were made.
+    pub fn calls(&self) -> u32
+        ensures { result ≡ self.now.calls }
+    {
+        self.calls
+    }
+
+    /// What was counted of the entries so far.
+    pub fn counted(&self) -> Counted
+        ensures { result ≡ self.now.counted }
+    {
+        self.counted
+    }
+
+    /// The counts so far.
+    pub fn summary(&self) -> Summary
+        requires { CanStand self.now }
+        ensures { (plan : Plan) (stores : List Stored) (calls : List CallLine) (h : List Entry) → IsAfter plan stores calls h self.now
+            → result ≡ counts (setting_over plan stores) h }
+    {
+        self.counts()
+    }
+
+    /// Ends the run where it is: the stores, in their order.
+    pub fn stop(self) -> Vec<S>
+        requires { CanStand self }
+        ensures { (plan : Plan) (stores : List Stored) (calls : List CallLine) (h : List Entry) → IsAfter plan stores calls h self
+            → IsRunTo plan stores calls h (map S.seen result.items) }
+    {
+        stores_of(self.spaces, self.stores)
+    }
+
+    /// Makes the turns that the daemon has left, and ends the run: the counts of the whole of it, and the stores, in their order.
+    pub fn finish(self) -> Finished<S>
+        requires { CanStand self }
+        ensures { (plan : Plan) (stores : List Stored) (calls : List CallLine) (h : List Entry) → IsAfter plan stores calls h self
+            → IsRunWhole S.lasts plan stores calls h result.summary (map S.seen result.stores.items) }
+    {
+        let mut stream = self;
+        take_turns(&mut stream);
+        let summary = stream.counts();
+        Finished {
+            summary,
+            stores: stores_of(stream.spaces, stream.stores),
+        }
+    }
+
+    /// Makes the daemon's next turn, where one is left.
+    fn take_turn(&mut self)
+        requires can { CanTurn self.old }
+        ensures took { (plan : Plan) (stores : List Stored) (calls : List CallLine) (h : List Entry) → IsAt plan stores calls h self.old
+            → IsDue plan calls self.old.turns → TookTurns plan stores calls h self.old.turns 1 self.new }
+    {
+        let Some(daemon) = self.daemon else {
+            return;
+        };
+        if self.turns == daemon.turns {
+            return;
+        }
+        let mut flight = Flight::of_turn(self.processors, self.turns, daemon.low);
+        fly(
+            &mut self.counted,
+            &mut self.spaces,
+            &mut self.pool,
+            &mut flight,
+        );
+        self.turns += 1;
+    }
+
+    /// Makes a call.
+    fn make_call(&mut self, line: Line)
+        requires can { CanCall self.old line }
+        ensures made { (plan : Plan) (stores : List Stored) (calls : List CallLine) (h : List Entry) → IsAt plan stores calls h self.old
+            → IsNext plan calls line → self.old.turns ≤ length calls + 1
+            → IsCalled S.lasts plan stores (calls ++ line ∷ []) h self.old.turns self.new }
+    {
+        let place = line.processor as usize;
+        let number = self.numbers[place];
+        let mut flight = Flight::of_call(line.processor, number, line.call);
+        fly(
+            &mut self.counted,
+            &mut self.spaces,
+            &mut self.pool,
+            &mut flight,
+        );
+        self.numbers[place] = number + 1;
+        self.calls += 1;
+    }
+
+    /// How many turns the daemon has left.
+    fn turns_left(&self) -> u32
+        requires { IsStanding self.now }
+        ensures { result + self.now.turns ≡ turns_in self.now.daemon }
+    {
+        match self.daemon {
+            Some(daemon) => daemon.turns - self.turns,
+            None => 0,
+        }
+    }
+
+    /// The counts after any calls and turns.
+    fn counts(&self) -> Summary
+        requires { IsStanding self.now }
+        ensures { (plan : Plan) (stores : List Stored) (calls : List CallLine) (h : List Entry) → IsAt plan stores calls h self.now
+            → result ≡ counts (setting_over plan stores) h }
+    {
+        counts_of(
+            self.spaces.as_slice(),
+            &self.pool,
+            self.counted.hits,
+            self.counted.misses,
+        )
+    }
+}
+
+/// Makes the turns that the daemon has left.
+fn take_turns<S: Store + Send + Drop>(stream: &mut Stream<S>)
+    requires can { CanTurn stream.old }
+    ensures took { (plan : Plan) (stores : List Stored) (calls : List CallLine) (h : List Entry) → IsAt plan stores calls h stream.old
+        → IsDue plan calls stream.old.turns
+        → TookTurns plan stores calls h stream.old.turns (turns_in plan.daemon) stream.new }
+{
+    for _ in 0..stream.turns_left() {
+        stream.take_turn();
+    }
+}

@@ -1,0 +1,4 @@
+pub mod MadeLines
+pub mod ReadText
+pub mod ToldCounts
+pub mod WholeStreams

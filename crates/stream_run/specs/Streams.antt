@@ -1,0 +1,176 @@
+-- What running a stream promises: what was run of the text, how that ended, and what was printed.
+use Rattle.std.specs.Prelude.{ℕ, ◌≡◌, ◌+◌, ◌*◌, ◌<◌, ◌≤◌, ◌⊎◌, Bool, true, List, [], ◌∷◌, ◌++◌, All, flat_map, length, take, slice_get, Option, Some, None, IfSome}
+use Rattle.io_core.specs.Faults.{one_more}
+use Rattle.pager_model.specs.declared.call.Line.{Line}
+use Rattle.pager_model.specs.declared.entry.Entry.{Entry}
+use Rattle.pager_model.specs.declared.entry.Numbered.{Numbered}
+use Rattle.pager_model.specs.Counts.{counts}
+use Rattle.pager_model.specs.Legal.{entries_in}
+use Rattle.pager_model.specs.Plans.{Plan}
+use Rattle.pager_model.specs.PrintedText.{summary_text}
+use Rattle.pager_model.specs.Settings.{Given}
+use Rattle.pager_model.specs.Showing.{IsFiled}
+use Rattle.pager_model.specs.Stored.{Stored}
+use Rattle.pager_model.specs.Stores.{setting_over}
+use Rattle.pager_model.specs.TraceText.{IsLine, call_line}
+use Rattle.flight_core.specs.Lacking.{NoneLacked}
+use Rattle.replay_core.specs.Replays.{IsReplay}
+use Rattle.report_text.specs.declared.so_far_line.SoFar.{SoFar}
+use Rattle.report_text.specs.SoFarText.{so_far_text}
+use Rattle.report_text.specs.Written.{WroteAll}
+use Rattle.step_log.specs.Counting.{evictions_in, unserved_in}
+use Rattle.stream_core.specs.Streaming.{IsOpening, front_of, most_calls_made, with_calls}
+use Rattle.trace_reader.specs.declared.fault.TraceFault.{TraceFault}
+use Rattle.trace_reader.specs.declared.fault.TraceFault.TheVariants.{ReadFault, TooFewStores}
+use Rattle.trace_reader.specs.Refusals.{IsCause, first_call}
+use Rattle.trace_stream.specs.Streams.{IsOfStream, IsPart, IsStreamOf, IsUnopened, Opens, end_line, forms_of, next_refusal, opening_refusal, opening_text}
+use Rattle.stream_run.specs.declared.run.Ending.{Ending}
+use Rattle.stream_run.specs.declared.run.Ending.TheVariants.{Done, Stopped, WriteFault, NoMemory}
+
+-- What a source and a sink tell: the bytes that the one has left and the other has taken, where they tell them, and how often each has failed.
+pub record Ports : Type 0 where
+  pub left : Option (List ℕ)
+  pub read_faults : ℕ
+  pub taken : Option (List ℕ)
+  pub write_faults : ℕ
+
+abbrev pub ports : Option (List ℕ) → ℕ → Option (List ℕ) → ℕ → Ports
+ports left read_faults taken write_faults = record { left = left; read_faults = read_faults; taken = taken; write_faults = write_faults }
+
+-- The counts so far.
+
+-- after so many of the calls, and the turns that come before them, a history had these counts: it is a front of the whole one
+pub record IsSoFar (g : Given) (plan : Plan) (calls : List Line) (h : List Entry) (k : ℕ) (s : SoFar) : Type 0 where
+  pub front : List Entry
+  pub rest : List Entry
+  pub split : h ≡ front ++ rest
+  pub filed : IsFiled (front_of plan (take k calls)) front
+  pub calls_are : s.calls ≡ k
+  pub summary_is : s.summary ≡ counts g front
+  pub evictions_are : s.evictions ≡ evictions_in front
+  pub unserved_are : s.unserved ≡ unserved_in front
+
+-- these counts were told: those after each so many calls, in order
+pub record AreTold (g : Given) (plan : Plan) (calls : List Line) (h : List Entry) (every : ℕ) (told : List SoFar) : Type 0 where
+  pub fewer : length told * every ≤ length calls
+  pub no_more : length calls < (length told + 1) * every
+  pub each : (i : ℕ) (s : SoFar) → slice_get told i ≡ Some s → IsSoFar g plan calls h ((i + 1) * every) s
+
+-- where they are asked for; else none
+abbrev pub AreToldBy : Given → Plan → List Line → List Entry → Option ℕ → List SoFar → Type 0
+AreToldBy g plan calls h None told = told ≡ []
+AreToldBy g plan calls h (Some every) told = AreTold g plan calls h every told
+
+abbrev pub told_text : List SoFar → List ℕ
+told_text told = flat_map so_far_text told
+
+-- all of a text was written, and behind it a beginning of another
+abbrev pub WrotePartBehind : (text last : List ℕ) → Option (List ℕ) → Option (List ℕ) → Type 0
+WrotePartBehind text last before after = IfSome before (λ had. (k : ℕ) × (k < length last) × (after ≡ Some (had ++ text ++ take k last)))
+
+-- Where no call was run.
+
+-- the bytes begin with the lines before the calls of this trace, and behind them no more than one piece was read
+pub record WasOpened (bytes : List ℕ) (plan : Plan) (left' : Option (List ℕ)) : Type 0 where
+  pub opening : IsOpening plan
+  pub ahead : List ℕ
+  pub rest : List ℕ
+  pub opens : Opens bytes plan (ahead ++ rest)
+  pub few : length ahead ≤ 4096
+  pub left_is : left' ≡ Some rest
+
+-- The lines before the calls were refused, or there are more spaces than stores; or a read failed before they were read; or there was no memory.
+abbrev pub IsUnrun : (left left' : Option (List ℕ)) → (stores : ℕ) → Ending → Type 0
+IsUnrun left left' stores (Stopped ReadFault) = IfSome left (λ bytes. IsUnopened bytes left')
+IsUnrun left left' stores (Stopped (TooFewStores told spaces)) =
+    (told ≡ stores) × (stores < spaces)
+    × IfSome left (λ bytes. (plan : Plan) × WasOpened bytes plan left' × (spaces ≡ plan.spaces))
+IsUnrun left left' stores (Stopped fault) = IsOfStream fault × IfSome left (λ bytes. IsCause (opening_refusal bytes) fault)
+IsUnrun left left' stores NoMemory = IfSome left (λ bytes. (plan : Plan) × WasOpened bytes plan left' × (plan.spaces ≤ stores))
+IsUnrun left left' stores ending = ⊥
+
+-- a failed read is told, and nothing else is one
+abbrev pub TellsRead : Ending → ℕ → ℕ → Type 0
+TellsRead (Stopped ReadFault) before after = after ≡ one_more before
+TellsRead ending before after = after ≡ before
+
+-- nothing was written, and the stores are as they were
+pub record RanNone (before after : Ports) (stores stores' : List Stored) (ending : Ending) : Type 0 where
+  pub why : IsUnrun before.left after.left (length stores) ending
+  pub read_fault : TellsRead ending before.read_faults after.read_faults
+  pub unwritten : after.taken ≡ before.taken
+  pub no_write_fault : after.write_faults ≡ before.write_faults
+  pub same_stores : stores' ≡ stores
+
+-- Where calls were run, or could have been.
+
+-- what is to come of the bytes behind the lines of these calls
+abbrev pub Behind : List ℕ → Plan → List Line → List ℕ → Type 0
+Behind bytes plan calls rest = bytes ≡ opening_text plan ++ flat_map call_line calls ++ rest
+
+-- The bytes of a run that was done: they are the text of the trace with these calls, and all were read.
+abbrev pub WasWhole : List ℕ → Plan → List Line → Option (List ℕ) → Type 0
+WasWhole bytes plan calls left' = IsStreamOf bytes (with_calls plan calls) × (left' ≡ Some [])
+
+-- The bytes of one that was stopped: behind the lines of its calls stands what is refused so, or a read failed before the next whole line of a
+-- call was read.
+abbrev pub WasStopped : List ℕ → Plan → List Line → TraceFault → Option (List ℕ) → Type 0
+WasStopped bytes plan calls ReadFault left' =
+    (ahead : List ℕ) × (rest : List ℕ) × Behind bytes plan calls (ahead ++ rest) × (left' ≡ Some rest)
+    × (IsPart ahead ⊎ ((part : List ℕ) × (ahead ≡ end_line ++ part) × IsPart part))
+WasStopped bytes plan calls fault left' =
+    (ahead : List ℕ) × (rest : List ℕ) × Behind bytes plan calls (ahead ++ rest) × (length ahead ≤ 4100) × (left' ≡ Some rest)
+    × (next_refusal (forms_of plan) (first_call plan.daemon + length calls) (length calls) (ahead ++ rest) ≡ Some fault)
+
+-- The bytes of one that was stopped by a write: behind the lines of its calls, no more than one piece was read.
+abbrev pub WasAhead : List ℕ → Plan → List Line → Option (List ℕ) → Type 0
+WasAhead bytes plan calls left' =
+    (ahead : List ℕ) × (rest : List ℕ) × Behind bytes plan calls (ahead ++ rest) × (length ahead ≤ 4096) × (left' ≡ Some rest)
+
+-- What was run, and where it ended. Done, it was the whole of the trace that has these calls, and behind the counts so far those of all of it were
+-- written. Stopped, it was the front that ends with these calls, and only the counts so far were written. Where a write failed, it was the whole one
+-- and a beginning of its text was written, or it was the front after whose last call the counts so far were to be told, and a beginning of the last
+-- line of theirs was.
+abbrev pub EndsSo : (g : Given) (plan : Plan) (calls : List Line) (told : List SoFar) (run : Plan) (h : List Entry) → (before after : Ports) → Ending
+    → Type 0
+EndsSo g plan calls told run h before after Done =
+    (run ≡ with_calls plan calls) × IfSome before.left (λ bytes. WasWhole bytes plan calls after.left)
+    × WroteAll (told_text told ++ summary_text (counts g h)) before.taken after.taken
+EndsSo g plan calls told run h before after (Stopped fault) =
+    (run ≡ front_of plan calls) × IfSome before.left (λ bytes. WasStopped bytes plan calls fault after.left) × IsOfStream fault
+    × WroteAll (told_text told) before.taken after.taken
+EndsSo g plan calls told run h before after WriteFault =
+    ((run ≡ with_calls plan calls) × IfSome before.left (λ bytes. WasWhole bytes plan calls after.left)
+    × WrotePartBehind (told_text told) (summary_text (counts g h)) before.taken after.taken)
+    ⊎ ((run ≡ front_of plan calls) × IfSome before.left (λ bytes. WasAhead bytes plan calls after.left)
+    × ((earlier : List SoFar) × (last : SoFar) × (told ≡ earlier ++ last ∷ []) × (last.calls ≡ length calls)
+    × WrotePartBehind (told_text earlier) (so_far_text last) before.taken after.taken))
+EndsSo g plan calls told run h before after NoMemory = ⊥
+
+-- A run was made of these calls of a trace that begins so. Its history is nowhere in memory.
+pub record RanSome (lasts : Bool) (every : Option ℕ) (before after : Ports) (stores stores' : List Stored) (ending : Ending) : Type 0 where
+  pub plan : Plan
+  pub calls : List Line
+  pub run : Plan
+  pub history : List Numbered
+  pub told : List SoFar
+  pub opening : IsOpening plan
+  pub opens : IfSome before.left (λ bytes. (rest : List ℕ) × Opens bytes plan rest)
+  pub enough : plan.spaces ≤ length stores
+  pub lines : All (IsLine plan.version plan.processors plan.spaces) calls
+  pub few : length calls ≤ most_calls_made
+  -- legal, numbered, with its laws at each place, its answers, and what the stores have at its end
+  pub ran : IsReplay run stores history stores'
+  -- in the order of the lines
+  pub filed : IsFiled run (entries_in history)
+  pub lasting : lasts ≡ true → NoneLacked (entries_in history)
+  pub told_are : AreToldBy (setting_over plan stores) plan calls (entries_in history) every told
+  pub ends : EndsSo (setting_over plan stores) plan calls told run (entries_in history) before after ending
+  pub read_fault : TellsRead ending before.read_faults after.read_faults
+  pub write_fault : ending ≡ WriteFault → after.write_faults ≡ one_more before.write_faults
+  pub no_write_fault : (ending ≡ WriteFault → ⊥) → after.write_faults ≡ before.write_faults
+
+-- what running a stream promises
+abbrev pub RunsStream : Bool → Option ℕ → (before after : Ports) → (stores stores' : List Stored) → Ending → Type 0
+RunsStream lasts every before after stores stores' ending =
+    RanNone before after stores stores' ending ⊎ RanSome lasts every before after stores stores' ending

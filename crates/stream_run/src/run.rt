@@ -1,0 +1,178 @@
+//! The run.
+
+ghost use Rattle.std.specs.Prelude.{◌≡◌, ℕ, ◌≤◌, [], IfErr, IfOk, IfSome, List, Option, length, map};
+ghost use Rattle.line_source.specs.Lines.{seen};
+ghost use Rattle.pager_model.specs.declared.call.Line.{Line as CallLine};
+ghost use Rattle.pager_model.specs.declared.entry.Entry.{Entry};
+ghost use Rattle.pager_model.specs.Plans.{Plan};
+ghost use Rattle.pager_model.specs.Stored.{Stored};
+ghost use Rattle.stream_core.specs.Streaming.{CanStand, IsAfter};
+ghost use Rattle.trace_lines.specs.Heads.{IsInRange};
+ghost use Rattle.trace_stream.specs.Streams.{HasOpening, OpensWith};
+ghost use Rattle.stream_run.specs.Steps.{RanWhole, WritesCounts};
+ghost use Rattle.stream_run.specs.Streams.{IsUnrun, RanSome, RunsStream, TellsRead, ports};
+
+use crate::calls::make_calls;
+use io_core::{Sink, Source, WriteFailed};
+use line_source::Ahead;
+use pager_model::Summary;
+use report_text::write_summary;
+use std::alloc::Global;
+use store_core::Store;
+use stream_core::{Finished, Stream};
+use trace_reader::TraceFault;
+use trace_stream::{Opening, open};
+
+/// How the run of a stream ended.
+#[derive(Clone, Copy, Debug, PartialEq, Eq)]
+pub enum Ending {
+    /// The whole trace was run, and its counts were written.
+    Done,
+    /// A line was refused, or a read failed: the calls before it were run.
+    Stopped(TraceFault),
+    /// A write failed.
+    WriteFault,
+    /// There was no memory: no call was run.
+    NoMemory,
+}
+
+/// What the run of a stream leaves.
+#[derive(Drop)]
+pub struct Streamed<S: Store + Send + Drop> {
+    pub ending: Ending,
+    /// The stores that were handed in, in their order.
+    pub stores: Vec<S>,
+}
+
+/// Runs a trace as it is read, each call to its end in the order of the lines, and before each a turn of the daemon while it has turns left. Where it
+/// is asked for, the counts so far are written after each so many calls; at the end of the text the daemon makes the turns that it has left, and
+/// the counts of the whole run are written. Where a line is refused, or a read or a write fails, the calls before it were run.
+///
+/// All memory is taken before the first call, but for that of the stores' writes, and nothing is kept a call. It takes no handle, and so is proved
+/// to return, whatever the source has.
+pub fn run_stream<T: Source, K: Sink, S: Store + Send + Drop>(
+    alloc: Global,
+    source: &mut T,
+    sink: &mut K,
+    every: Option<u32>,
+    stores: Vec<S>,
+) -> Streamed<S>
+    requires some { IfSome every (λ n. 1 ≤ n) }
+    ensures { RunsStream S.lasts every
+        (ports (T.left source.old) (T.faults source.old) (K.taken sink.old) (K.faults sink.old))
+        (ports (T.left source.new) (T.faults source.new) (K.taken sink.new) (K.faults sink.new))
+        (map S.seen stores.items) (map S.seen result.stores.items) result.ending }
+{
+    let mut ahead = Ahead::new();
+    run_ahead(alloc, &mut ahead, source, sink, every, stores)
+}
+
+/// Reads the lines before the calls, and runs the trace. Nothing was read ahead.
+fn run_ahead<T: Source, K: Sink, S: Store + Send + Drop>(
+    alloc: Global,
+    ahead: &mut Ahead,
+    source: &mut T,
+    sink: &mut K,
+    every: Option<u32>,
+    stores: Vec<S>,
+) -> Streamed<S>
+    requires none_read { ahead.old ≡ [] }
+    requires some { IfSome every (λ n. 1 ≤ n) }
+    ensures { RunsStream S.lasts every
+        (ports (T.left source.old) (T.faults source.old) (K.taken sink.old) (K.faults sink.old))
+        (ports (T.left source.new) (T.faults source.new) (K.taken sink.new) (K.faults sink.new))
+        (map S.seen stores.items) (map S.seen result.stores.items) result.ending }
+{
+    let opening = match opening_to_run(alloc, ahead, source, stores.len()) {
+        Ok(opening) => opening,
+        Err(fault) => {
+            let ending = Ending::Stopped(fault);
+            return Streamed { ending, stores };
+        }
+    };
+    match Stream::create(alloc, &opening.trace, stores) {
+        Ok(stream) => run_calls(&opening, ahead, source, sink, every, stream),
+        Err(stores) => Streamed {
+            ending: Ending::NoMemory,
+            stores,
+        },
+    }
+}
+
+/// Reads the lines before the calls of a trace that is to be run over so many stores.
+fn opening_to_run<T: Source>(
+    alloc: Global,
+    ahead: &mut Ahead,
+    source: &mut T,
+    stores: usize,
+) -> Result<Opening, TraceFault>
+    requires none_read { ahead.old ≡ [] }
+    ensures range { IfOk result (λ o. IsInRange o.head) }
+    ensures opening { IfOk result (λ o. HasOpening o.head o.trace) }
+    ensures enough { IfOk result (λ o. o.trace.spaces ≤ stores) }
+    ensures reads { IfOk result (λ o. IfSome (T.left source.old)
+        (λ bytes. OpensWith bytes o.trace (seen ahead.new (T.left source.new)))) }
+    ensures few_ahead { length ahead.new ≤ 4096 }
+    ensures unfailed { IfOk result (λ _. T.faults source.new ≡ T.faults source.old) }
+    ensures unrun { IfErr result (λ fault. IsUnrun (T.left source.old) (T.left source.new) stores (Ending.Stopped fault)) }
+    ensures told { IfErr result (λ fault. TellsRead (Ending.Stopped fault) (T.faults source.old) (T.faults source.new)) }
+{
+    let opening = open(alloc, ahead, source)?;
+    let (stores, spaces) = (stores as u64, opening.trace.spaces());
+    if stores < u64::from(spaces) {
+        return Err(TraceFault::TooFewStores { stores, spaces });
+    }
+    Ok(opening)
+}
+
+/// Makes the calls that are to come, and ends the run.
+fn run_calls<T: Source, K: Sink, S: Store + Send + Drop>(
+    opening: &Opening,
+    ahead: &mut Ahead,
+    source: &mut T,
+    sink: &mut K,
+    every: Option<u32>,
+    stream: Stream<S>,
+) -> Streamed<S>
+    requires range { IsInRange opening.now.head }
+    requires opening { HasOpening opening.now.head opening.now.trace }
+    requires some { IfSome every (λ n. 1 ≤ n) }
+    requires can { (stores : List Stored) × IsAfter opening.now.trace stores [] [] stream }
+    ensures { (left : Option (List ℕ)) (stores : List Stored) → IsAfter opening.now.trace stores [] [] stream
+        → IfSome left (λ bytes. OpensWith bytes opening.now.trace (seen ahead.old (T.left source.old)))
+        → RanSome S.lasts every
+        (ports left (T.faults source.old) (K.taken sink.old) (K.faults sink.old))
+        (ports (T.left source.new) (T.faults source.new) (K.taken sink.new) (K.faults sink.new))
+        stores (map S.seen result.stores.items) result.ending }
+{
+    let mut stream = stream;
+    match make_calls(opening, ahead, source, sink, every, &mut stream) {
+        Ending::Done => finish(sink, stream),
+        ending => Streamed {
+            ending,
+            stores: stream.stop(),
+        },
+    }
+}
+
+/// Makes the turns that the daemon has left, and writes the counts of the whole run.
+fn finish<K: Sink, S: Store + Send + Drop>(sink: &mut K, stream: Stream<S>) -> Streamed<S>
+    requires { CanStand stream }
+    ensures { (plan : Plan) (stores : List Stored) (calls : List CallLine) (h : List Entry) → IsAfter plan stores calls h stream
+        → RanWhole S.lasts plan stores calls h (map S.seen result.stores.items) result.ending
+        (K.taken sink.old) (K.taken sink.new) (K.faults sink.old) (K.faults sink.new) }
+{
+    let Finished { summary, stores } = stream.finish();
+    let ending = write_counts(sink, &summary);
+    Streamed { ending, stores }
+}
+
+/// Writes the counts of the whole run.
+fn write_counts<K: Sink>(sink: &mut K, summary: &Summary) -> Ending
+    ensures { WritesCounts summary.now result (K.taken sink.old) (K.taken sink.new) (K.faults sink.old) (K.faults sink.new) }
+{
+    match write_summary(sink, summary) {
+        Ok(()) => Ending::Done,
+        Err(WriteFailed) => Ending::WriteFault,
+    }
+}

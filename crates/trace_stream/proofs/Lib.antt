@@ -1,0 +1,5 @@
+pub mod NextLines
+pub mod NextCalls
+pub mod Beginnings
+pub mod ShortLines
+pub mod WholeStreams
