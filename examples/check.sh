@@ -10,7 +10,7 @@
 examples=$(cd "$(dirname "$0")" && pwd) || exit 1
 . "$examples/common.sh"
 
-for room in lesson runs refused histories own-pager tools policies drawn; do
+for room in lesson runs refused streams histories own-pager tools policies drawn; do
     count "$examples/$room/check.sh"
 done
 end_of_check

@@ -40,7 +40,10 @@ class Program(NamedTuple):
 
     def refuse_long(self, name: str, trace: bytes) -> None:
         """Stops where the trace of this name has more calls."""
-        calls = trace.count(b'\n') - 2
+        self.refuse_calls(name, trace.count(b'\n') - 2)
+
+    def refuse_calls(self, name: str, calls: int) -> None:
+        """Stops where the trace of this name, of so many calls, has more."""
         if self.most is not None and calls > self.most:
             raise Stopped('%s has %d calls, and the slow reference model runs at most %d here. Build the program: %s. '
                           '(`--program tools/judge` runs it however long it takes)' % (name, calls, self.most, BUILD))

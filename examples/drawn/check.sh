@@ -45,6 +45,11 @@ compare_drawn drawn-with-pins-over-slots --seeds 251..252 --forms order,turns --
 compare_drawn drawn-curves --seeds 1..3 --forms curve
 compare_drawn drawn-curves-by-sizes --seeds 1..1 --forms curve --sizes 02,0123
 compare_drawn drawn-plans --seeds 251..253 --forms plan1,plan2,plan3
+compare_drawn drawn-streams --seeds 1..5,251..255 --forms stream
+compare_drawn drawn-streams-with-pins --seeds 1..3,251..253 --forms stream --pins
+compare_drawn drawn-streams-by-page-sizes --seeds 1..1 --forms stream --sizes all
+compare_drawn drawn-streams-short-of-frames --seeds 1..3 --forms stream --short
+compare_drawn drawn-streams-over-slots --seeds 251..254 --forms stream --swap 4
 compare_drawn drawn-over-slots --seeds 251..254 --forms order,turns --swap 8
 
 # With the examples these show every kind of entry but a failed read: where all frames are under wired pages; and beside a daemon, where few
@@ -90,6 +95,13 @@ status=$?
 mv "$made/ends" "$made/output"
 printf '262151\nframes 0 0 32768\nend\n' >"$made/wanted"
 compare longest "$status" 0 '' "$made/wanted"
+
+# Streams of a million calls and more: their counts are reckoned as they are drawn.
+for words in '--seed 1' '--seed 2 --sizes 03 --frames 32768' '--seed 3 --sizes 012 --frames 512 --calls 300000'; do
+    ../../tools/long-trace $words --counts "$made/reckoned" >"$made/long"
+    run "$made/long" told "$program" stream
+    compare "long-trace $words" $? 0 '' "$made/reckoned"
+done
 
 # The drawn runs of run_tests walk each row of the table of steps.
 run /dev/null told python3 ./walked_rows.py

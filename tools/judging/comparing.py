@@ -1,4 +1,5 @@
 """Comparing the program's texts with the checker's, on traces that examples/drawn/random_trace.py draws, or that are short of frames."""
+import io
 import multiprocessing
 import os
 import signal
@@ -16,6 +17,7 @@ from .machine import Machine, store_of
 from .plans import plan_text, planned
 from .printed import BadLine, history_in, text_of_run
 from .showing import wrong_with_answers, wrong_with_filing, wrong_with_turns
+from .streams import streamed
 from .trace_text import Refusal, text_of, trace_of
 from .values import Trace, setting_of
 
@@ -27,12 +29,13 @@ IN_ONE_THREAD = ('order', 'turns')
 # The form `plan`, by its size.
 PLANS = {'plan1': 1, 'plan2': 2, 'plan3': 3}
 CURVE = 'curve'
+STREAM = 'stream'
 MOVES = ('promotions', 'demotions', 'preemptions')
 REFUSED = 'noframes'
 # The kinds of entries that are counted.
 COUNTED = {'claim': 'claims', 'pin': 'pins', 'kept': 'kept'}
 # The forms that print no history.
-WITHOUT_HISTORY = (*PLANS, CURVE)
+WITHOUT_HISTORY = (*PLANS, CURVE, STREAM)
 # The first seeds draw traces over frames enough, and those above them traces in which few frames are left.
 LAST_WITH_FRAMES = 250
 SECONDS = 600
@@ -95,6 +98,16 @@ def output_of(words: List[str], text: bytes) -> bytes:
     return done.stdout
 
 
+def every_of(job: Job) -> int:
+    """After each how many calls a stream prints its counts."""
+    return 1 + job.seed % 60
+
+
+def streamed_text(text: bytes, job: Job) -> bytes:
+    """What the slow machine prints of a stream."""
+    return ''.join(streamed(io.BytesIO(text), every_of(job), lambda plan: [store_of(job.swap) for _ in range(plan.spaces)])).encode()
+
+
 def checked_text(trace: Trace, job: Job) -> bytes:
     """The text that the slow machine prints: of a run with its history, or what is planned after it, or its curves."""
     machine = Machine(trace, [store_of(job.swap) for _ in range(trace.spaces)])
@@ -141,6 +154,8 @@ def words_of(job: Job) -> List[str]:
         return [*words, 'plan', str(PLANS[job.form])]
     if job.form == CURVE:
         return [*words, CURVE]
+    if job.form == STREAM:
+        return [*words, STREAM, str(every_of(job))]
     return [*words, job.form, *([str(job.turns)] if job.form == 'turns' else []), '--history']
 
 
@@ -155,6 +170,8 @@ def trace_text(job: Job) -> bytes:
 
 def wrong_with_run(job: Job, text: bytes, printed: bytes) -> Optional[str]:
     """What is wrong with what the program printed for a trace's text, or None."""
+    if job.form == STREAM:
+        return first_difference(streamed_text(text, job), printed)
     trace = trace_of(text)
     if job.form == 'replay' or (job.laws and job.form not in WITHOUT_HISTORY):
         return wrong_with_text(trace, job.form, job.turns, printed, job.laws)

@@ -128,6 +128,10 @@ class Machine:
             return Flight(c, n, None, mark) if n < self.trace.daemon.turns else None
         return Flight(c, n, self.calls[c][n], 0) if n < len(self.calls[c]) else None
 
+    def begin(self, c: int, call: Call) -> None:
+        """The processor's next call is one that stands in no list of its calls."""
+        self.flights[c] = Flight(c, self.made[c], call, 0)
+
     def left(self) -> List[int]:
         """The processors that have a call left, ascending."""
         return [c for c, flight in enumerate(self.flights) if flight]

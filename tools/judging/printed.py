@@ -61,25 +61,30 @@ def history_text(history: List[Entry]) -> str:
     return ''.join(line_of([n, e.processor, part_word(e), *what_words(e.what)]) for n, e in enumerate(history))
 
 
-def counts_text(pager: Pager) -> str:
+def hits_in(history: List[Entry]) -> Tuple[int, int]:
+    """How many answers of a history have a hit, and how many a miss. (Counts.antt)"""
+    hits = [e.what.hit for e in history if isinstance(e.what, Answer) and e.what.size is not None]
+    return hits.count(True), hits.count(False)
+
+
+def counts_text(pager: Pager, hits: int, misses: int) -> str:
     """The counts of a whole history: of tiles by size, and of frames, those at its end; of promotions, demotions, preemptions, hits and misses
     those of all entries. (Counts.antt, PrintedText.antt)"""
     tiles = [tile.size for space in pager.spaces for tile in space.tiles.all()]
-    hits = [e.what.hit for e in pager.history if isinstance(e.what, Answer) and e.what.size is not None]
     frames = pager.frames
     return ''.join(map(line_of, [
         ['tiles', *(tiles.count(size) for size in range(4))],
         ['promotions', sum(space.tiles.promotions for space in pager.spaces)],
         ['demotions', sum(space.tiles.demotions for space in pager.spaces)],
         ['preemptions', frames.preemptions],
-        ['images', hits.count(True), hits.count(False)],
+        ['images', hits, misses],
         ['frames', len(frames.free), frames.reserved_count(), len(frames.used)],
         ['end']]))
 
 
 def text_of_run(pager: Pager, with_history: bool) -> str:
     """The whole text. (PrintedText.antt: out_text)"""
-    return answers_text(pager.history) + (history_text(pager.history) if with_history else '') + counts_text(pager)
+    return answers_text(pager.history) + (history_text(pager.history) if with_history else '') + counts_text(pager, *hits_in(pager.history))
 
 
 class Words:

@@ -1,6 +1,7 @@
 """The text of a trace (TraceText.antt), and why a text is none (crates/trace_reader/specs/Refusals.antt,
 crates/trace_lines/specs/Forms.antt)."""
-from typing import Callable, List, Optional, Sequence, Tuple, Union
+from dataclasses import replace
+from typing import Callable, List, Optional, Sequence, Union
 
 from .values import (ALL_SIZES, LAST_COUNT, MOST_BYTES, MOST_CALLS, SPACE_PAGES, Call, Daemon, Discard, Evict, Grow, Line, Load, Map, Protect, Sizes,
                      Store, Sync, Trace, Unmap, Unwire, Wire)
@@ -88,14 +89,20 @@ def trace_of(text: bytes) -> Trace:
         raise Refusal('no end')
     words = lines[0].split(b' ')
     refuse(1, cause_of(words, FIRSTS))
-    version, frames, processors, spaces = map(int, words[1:5])
-    sizes = ALL_SIZES if version == 1 else sizes_of(words[5].decode())
-    forms = call_forms(version, processors, spaces)
-    daemon, first = daemon_of(lines)
-    last = end_behind(lines, first, forms)
+    daemon = daemon_line(lines[1]) if len(lines) > 1 else None
+    plan = plan_of(words, daemon)
+    first = 1 if daemon is None else 2
+    last = end_behind(lines, first, call_forms(plan.version, plan.processors, plan.spaces))
     if len(lines) > last + 1 or rest:
         raise Refusal('line %d: after' % (last + 2))
-    return Trace(version, frames, processors, spaces, sizes, daemon, tuple(call_of(line.split(b' ')) for line in lines[first:last]))
+    return replace(plan, lines=tuple(call_of(line.split(b' ')) for line in lines[first:last]))
+
+
+def plan_of(words: List[bytes], daemon: Optional[Daemon]) -> Trace:
+    """The trace without a call whose first line has these words, with this daemon."""
+    version, frames, processors, spaces = map(int, words[1:5])
+    sizes = ALL_SIZES if version == 1 else sizes_of(words[5].decode())
+    return Trace(version, frames, processors, spaces, sizes, daemon, ())
 
 
 def sizes_of(word: str) -> Sizes:
@@ -114,13 +121,13 @@ def refuse(number: int, cause: Optional[str]) -> None:
         raise Refusal('line %d: %s' % (number, cause))
 
 
-def daemon_of(lines: List[bytes]) -> Tuple[Optional[Daemon], int]:
-    """The daemon of the second line, where it has one, and where the calls begin."""
-    words = lines[1].split(b' ') if len(lines) > 1 else []
+def daemon_line(line: bytes) -> Optional[Daemon]:
+    """The daemon of the second line, where it has one."""
+    words = line.split(b' ')
     if not has_form(words, DAEMON):
-        return None, 1
+        return None
     refuse(2, cause_of(words, [DAEMON]))
-    return Daemon(int(words[1]), int(words[2])), 2
+    return Daemon(int(words[1]), int(words[2]))
 
 
 def end_behind(lines: List[bytes], first: int, forms: List[Form]) -> int:

@@ -1,0 +1,1 @@
+"""Long traces whose counts are reckoned as they are drawn."""

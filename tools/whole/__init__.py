@@ -1,0 +1,1 @@
+"""Tables of whole programs, traced as they run."""
