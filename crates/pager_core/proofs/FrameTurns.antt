@@ -1,51 +1,39 @@
 -- A turn whose step is made under the frames' lock alone, which changes no space.
-use Rattle.std.proofs.Common.{◌≡◌, ◌≢◌, ℕ, ◌<◌, length, slice_get, Option, Some, None, IfSome, refl, sym, subst, ◌∙◌, inl, inr}
+use Rattle.std.proofs.Common.{◌≡◌, ◌≢◌, ℕ, List, [], ◌∷◌, ◌++◌, slice_get, Option, Some, None, refl, sym, subst, ◌∙◌, inl, inr}
+use Rattle.std.specs.List.{AllByRecursion}
 use Rattle.std.proofs.lemmas.Bool.{cases_eq}
 use Rattle.std.proofs.lemmas.Option.{none-some, same_Some}
+use Rattle.pager_model.specs.declared.entry.Entry.{Entry}
+use Rattle.pager_model.specs.FrameStates.{FrameState}
 use Rattle.pager_model.specs.Legal.{entries_in}
-use Rattle.pager_model.specs.Settings.{mark_of}
+use Rattle.pager_model.specs.Settings.{Given, mark_of}
 use Rattle.space_core.specs.Standing.{Kept}
 use Rattle.flight_core.specs.declared.flight.Flight.{Flight}
 use Rattle.flight_core.specs.Flights.{IsReady, IsAtRest}
 use Rattle.flight_core.specs.Rows.{row_of, space_under}
+use Rattle.flight_core.proofs.NextFlights.{keeps_none}
+use Rattle.step_log.specs.Logged.{SteppedOnFrames}
+use Rattle.step_log.proofs.WholeFlights.{nowhere-all}
 use Rattle.pager_core.specs.Running.{flight_at, jobs_at}
-use Rattle.flight_core.specs.Steps.{MakesOnFrames}
 use Rattle.pager_core.proofs.Lands.{Lands}
-use Rattle.step_log.proofs.FlightSteps.{own_kept}
-use Rattle.step_log.proofs.LegalSteps.{space_at-unnamed}
-use Rattle.pager_core.proofs.MachineTurns.{Goes, IsWhole, Keeps, MachineParts, Step, state_then, state_was, victim_within}
-use Rattle.flight_core.proofs.NextFlights.{keeps_none, under_cases}
-
--- what is said of the space of an entry that names none
-no_space : (P : ℕ → Type 0) (o : Option ℕ) → o ≡ None → IfSome o P
-no_space P None is = tt
-no_space P (Some s) is = absurd (none-some s (sym is))
+use Rattle.pager_core.proofs.Lists.{one_in}
+use Rattle.pager_core.proofs.MachineTurns.{Goes, Grows, Grows-by, IsWhole, Keeps, MachineParts, Step, history_is, state_then, state_was, step_by}
 
 -- The actor's flight makes an entry under the frames' lock alone, in a machine that is whole.
 pub record TurnsOnFrames (m : MachineParts) (step : Step) : Type 0 where
   pub whole : IsWhole m
   pub flies : flight_at m.run.flights step.actor ≡ Some step.old
   pub under : space_under (row_of step.old).needs ≡ None
-  pub makes : MakesOnFrames step.old step.new m.pool step.after step.entry
+  pub grows : Grows m step
+  pub no_space : step.entry.space ≡ None
+  pub keeps_none : (row_of step.new).keeps ≡ None
 
 module _ (m : MachineParts) (step : Step) (turns : TurnsOnFrames m step) where
   same_state : (t : ℕ) → state_then m step t ≡ state_was m t
-  same_state t = space_at-unnamed m.run.given (entries_in m.run.history) step.entry t turns.makes.no_space
+  same_state t = nowhere-all m.run.given t (entries_in m.run.history) (step.entry ∷ []) (turns.no_space, tt)
 
   keeps_no : (t : ℕ) → Keeps step.new t → ⊥
-  keeps_no t keeps = none-some t (sym turns.makes.keeps_none ∙ keeps)
-
-  under_within : (t : ℕ) → space_under (row_of step.new).needs ≡ Some t → t < length m.spaces
-  under_within t is =
-      elim (under_cases step.new t is) [
-        | inl own ↦
-            subst (λ o. IfSome o (λ k. k < length m.spaces)) (sym (own_kept turns.makes.entry.same_work) ∙ own)
-            (turns.whole.flights step.actor step.old turns.flies).on
-        | inr other ↦ elim other [
-          | inl keeps ↦ absurd (keeps_no t keeps)
-          | inr out ↦ subst (λ n. n < length m.spaces) (sym out.2) (victim_within m step turns.whole turns.makes.entry out.0 out.1)
-        ]
-      ]
+  keeps_no t keeps = none-some t (sym turns.keeps_none ∙ keeps)
 
   -- nor did it keep one before
   kept_no : (t : ℕ) → (row_of step.old).keeps ≡ Some t → ⊥
@@ -68,17 +56,35 @@ module _ (m : MachineParts) (step : Step) (turns : TurnsOnFrames m step) where
       → Goes m step m.spaces o
   Goes-on_frames o lands = record {
     flies = turns.flies;
-    entry = turns.makes.entry;
-    fits = turns.makes.fits;
+    grows = turns.grows;
     lands = lands;
-    space_in = no_space _ step.entry.space turns.makes.no_space;
-    space_allows = no_space _ step.entry.space turns.makes.no_space;
     count = refl;
     spaces_are = turns.whole.space_is;
-    under = under_within;
     apart = λ t d g keeps other flies' own. keeps_no t keeps;
     own_ready = λ t kept keeps at. absurd (keeps_no t keeps);
     others_ready = λ t d g kept other flies' keeps at. subst (λ st. IsReady g kept st) (sym (same_state t))
         ((turns.whole.flights d g flies').keeps t kept keeps at);
     rest = λ t kept at own none. rest t kept at none;
   }
+
+-- A step on the frames, whose entry the log took.
+module _ {L : Type 0} (stands : L → Given → List Entry → Type 0) (m : MachineParts) (c : ℕ) (old new : Flight) (after : FrameState) (log : L)
+    (stepped : SteppedOnFrames stands m.run.given (entries_in m.run.history) 0 log old new after) where
+  abbrev pub step_on : Step
+  step_on = step_by m c old new after stepped.piece stepped.history stepped.one stepped.grown
+
+  pub stands_on : stands log m.run.given (entries_in m.run.history ++ step_on.entry ∷ [])
+  stands_on =
+      subst (stands log m.run.given) (history_is m c old new after stepped.piece stepped.history stepped.one stepped.grown) stepped.stands_for
+
+  pub TurnsOnFrames-of : IsWhole m → flight_at m.run.flights c ≡ Some old → space_under (row_of old).needs ≡ None → TurnsOnFrames m step_on
+  TurnsOnFrames-of whole flies under =
+      record {
+        whole = whole;
+        flies = flies;
+        under = under;
+        grows = Grows-by m c old new after stepped.piece stepped.history stepped.one stepped.grown stepped.legal stepped.flying stepped.frames
+            stepped.added stepped.between;
+        no_space = (subst (AllByRecursion (λ (e : Entry). e.space ≡ None)) (one_in stepped.piece stepped.one).1 stepped.nowhere).0;
+        keeps_none = stepped.keeps_none;
+      }

@@ -212,12 +212,3 @@ module _ (mark : ℕ) (jobs : List Job) (f : Flight) (are : AreOfMark mark jobs)
       by Going is = subst (Lands mark jobs f) (sym (going is)) (Lands-going mark jobs f job is)
       by TurnEnded is = ended (ap has_ended is)
       by (Answered r) is = ended (ap has_ended is)
-
-  -- and there is always a way
-  pub lands : (o : Option Flight) × Lands mark jobs f o
-  lands = by (row_of f).outcome refl
-    where
-      by : (r : Outcome) → (row_of f).outcome ≡ r → (o : Option Flight) × Lands mark jobs f o
-      by Going is = (Some f, Lands-going mark jobs f job is)
-      by TurnEnded is = (flight_of f.processor (f.number + 1) jobs, Lands-ended mark jobs f are job fits (ap has_ended is))
-      by (Answered r) is = (flight_of f.processor (f.number + 1) jobs, Lands-ended mark jobs f are job fits (ap has_ended is))

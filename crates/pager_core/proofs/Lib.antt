@@ -1,6 +1,7 @@
 pub mod Lists
 pub mod Lands
 pub mod MachineTurns
+pub mod MoreEntries
 pub mod SpaceTurns
 pub mod FrameTurns
 pub mod SilentSteps

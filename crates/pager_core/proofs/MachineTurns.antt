@@ -1,46 +1,46 @@
 -- A machine after a turn, whatever its step was made under.
 use Rattle.std.proofs.Common.{◌≡◌, ◌≢◌, ℕ, zero, suc, ◌+◌, ◌<◌, ◌≤◌, true, List, [], ◌∷◌, ◌++◌, length, take, get_or, slice_get, Option, Some, None, IfSome, option_to_list, refl, ap, sym, subst, ◌∙◌, inl, inr, arith, ◌⊎◌}
 use Rattle.std.specs.List.{enumerate_from, range_with_len}
-use Rattle.std.proofs.lemmas.Bool.{cases_eq, cases_lt, eq-eqb, ne_eqb}
+use Rattle.std.proofs.lemmas.Bool.{cases_eq, eq-eqb, ne_eqb}
 use Rattle.std.proofs.lemmas.List.{append-nil, map_push, take_more, length-take-le, length_push, get_or-set_same, get_or-set_other}
-use Rattle.std.proofs.lemmas.Option.{none-some, slice_get_within, get_or_from_slice_get}
+use Rattle.std.proofs.lemmas.Option.{slice_get_within, get_or_from_slice_get}
 use Rattle.std.proofs.Math.ListN.{set, length-set}
 use Rattle.pager_model.specs.declared.call.Call.{Call}
 use Rattle.pager_model.specs.declared.entry.Entry.{Entry}
 use Rattle.pager_model.specs.declared.entry.Numbered.{Numbered}
-use Rattle.pager_model.specs.declared.entry.Victim.{Victim}
 use Rattle.pager_model.specs.declared.reply.Reply.{Reply}
 use Rattle.pager_model.specs.declared.trace.Job.{Job}
 use Rattle.pager_model.specs.declared.trace.Job.TheVariants.{Call as MakesCall, Turn}
 use Rattle.pager_model.specs.Agreement.{Agrees}
 use Rattle.pager_model.specs.Entries.{entries_of, is_of}
-use Rattle.pager_model.specs.FrameStates.{FrameState, frame_of}
-use Rattle.pager_model.specs.Legal.{IsLegal, space_at, frames_at, progress_at, entries_in, MayFollow}
-use Rattle.pager_model.specs.Order.{Progress, progress_by}
+use Rattle.pager_model.specs.FrameStates.{FrameState}
+use Rattle.pager_model.specs.Legal.{IsLegal, space_at, frames_at, progress_at, entries_in}
+use Rattle.pager_model.specs.Order.{Progress}
 use Rattle.pager_model.specs.Settings.{mark_of}
-use Rattle.pager_model.specs.Showing.{answers_in, answer_in}
-use Rattle.pager_model.specs.SpaceStates.{SpaceState, SpaceAllows}
-use Rattle.pager_model.proofs.Histories.{IsLegal-push, progress_at-own, progress_at-other, filter-push_in, filter-push_out}
+use Rattle.pager_model.specs.Showing.{answers_in}
+use Rattle.pager_model.specs.SpaceStates.{SpaceState}
+use Rattle.pager_model.proofs.Histories.{progress_at-other, filter-push_in, filter-push_out}
 use Rattle.pager_model.proofs.Lists.{get_or_within}
 use Rattle.pager_model.proofs.Ranges.{range_with_len-more}
 use Rattle.pager_laws.proofs.HistoryLists.{answers-push, filter_map-push}
-use Rattle.pager_laws.proofs.LegalHistories.{Agrees-legal, IsKept-legal}
-use Rattle.pager_laws.proofs.UnknownSpaces.{base-unknown}
+use Rattle.pager_laws.proofs.LegalHistories.{Agrees-legal}
 use Rattle.space_core.specs.Standing.{Kept}
 use Rattle.flight_core.specs.declared.flight.Flight.{Flight}
 use Rattle.flight_core.specs.declared.flight.Purpose.{Purpose}
 use Rattle.flight_core.specs.declared.flight.Purpose.TheVariants.{Call as OfCall, Turn as OfTurn}
 use Rattle.flight_core.specs.declared.flight.Phase.{Phase}
-use Rattle.flight_core.specs.declared.flight.Phase.TheVariants.{Ended, Out}
+use Rattle.flight_core.specs.declared.flight.Phase.TheVariants.{Ended}
 use Rattle.flight_core.specs.Flights.{Fits, IsFor, IsReady, IsAtRest}
 use Rattle.pager_core.specs.Machines.{CanDo, all_left, IsFlying, IsSpaceOf, IsMachine}
 use Rattle.flight_core.specs.Rows.{Outcome, Going, TurnEnded, Answered, call_in, has_ended, mark_in, own_space, reply_in, row_of, is_between, space_under}
 use Rattle.pager_core.specs.Running.{Running, AreOfMark, FitsMark, call_of, calls_among, job_in, jobs_at, flight_at, left_behind, progress_by_flight, progress_of_actor, kept_by, entries_left, left_at, IsNumbered, IsLawful}
-use Rattle.flight_core.specs.Steps.{MakesEntry, answer_made}
-use Rattle.pager_core.proofs.Lists.{enumerate-push, sum_by-lower}
-use Rattle.step_log.proofs.LegalSteps.{MayFollow-step, frames_at-step, victim_placed}
-use Rattle.pager_core.proofs.Lands.{Fits-for, Lands, Starts-for, ended_progress, job_kept, mark_of_job, own-for, under-for}
+use Rattle.flight_core.specs.Steps.{answer_made}
+use Rattle.step_log.specs.Flying.{IsFlying as FliesOn}
+use Rattle.step_log.specs.Logged.{Added}
+use Rattle.pager_core.proofs.Lists.{enumerate-push, one_in, sum_by-lower}
+use Rattle.pager_core.proofs.Lands.{Fits-for, Lands, Starts-for, ended_progress, job_kept, own-for, under-for}
 use Rattle.step_log.proofs.FlightSteps.{own_kept}
+use Rattle.step_log.proofs.Later.{later_none}
 use Rattle.flight_core.proofs.NextFlights.{ended_by, made_going, turn_goes_on}
 
 -- The parts of a machine: its run, its spaces, its frames, and the room of its history.
@@ -85,19 +85,42 @@ run_after run c e o =
 abbrev pub Keeps : Flight → ℕ → Type 0
 Keeps f t = (row_of f).keeps ≡ Some t
 
+-- A step added its entry: after that the history is legal, and the flight goes on where it leads.
+pub record Grows (m : MachineParts) (step : Step) : Type 0 where
+  pub legal : IsLegal m.run.given (entries_in m.run.history ++ step.entry ∷ [])
+  pub flying : FliesOn m.run.given (entries_in m.run.history ++ step.entry ∷ []) 0 step.new
+  pub frames : step.after ≡ frames_at m.run.given (entries_in m.run.history ++ step.entry ∷ [])
+  pub added : Added step.old step.new (step.entry ∷ [])
+  pub between : is_between step.new.purpose step.new.phase ≡ true
+
+-- What is made in a turn, where the log of a step took some entries, of which there is one.
+module _ (m : MachineParts) (c : ℕ) (old new : Flight) (after : FrameState) (piece history : List Entry) (one : length piece ≡ 1)
+    (grown : history ≡ entries_in m.run.history ++ piece) where
+  abbrev pub step_by : Step
+  step_by = record { actor = c; old = old; new = new; entry = (one_in piece one).0; after = after }
+
+  pub history_is : history ≡ entries_in m.run.history ++ step_by.entry ∷ []
+  history_is = grown ∙ ap (λ p. entries_in m.run.history ++ p) (one_in piece one).1
+
+  pub Grows-by : IsLegal m.run.given history → FliesOn m.run.given history 0 new → after ≡ frames_at m.run.given history
+      → Added old new piece → is_between new.purpose new.phase ≡ true → Grows m step_by
+  Grows-by legal flying frames added between =
+      record {
+        legal = subst (IsLegal m.run.given) history_is legal;
+        flying = subst (λ h. FliesOn m.run.given h 0 new) history_is flying;
+        frames = frames ∙ ap (frames_at m.run.given) history_is;
+        added = subst (Added old new) (one_in piece one).1 added;
+        between = between;
+      }
+
 -- The actor's flight makes an entry, and this comes of it; the spaces after it are these.
 pub record Goes (m : MachineParts) (step : Step) (spaces' : List Kept) (o : Option Flight) : Type 0 where
   pub flies : flight_at m.run.flights step.actor ≡ Some step.old
-  pub entry : MakesEntry step.old step.new m.pool step.after step.entry
-  pub fits : Fits step.new
+  pub grows : Grows m step
   pub lands : Lands (mark_of m.run.given step.actor) (jobs_at m.run.jobs step.actor) step.new o
-  -- the entry's space, where it names one, is there and allows it
-  pub space_in : IfSome step.entry.space (λ s. s < length m.run.given.told)
-  pub space_allows : IfSome step.entry.space (λ s. SpaceAllows (state_was m s) step.entry)
   pub count : length spaces' ≡ length m.spaces
   pub spaces_are : (t : ℕ) (kept : Kept) → slice_get spaces' t ≡ Some kept → IsSpaceOf m.run t kept
-  -- the flight's next step is made under a space that is there, and it keeps none that another flight keeps
-  pub under : (t : ℕ) → space_under (row_of step.new).needs ≡ Some t → t < length m.spaces
+  -- the flight keeps no space that another flight keeps
   pub apart : (t d : ℕ) (g : Flight) → Keeps step.new t → d ≢ step.actor → flight_at m.run.flights d ≡ Some g → (row_of g).keeps ≢ Some t
   -- it is ready in the space that it keeps, as is each other flight, and a space that none keeps is at rest
   pub own_ready : (t : ℕ) (kept : Kept) → Keeps step.new t → slice_get spaces' t ≡ Some kept → IsReady step.new kept (state_then m step t)
@@ -107,29 +130,13 @@ pub record Goes (m : MachineParts) (step : Step) (spaces' : List Kept) (o : Opti
       → ((d : ℕ) (g : Flight) → d ≢ step.actor → flight_at m.run.flights d ≡ Some g → (row_of g).keeps ≢ Some t)
       → IsAtRest kept (state_then m step t)
 
--- the victim of a claim is of a space that is there
-pub victim_within : (m : MachineParts) (step : Step) → IsWhole m → MakesEntry step.old step.new m.pool step.after step.entry → (v : Victim)
-    → step.new.phase ≡ Out v → v.space < length m.spaces
-victim_within m step whole makes v is =
-    let legal = whole.lawful.legal in
-    let resident =
-    (IsKept-legal m.run.given (entries_in m.run.history) legal).agrees v.space v.page
-    ∙ ap (λ p. frame_of p v.space v.page) (sym whole.frames)
-    ∙ victim_placed step.old step.new m.pool step.after step.entry v makes is in
-    let all = whole.told in
-    elim (cases_lt v.space (length m.run.given.told)) [
-      | inl below ↦ omega (arith, all, below)
-      | inr past ↦
-          absurd (none-some v.frame (sym (base-unknown m.run.given (entries_in m.run.history) legal v.space v.page past) ∙ resident))
-    ]
-
 -- Histories.
 
 pub entries-push : (history : List Numbered) (number : ℕ) (e : Entry)
     → entries_in (history ++ record { number = number; entry = e } ∷ []) ≡ entries_in history ++ e ∷ []
 entries-push history number e = map_push (λ (x : Numbered). x.entry) history (record { number = number; entry = e })
 
-numbered-push : (history : List Numbered) (e : Entry) → IsNumbered history
+pub numbered-push : (history : List Numbered) (e : Entry) → IsNumbered history
     → IsNumbered (history ++ record { number = length history; entry = e } ∷ [])
 numbered-push history e numbered =
     let n : Numbered = record { number = length history; entry = e } in
@@ -186,7 +193,7 @@ pub record AnswersJob (mark : ℕ) (jobs : List Job) (f f' : Flight) (entries : 
   pub job : slice_get jobs f.number ≡ Some (job_in f.purpose)
   pub same : job_in f'.purpose ≡ job_in f.purpose
   pub fits : Fits f'
-  pub answer : answer_in e.what ≡ answer_made f' (reply_in (row_of f').outcome)
+  pub answer : answers_in (e ∷ []) ≡ option_to_list (answer_made f' (reply_in (row_of f').outcome))
   pub so_far : answers_in entries ≡ enumerate_from 0 (calls_among (take (row_of f).progress.made jobs))
 
 -- A flight's answer is one more, and its other entries are none.
@@ -197,7 +204,7 @@ module _ (mark : ℕ) (jobs : List Job) (f f' : Flight) (entries : List Entry) (
   so_many : answers_in (entries ++ e ∷ []) ≡ enumerate_from 0 (calls_among (take f.number jobs))
       ++ option_to_list (answer_made f' (reply_in (row_of f').outcome))
   so_many =
-      answers-push entries e ∙ ap (λ o. answers_in entries ++ option_to_list o) on.answer
+      answers-push entries e ∙ ap (λ l. answers_in entries ++ l) (sym (answers-push [] e) ∙ on.answer)
       ∙ ap (λ l. l ++ option_to_list (answer_made f' (reply_in (row_of f').outcome)))
       (on.so_far ∙ ap (λ n. enumerate_from 0 (calls_among (take n jobs))) was)
 
@@ -277,32 +284,11 @@ module _ (m : MachineParts) (step : Step) (spaces' : List Kept) (o : Option Flig
   processor_in : M → G → step.actor < length m.run.jobs
   processor_in machine goes = (let at = actor_in machine goes in let known = machine.known in omega (arith, at, known))
 
-  -- the setting gives each processor the mark of its job
-  marks : M → G → mark_of m.run.given step.old.processor ≡ mark_in step.old.purpose
-  marks machine goes =
-      let own = (flying machine goes).processor in
-      ap (mark_of m.run.given) own ∙ mark_of_job (mark_of m.run.given step.actor) step.old.purpose
-      (machine.kinds step.actor step.old.number (job_in step.old.purpose) (flying machine goes).job)
-
-  -- where the actor was
-  progress_was : M → G → progress_at m.run.given h step.actor ≡ Some (row_of step.old).progress
-  progress_was machine goes =
-      machine.lawful.progress step.actor (processor_in machine goes)
-      ∙ ap (λ x. Some (progress_by_flight (mark_of m.run.given step.actor) (jobs_at m.run.jobs step.actor) x)) goes.flies
-
   own_entry : M → G → step.entry.processor ≡ step.actor
-  own_entry machine goes = goes.entry.processor ∙ (flying machine goes).processor
+  own_entry machine goes = goes.grows.added.own.0 ∙ (flying machine goes).processor
 
-  may_follow : M → G → MayFollow m.run.given h step.entry
-  may_follow machine goes =
-      let own = (flying machine goes).processor in
-      MayFollow-step m.run.given h step.old step.new m.pool step.after step.entry goes.entry goes.space_in
-      goes.space_allows (marks machine goes)
-      (let at = processor_in machine goes in let all = machine.marks in omega (arith, own, at, all))
-      machine.frames (subst (λ n. progress_at m.run.given h n ≡ Some (row_of step.old).progress) (sym own) (progress_was machine goes))
-
-  legal : M → G → IsLegal m.run.given (h ++ step.entry ∷ [])
-  legal machine goes = IsLegal-push m.run.given h step.entry machine.lawful.legal (may_follow machine goes)
+  processor_then : M → G → step.new.processor ≡ step.actor
+  processor_then machine goes = goes.grows.added.same_work.processor ∙ (flying machine goes).processor
 
   -- the flights after it
   flight_own : M → G → flight_at new.flights step.actor ≡ o
@@ -321,10 +307,9 @@ module _ (m : MachineParts) (step : Step) (spaces' : List Kept) (o : Option Flig
 
   progress_own : M → G → progress_at m.run.given (h ++ step.entry ∷ []) step.actor ≡ Some (progress_of_actor new step.actor)
   progress_own machine goes =
-      progress_at-own m.run.given h step.entry step.actor (eq-eqb step.entry.processor step.actor (own_entry machine goes))
-      ∙ ap (λ p. progress_by p step.entry) (progress_was machine goes)
-      ∙ goes.entry.in_order
-      ∙ ap Some (sym goes.lands.progress)
+      ap (progress_at m.run.given (h ++ step.entry ∷ [])) (sym (processor_then machine goes))
+      ∙ goes.grows.flying.progress
+      ∙ ap Some (later_none (row_of step.new).progress ∙ sym goes.lands.progress)
       ∙ ap (λ x. Some (progress_by_flight (mark_of m.run.given step.actor) (jobs_at m.run.jobs step.actor) x))
       (sym (flight_own machine goes))
 
@@ -342,7 +327,7 @@ module _ (m : MachineParts) (step : Step) (spaces' : List Kept) (o : Option Flig
   answers_own : M → G → answers_in (entries_of step.actor (h ++ step.entry ∷ [])) ≡ answered step.actor (progress_of_actor new step.actor)
   answers_own machine goes =
       let flies = flying machine goes in
-      let same = goes.entry.same_work in
+      let same = goes.grows.added.same_work in
       ap answers_in (filter-push_in (is_of step.actor) h step.entry (eq-eqb step.entry.processor step.actor (own_entry machine goes)))
       ∙ answers-step (mark_of m.run.given step.actor) (jobs_at m.run.jobs step.actor) step.old step.new (entries_of step.actor h) step.entry
       (record {
@@ -351,8 +336,8 @@ module _ (m : MachineParts) (step : Step) (spaces' : List Kept) (o : Option Flig
         number = same.number;
         job = flies.job;
         same = job_kept same;
-        fits = goes.fits;
-        answer = goes.entry.answer;
+        fits = goes.grows.flying.fits;
+        answer = goes.grows.added.answers;
         so_far = machine.lawful.answers step.actor (processor_in machine goes)
             ∙ ap (λ x. answered step.actor (progress_by_flight (mark_of m.run.given step.actor) (jobs_at m.run.jobs step.actor) x))
             goes.flies;
@@ -380,24 +365,26 @@ module _ (m : MachineParts) (step : Step) (spaces' : List Kept) (o : Option Flig
   flying_own machine goes g is =
       let job = goes.lands.job g is in
       record {
-        processor = goes.lands.processor g is ∙ goes.entry.same_work.processor ∙ (flying machine goes).processor;
+        processor = goes.lands.processor g is ∙ processor_then machine goes;
         job = job;
         on = subst (λ n. IfSome (own_space g.purpose) (λ s. s < n)) (sym goes.count) (elim (goes.lands.same g is) [
           | inl same ↦
               subst (λ own. IfSome own (λ s. s < length m.spaces))
-              (sym (ap (λ (x : Flight). own_space x.purpose) same ∙ own_kept goes.entry.same_work)) (flying machine goes).on
+              (sym (ap (λ (x : Flight). own_space x.purpose) same ∙ own_kept goes.grows.added.same_work)) (flying machine goes).on
           | inr start ↦
               subst (λ (x : Flight). IfSome (own_space x.purpose) (λ s. s < length m.spaces)) (sym start.3)
               (own-for (length m.spaces) step.new.processor start.0 start.1 (machine.jobs step.actor start.0 start.1 start.2))
         ]);
         fits = elim (goes.lands.same g is) [
-          | inl same ↦ subst Fits (sym same) goes.fits
+          | inl same ↦ subst Fits (sym same) goes.grows.flying.fits
           | inr start ↦
               subst Fits (sym start.3) (Fits-for (length m.spaces) step.new.processor start.0 start.1
               (machine.jobs step.actor start.0 start.1 start.2))
         ];
         under = λ t under. subst (λ n. t < n) (sym goes.count) (elim (goes.lands.same g is) [
-          | inl same ↦ goes.under t (subst (λ (x : Flight). space_under (row_of x).needs ≡ Some t) same under)
+          | inl same ↦
+              subst (λ n. t < n) machine.told
+              (goes.grows.flying.under t (subst (λ (x : Flight). space_under (row_of x).needs ≡ Some t) same under))
           | inr start ↦
               under-for (length m.spaces) step.new.processor start.0 start.1 t (machine.jobs step.actor start.0 start.1 start.2)
               (subst (λ (x : Flight). space_under (row_of x).needs ≡ Some t) start.3 under)
@@ -471,9 +458,9 @@ module _ (m : MachineParts) (step : Step) (spaces' : List Kept) (o : Option Flig
   IsLawful-turn machine goes =
       let more = sym (entries-push m.run.history (length m.run.history) step.entry) in
       record {
-        legal = subst (IsLegal m.run.given) more (legal machine goes);
+        legal = subst (IsLegal m.run.given) more goes.grows.legal;
         numbered = numbered-push m.run.history step.entry machine.lawful.numbered;
-        agrees = subst (Agrees m.run.given) more (Agrees-legal m.run.given (h ++ step.entry ∷ []) (legal machine goes));
+        agrees = subst (Agrees m.run.given) more (Agrees-legal m.run.given (h ++ step.entry ∷ []) goes.grows.legal);
         progress = λ d below. subst (λ l. progress_at m.run.given l d ≡ Some (progress_of_actor new d)) more
             (elim (cases_eq d step.actor) [
               | inl is ↦
@@ -490,7 +477,7 @@ module _ (m : MachineParts) (step : Step) (spaces' : List Kept) (o : Option Flig
             ]);
         between = λ d g flies. elim (flight_after machine goes d g flies) [
           | inl own ↦ elim (goes.lands.same g own.1) [
-            | inl same ↦ subst (λ (x : Flight). is_between x.purpose x.phase ≡ true) (sym same) goes.entry.between
+            | inl same ↦ subst (λ (x : Flight). is_between x.purpose x.phase ≡ true) (sym same) goes.grows.between
             | inr start ↦
                 subst (λ (x : Flight). is_between x.purpose x.phase ≡ true) (sym start.3)
                 (Starts-for step.new.processor start.0 (mark_of m.run.given step.actor) start.1
@@ -510,9 +497,9 @@ module _ (m : MachineParts) (step : Step) (spaces' : List Kept) (o : Option Flig
       let now_left : left_at new step.actor ≡ entries_left (jobs_at m.run.jobs step.actor) o =
       ap (entries_left (jobs_at m.run.jobs step.actor)) (flight_own machine goes) in
       let left = goes.lands.left in
-      let fewer = goes.entry.fewer in
+      let fewer : 1 + (row_of step.new).entries ≤ (row_of step.old).entries = goes.grows.added.spent in
       let number : left_behind (jobs_at m.run.jobs step.actor) (step.new.number + 1) ≡ left_behind (jobs_at m.run.jobs step.actor)
-      (step.old.number + 1) = ap (λ n. left_behind (jobs_at m.run.jobs step.actor) (n + 1)) goes.entry.same_work.number in
+      (step.old.number + 1) = ap (λ n. left_behind (jobs_at m.run.jobs step.actor) (n + 1)) goes.grows.added.same_work.number in
       omega (arith, was_left, now_left, left, fewer, number)
 
   pub all_left-turn : M → G → all_left new < all_left m.run
@@ -535,7 +522,7 @@ module _ (m : MachineParts) (step : Step) (spaces' : List Kept) (o : Option Flig
         told = machine.told ∙ sym goes.count;
         faults = machine.faults ∙ sym goes.count;
         known = length-set m.run.flights step.actor o ∙ machine.known;
-        frames = frames_at-step m.run.given h step.old step.new m.pool step.after step.entry goes.entry machine.frames
+        frames = goes.grows.frames
             ∙ ap (frames_at m.run.given) (sym (entries-push m.run.history (length m.run.history) step.entry));
         few_jobs = machine.few_jobs;
         few_spaces = subst (λ n. n ≤ 16) (sym goes.count) machine.few_spaces;
@@ -546,7 +533,3 @@ module _ (m : MachineParts) (step : Step) (spaces' : List Kept) (o : Option Flig
         room = (let room = machine.room in omega (arith, room, less, count));
         few = (let few = machine.few in omega (arith, few, less, count));
       }
-
-  -- the history has room for the entry, since something was left
-  pub room_left : M → G → length m.run.history < m.capacity
-  room_left machine goes = (let less = all_left-turn machine goes in let room = machine.room in omega (arith, less, room))

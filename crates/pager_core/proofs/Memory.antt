@@ -15,8 +15,11 @@ use Rattle.flight_core.specs.Lacking.{NeverLacks, NoneLacked, is_lacking}
 use Rattle.flight_core.specs.Rows.{Outcome, Going, TurnEnded, Answered, has_ended, reply_in, row_of}
 use Rattle.flight_core.specs.Steps.{reply_said}
 use Rattle.flight_core.proofs.WantOfMemory.{replied}
+use Rattle.pager_laws.proofs.HistoryLists.{filter_map-push}
+use Rattle.step_log.specs.Logged.{Added}
 use Rattle.pager_core.specs.Machines.{HasMemory}
 use Rattle.pager_core.specs.Running.{Running, first_flights, flight_at, flight_for, flight_of, jobs_at}
+use Rattle.pager_core.proofs.Lists.{same_option}
 use Rattle.pager_core.proofs.MachineTurns.{MachineParts, Step, entries-push, run_after}
 use Rattle.pager_core.proofs.WholeTurns.{HasNext}
 
@@ -60,9 +63,12 @@ module _ (m : MachineParts) (step : Step) (o : Option Flight) where
   ]
 
   pub HasMemory-turned : HasMemory m.run → flight_at m.run.flights step.actor ≡ Some step.old → NeverLacks step.old.phase step.new.phase
-      → reply_said step.entry.what ≡ reply_in (row_of step.new).outcome → HasNext m step o → HasMemory (run_after m.run step.actor step.entry o)
-  HasMemory-turned has flies never reply next =
+      → Added step.old step.new (step.entry ∷ []) → HasNext m step o → HasMemory (run_after m.run step.actor step.entry o)
+  HasMemory-turned has flies never added next =
       let still = never (has.flights step.actor step.old flies) in
+      let reply : reply_said step.entry.what ≡ reply_in (row_of step.new).outcome =
+      same_option (reply_said step.entry.what) (reply_in (row_of step.new).outcome)
+      (sym (filter_map-push (λ (e : Entry). reply_said e.what) [] step.entry) ∙ added.replies) in
       record {
         flights = λ c f is. elim (set_cases m.run.flights step.actor c o f is) [
           | inl own ↦ next_has next still f own.1

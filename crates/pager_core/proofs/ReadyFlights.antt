@@ -1,30 +1,26 @@
--- Before a turn's steps: the flight is ready in its space, which agrees with the frames.
-use Rattle.std.proofs.Common.{◌≡◌, ℕ, ◌+◌, ◌^◌, ◌<◌, ◌≤◌, length, slice_get, Option, Some, None, refl, ap, sym, subst, ◌∙◌, inl, inr, arith}
+-- Before a turn's steps: the flight is where the machine's history leads, and ready in its space.
+use Rattle.std.proofs.Common.{◌≡◌, ℕ, ◌+◌, ◌-◌, ◌^◌, ◌<◌, ◌≤◌, length, slice_get, Option, Some, None, IfSome, refl, ap, sym, subst, ◌∙◌, inl, inr, arith}
 use Rattle.std.proofs.lemmas.Bool.{cases_eq}
 use Rattle.std.proofs.lemmas.Option.{same_Some, slice_get_within}
-use Rattle.std.proofs.Math.ListN.{length-map, set}
-use Rattle.pager_model.specs.declared.entry.Entry.{Entry}
+use Rattle.std.proofs.Math.ListN.{length-map}
 use Rattle.pager_model.specs.declared.entry.Numbered.{Numbered}
-use Rattle.pager_model.specs.Agreement.{OwnsBy}
-use Rattle.pager_model.specs.FrameStates.{FrameState, frame_of}
-use Rattle.pager_model.specs.Legal.{frames_at, entries_in}
+use Rattle.pager_model.specs.FrameStates.{FrameState}
+use Rattle.pager_model.specs.Legal.{frames_at, progress_at, entries_in}
 use Rattle.pager_model.specs.Settings.{mark_of}
 use Rattle.pager_model.proofs.Lists.{get_or_within}
-use Rattle.pager_laws.specs.Laid.{IsSound}
 use Rattle.pager_laws.proofs.HistoryLists.{entries-few}
-use Rattle.pager_laws.proofs.LegalHistories.{IsKept-legal, OwnsBy-legal}
 use Rattle.space_core.specs.Standing.{Kept}
 use Rattle.flight_core.specs.declared.flight.Flight.{Flight}
 use Rattle.flight_core.specs.declared.flight.Needs.TheVariants.{Frames}
-use Rattle.flight_core.specs.Flights.{Fits, IsReady, IsAtRest}
-use Rattle.flight_core.specs.Rows.{row_of, space_under}
-use Rattle.pager_core.specs.Running.{job_in, jobs_at, flight_at, progress_by_flight, IsKeptByOther}
-use Rattle.flight_core.specs.Steps.{AreAgreed, Makes, MakesOnFrames}
-use Rattle.pager_core.proofs.FrameTurns.{Goes-on_frames}
-use Rattle.pager_core.proofs.Lands.{Lands, job_kept, lands}
-use Rattle.pager_core.proofs.MachineTurns.{IsWhole, MachineParts, Step, room_left, state_was}
+use Rattle.flight_core.specs.Flights.{IsReady, IsAtRest}
+use Rattle.flight_core.specs.Rows.{own_space, row_of, space_under}
 use Rattle.flight_core.proofs.NextFlights.{anywhere, frames_needed, keeps_under}
-use Rattle.pager_core.proofs.SpaceTurns.{Turns, Goes-in, fits}
+use Rattle.step_log.specs.Flying.{IsFlying as FliesOn, IsHere}
+use Rattle.step_log.proofs.Later.{later_none}
+use Rattle.pager_core.specs.Running.{job_in, jobs_at, flight_at, entries_left, left_at, progress_by_flight, IsKeptByOther}
+use Rattle.pager_core.proofs.Lands.{mark_of_job}
+use Rattle.pager_core.proofs.Lists.{sum_by-within}
+use Rattle.pager_core.proofs.MachineTurns.{IsWhole, MachineParts, state_was}
 
 module _ (m : MachineParts) (c : ℕ) (f : Flight) (machine : IsWhole m) (flies : flight_at m.run.flights c ≡ Some f) where
   processor_within : c < length m.run.jobs
@@ -37,30 +33,17 @@ module _ (m : MachineParts) (c : ℕ) (f : Flight) (machine : IsWhole m) (flies 
       let few = machine.few_jobs c in
       omega (arith, below, few)
 
-  pub sound : IsSound m.run.given.frames (length m.run.given.marks) m.pool
-  sound =
-      subst (IsSound m.run.given.frames (length m.run.given.marks)) (sym machine.frames)
-      (IsKept-legal m.run.given (entries_in m.run.history) machine.lawful.legal).sound
-
-  -- the frames know the processor
-  pub known-machine : f.processor < length m.pool.held
-  known-machine =
+  -- the history has room for what the flight may make still
+  pub room-machine : (row_of f).entries ≤ m.capacity - length m.run.history
+  room-machine =
+      let left : left_at m.run c ≡ entries_left (jobs_at m.run.jobs c) (Some f) = ap (entries_left (jobs_at m.run.jobs c)) flies in
       let at = processor_within in
-      let marks = machine.marks in
-      let own = (machine.flights c f flies).processor in
-      let held = sound.processors_known in
-      omega (arith, at, marks, own, held)
+      let part = sum_by-within (left_at m.run) c 0 (length m.run.jobs) (omega arith) (omega (arith, at)) in
+      let room = machine.room in
+      omega (arith, left, part, room)
 
-  pub OwnsBy-machine : OwnsBy m.pool f.processor (row_of f).progress.doing
-  OwnsBy-machine =
-      let at = processor_within in
-      let marks = machine.marks in
-      let own = (machine.flights c f flies).processor in
-      let progress =
-      machine.lawful.progress c at ∙ ap (λ x. Some (progress_by_flight (mark_of m.run.given c) (jobs_at m.run.jobs c) x)) flies in
-      subst (λ p. OwnsBy p f.processor (row_of f).progress.doing) (sym machine.frames)
-      (subst (λ n. OwnsBy (frames_at m.run.given (entries_in m.run.history)) n (row_of f).progress.doing) (sym own)
-      (OwnsBy-legal m.run.given (entries_in m.run.history) machine.lawful.legal c (row_of f).progress (omega (arith, at, marks)) progress))
+  pub within-machine : length m.run.history ≤ m.capacity
+  within-machine = (let room = machine.room in omega (arith, room))
 
   pub entries-below : m.pool.entries < 2 ^ 45
   entries-below =
@@ -71,12 +54,25 @@ module _ (m : MachineParts) (c : ℕ) (f : Flight) (machine : IsWhole m) (flies 
       let room = machine.few in
       omega (arith, same, few, count, room)
 
-  -- what comes of the flight after a step
-  pub lands_after : (f' : Flight) → f'.number ≡ f.number → job_in f'.purpose ≡ job_in f.purpose → Fits f'
-      → (o : Option Flight) × Lands (mark_of m.run.given c) (jobs_at m.run.jobs c) f' o
-  lands_after f' number job fits =
-      lands (mark_of m.run.given c) (jobs_at m.run.jobs c) f' (machine.kinds c)
-      (ap (slice_get (jobs_at m.run.jobs c)) number ∙ (machine.flights c f flies).job ∙ ap Some (sym job)) fits
+  -- its processor's list has led to where it is
+  pub FliesOn-machine : FliesOn m.run.given (entries_in m.run.history) 0 f
+  FliesOn-machine =
+      let flying = machine.flights c f flies in
+      let own = flying.processor in
+      let at = processor_within in
+      let marks = machine.marks in
+      record {
+        known = omega (arith, own, at, marks);
+        mark = ap (mark_of m.run.given) own
+            ∙ mark_of_job (mark_of m.run.given c) f.purpose (machine.kinds c f.number (job_in f.purpose) flying.job);
+        none_before = λ call. refl;
+        progress = ap (progress_at m.run.given (entries_in m.run.history)) own ∙ machine.lawful.progress c at
+            ∙ ap (λ x. Some (progress_by_flight (mark_of m.run.given c) (jobs_at m.run.jobs c) x)) flies
+            ∙ ap Some (sym (later_none (row_of f).progress));
+        fits = flying.fits;
+        on = subst (λ n. IfSome (own_space f.purpose) (λ s. s < n)) (sym machine.told) flying.on;
+        under = λ s is. subst (λ n. s < n) (sym machine.told) (flying.under s is);
+      }
 
   module _ (s : ℕ) (under : space_under (row_of f).needs ≡ Some s) where
     pub space_within : s < length m.spaces
@@ -111,61 +107,21 @@ module _ (m : MachineParts) (c : ℕ) (f : Flight) (machine : IsWhole m) (flies 
             found = found.1;
           }
 
-      pub IsReady-machine : IsReady f was (state_was m s)
-      IsReady-machine = ready_by (row_of f).keeps refl
-
-      pub AreAgreed-machine : AreAgreed was m.pool
-      AreAgreed-machine =
-          let ready = IsReady-machine in
-          let own = machine.space_is s was at in
+      -- it goes on in the space
+      pub IsHere-machine : IsHere m.run.given (entries_in m.run.history) 0 was f
+      IsHere-machine =
+          let is = machine.space_is s was at in
           record {
-            count = sound.known ∙ sym own.frames;
-            pages = λ page.
-                sym (ready.stands.base page)
-                ∙ (IsKept-legal m.run.given (entries_in m.run.history) machine.lawful.legal).agrees s page
-                ∙ ap (λ st. frame_of st s page) (sym machine.frames)
-                ∙ ap (λ n. frame_of m.pool n page) (sym own.number);
-            sound = subst (λ n. IsSound n (length m.pool.held) m.pool) (sym own.frames)
-                (subst (λ n. IsSound m.run.given.frames n m.pool) (sym sound.processors_known) sound);
+            legal = machine.lawful.legal;
+            flying = FliesOn-machine;
+            space = record {
+              within = subst (λ n. n < length m.run.given.told) (sym is.number) (subst (λ n. s < n) (sym machine.told) space_within);
+              frames = is.frames;
+              processors = is.processors ∙ sym machine.marks;
+            };
+            ready = subst (λ n. IsReady f was (state_was m n)) (sym is.number) (ready_by (row_of f).keeps refl);
           }
 
-      -- the processor has an image there
-      pub image-machine : f.processor < length was.images
-      image-machine =
-          let below = processor_within in
-          let own = (machine.flights c f flies).processor in
-          let images = (machine.space_is s was at).processors in
-          omega (arith, below, own, images)
-
-      -- after an entry something was left, so the history has room for it
-      pub room_in : (f' : Flight) (now : Kept) (after : FrameState) (e : Entry) → Makes f f' was now (state_was m s) m.pool after e
-          → length m.run.history < m.capacity
-      room_in f' now after e makes =
-          let step : Step = record { actor = c; old = f; new = f'; entry = e; after = after } in
-          let turns : Turns m step s was now = record {
-            whole = machine;
-            flies = flies;
-            under = under;
-            at = at;
-            unkept = unkept;
-            makes = makes;
-          } in
-          let on = lands_after f' makes.entry.same_work.number (job_kept makes.entry.same_work) (fits m step s was now turns) in
-          room_left m step (set m.spaces s now) on.0 machine (Goes-in m step s was now turns on.0 on.1)
-
-  module _ (under : space_under (row_of f).needs ≡ None) where
-    -- such a step is made under the frames' lock alone
-    pub needs-frames : (row_of f).needs ≡ Frames
-    needs-frames = frames_needed f (machine.flights c f flies).going under
-
-    pub room_on_frames : (f' : Flight) (after : FrameState) (e : Entry) → MakesOnFrames f f' m.pool after e
-        → length m.run.history < m.capacity
-    room_on_frames f' after e makes =
-        let step : Step = record { actor = c; old = f; new = f'; entry = e; after = after } in
-        let on = lands_after f' makes.entry.same_work.number (job_kept makes.entry.same_work) makes.fits in
-        room_left m step m.spaces on.0 machine (Goes-on_frames m step (record {
-          whole = machine;
-          flies = flies;
-          under = under;
-          makes = makes;
-        }) on.0 on.1)
+  -- a step that is made under no space is made under the frames' lock alone
+  pub needs-frames : space_under (row_of f).needs ≡ None → (row_of f).needs ≡ Frames
+  needs-frames under = frames_needed f (machine.flights c f flies).going under

@@ -1,122 +1,119 @@
 -- The steps of a flight before the one that makes its entry.
-use Rattle.std.proofs.Common.{◌≡◌, ℕ, ◌<◌, ◌≤◌, length, Some, IfSome, refl, ap, sym, subst, ◌∙◌, arith}
-use Rattle.pager_laws.specs.Laid.{IsSound}
+use Rattle.std.proofs.Common.{◌≡◌, ℕ, Bool, false, List, [], ◌++◌, Some, IfSome, option_to_list, refl, ap, sym, subst, ◌∙◌, arith}
+use Rattle.std.specs.List.{AllByRecursion}
+use Rattle.std.proofs.lemmas.List.{append-nil}
 use Rattle.pager_model.specs.declared.entry.Entry.{Entry}
-use Rattle.pager_model.specs.Agreement.{OwnsBy}
-use Rattle.pager_model.specs.FrameStates.{FrameState, FramesAllow, frame_of}
-use Rattle.pager_model.specs.Order.{Progress, progress_after}
-use Rattle.pager_model.specs.SpaceStates.{SpaceState}
-use Rattle.space_core.specs.Standing.{Kept, frame_at}
+use Rattle.pager_model.specs.FrameStates.{FrameState}
+use Rattle.pager_model.specs.Legal.{space_at, frames_at}
+use Rattle.pager_model.specs.Settings.{Given}
+use Rattle.space_core.specs.Standing.{Kept}
 use Rattle.flight_core.specs.declared.flight.Flight.{Flight}
-use Rattle.flight_core.specs.Flights.{IsReady, LeftBy}
 use Rattle.flight_core.specs.declared.flight.Needs.{Needs}
 use Rattle.flight_core.specs.declared.flight.Needs.TheVariants.{Space, Both}
-use Rattle.flight_core.specs.Rows.{row_of, space_under, Going}
-use Rattle.flight_core.specs.Steps.{AreAgreed, SameWork, SameSpace, Makes, Passes, after_named}
+use Rattle.flight_core.specs.Flights.{LeftBy}
+use Rattle.flight_core.specs.Rows.{Going, has_ended, reply_in, row_of, space_under}
+use Rattle.flight_core.specs.Steps.{SameSpace, answer_made}
 use Rattle.flight_core.proofs.EntrySteps.{same_space-on, unchanged}
+use Rattle.step_log.specs.Flying.{IsHere, HasLeft}
+use Rattle.step_log.specs.Logged.{Added, Stepped}
+use Rattle.step_log.proofs.FlightSteps.{going}
+use Rattle.step_log.proofs.WholeFlights.{Added-on}
+use Rattle.pager_core.proofs.Lists.{none_in}
 
--- after any number of steps that make no entry
-pub record HasPassed (old new : Flight) (was now : Kept) : Type 0 where
-  pub same_work : SameWork old new
+-- After any number of steps that made no entry the log stands for the same history, and the flight goes on in the space.
+pub record HasPassed {L : Type 0} (stands : L → Given → List Entry → Type 0) (g : Given) (h : List Entry) (before : ℕ) (log : L)
+    (old new : Flight) (was now : Kept) (pool : FrameState) : Type 0 where
+  pub stands_for : stands log g h
+  pub here : IsHere g h before now new
+  pub frames : pool ≡ frames_at g h
+  pub added : Added old new []
   pub same_space : SameSpace was now
-  pub same_frames : (page : ℕ) → frame_at now page ≡ frame_at was page
-  pub ready : (st : SpaceState) → IsReady old was st → IsReady new now st
-  pub same_progress : (row_of new).progress ≡ (row_of old).progress
-  pub going : (row_of new).outcome ≡ Going
-  pub no_more : (row_of new).entries ≤ (row_of old).entries
 
-pub HasPassed-none : (f : Flight) (kept : Kept) → (row_of f).outcome ≡ Going → HasPassed f f kept kept
-HasPassed-none f kept going =
-    record {
-      same_work = record { processor = refl; number = refl; same_kind = refl; call = refl; mark = refl };
-      same_space = unchanged kept;
-      same_frames = λ page. refl;
-      ready = λ st is. is;
-      same_progress = refl;
-      going = going;
-      no_more = omega arith;
-    }
+module _ {L : Type 0} (stands : L → Given → List Entry → Type 0) (g : Given) (h : List Entry) (before : ℕ) where
+  goes_on : (f : Flight) (kept : Kept) → IsHere g h before kept f → (row_of f).outcome ≡ Going
+  goes_on f kept here = going f kept.number here.ready.under
 
-SameWork-on : {old mid new : Flight} → SameWork old mid → SameWork mid new → SameWork old new
-SameWork-on first second = record {
-  processor = second.processor ∙ first.processor;
-  number = second.number ∙ first.number;
-  same_kind = second.same_kind ∙ first.same_kind;
-  call = second.call ∙ first.call;
-  mark = second.mark ∙ first.mark;
-}
-
-module _ (old mid new : Flight) (was here now : Kept) (passed : HasPassed old mid was here) where
-  -- one step more, from a state in which the flight was ready
-  pub HasPassed-more : (st : SpaceState) → IsReady old was st → ((st : SpaceState) → IsReady mid here st → Passes mid new here now st)
-      → HasPassed old new was now
-  HasPassed-more st is passes =
-      let one = passes st (passed.ready st is) in
+  pub HasPassed-none : (log : L) (f : Flight) (kept : Kept) (pool : FrameState) → stands log g h → IsHere g h before kept f
+      → pool ≡ frames_at g h → HasPassed stands g h before log f f kept kept pool
+  HasPassed-none log f kept pool is here frames =
+      let goes = goes_on f kept here in
       record {
-        same_work = SameWork-on passed.same_work one.same_work;
-        same_space = same_space-on passed.same_space one.same_space;
-        same_frames = λ page. one.same_frames page ∙ passed.same_frames page;
-        ready = λ t ready. (passes t (passed.ready t ready)).ready;
-        same_progress = one.same_progress ∙ passed.same_progress;
-        going = one.going;
-        no_more = (let some = one.no_more in let before = passed.no_more in omega (arith, some, before));
+        stands_for = is;
+        here = here;
+        frames = frames;
+        added = record {
+          same_work = record { processor = refl; number = refl; same_kind = refl; call = refl; mark = refl };
+          own = tt;
+          answers = sym (ap (λ o. option_to_list (answer_made f (reply_in o))) goes);
+          replies = sym (ap (λ o. option_to_list (reply_in o)) goes);
+          spent = omega arith;
+        };
+        same_space = unchanged kept;
       }
 
-  -- and then the entry
-  pub Makes-passed : (st : SpaceState) (before after : FrameState) (e : Entry) → Makes mid new here now st before after e
-      → Makes old new was now st before after e
-  Makes-passed st before after e makes =
-      let entry = makes.entry in
-      let space = makes.space in
-      record {
-        entry = record {
-          same_work = SameWork-on passed.same_work entry.same_work;
-          processor = entry.processor ∙ passed.same_work.processor;
-          parts = entry.parts;
-          frames_allow = λ named. subst (λ m. FramesAllow before m e.processor e.space e.what) passed.same_work.mark
-              (entry.frames_allow named);
-          frames_after = entry.frames_after;
-          in_order = subst (λ p. progress_after p e.space e.what ≡ Some (row_of new).progress) passed.same_progress entry.in_order;
-          reply = entry.reply;
-          answer = entry.answer;
-          between = entry.between;
-          fewer = (let fewer = entry.fewer in let before = passed.no_more in omega (arith, fewer, before));
-        };
-        space = record {
-          same_space = same_space-on passed.same_space space.same_space;
-          own_space = subst (λ n. IfSome e.space (λ s. s ≡ n)) passed.same_space.number space.own_space;
-          space_allows = space.space_allows;
-          left = subst (λ n. LeftBy (row_of new).keeps new now (after_named n st e)) passed.same_space.number space.left;
-        };
-      }
+  -- One step that made none.
+  module _ (log : L) (old new : Flight) (was now : Kept) (pool : FrameState) (step : Stepped stands g h before log false old new was now pool) where
+    nothing : step.piece ≡ []
+    nothing = none_in step.piece step.one
 
--- the space that was passed through agrees with the frames still
-pub AreAgreed-passed : (old mid : Flight) (was here : Kept) (frames : FrameState) → HasPassed old mid was here → AreAgreed was frames
-    → AreAgreed here frames
-AreAgreed-passed old mid was here frames passed agreed =
-    record {
-      count = agreed.count ∙ sym passed.same_space.frames;
-      pages = λ page. passed.same_frames page ∙ agreed.pages page ∙ ap (λ s. frame_of frames s page) (sym passed.same_space.number);
-      sound = subst (λ n. IsSound n (length frames.held) frames) (sym passed.same_space.frames) agreed.sound;
-    }
+    same_history : step.history ≡ h
+    same_history = step.grown ∙ ap (λ p. h ++ p) nothing ∙ append-nil h
 
--- and the processor owns what it did
-pub OwnsBy-passed : (old mid : Flight) (was here : Kept) (frames : FrameState) → HasPassed old mid was here
-    → OwnsBy frames old.processor (row_of old).progress.doing → OwnsBy frames mid.processor (row_of mid).progress.doing
-OwnsBy-passed old mid was here frames passed owns =
-    subst (λ c. OwnsBy frames c (row_of mid).progress.doing) (sym passed.same_work.processor)
-    (subst (λ (p : Progress). OwnsBy frames old.processor p.doing) (sym passed.same_progress) owns)
+    still_here : IsHere g h before now new
+    still_here =
+        let left : HasLeft g h before now new = subst (λ l. HasLeft g l before now new) same_history step.left in
+        record {
+          legal = left.legal;
+          flying = left.flying;
+          space = left.space;
+          ready = (subst (λ o. LeftBy o new now (space_at g h now.number)) (step.still refl) left.left).1;
+        }
 
--- and the frames know it
-pub known-passed : (old mid : Flight) (was here : Kept) (frames : FrameState) → HasPassed old mid was here
-    → old.processor < length frames.held → mid.processor < length frames.held
-known-passed old mid was here frames passed known = subst (λ c. c < length frames.held) (sym passed.same_work.processor) known
+    pub alone_passed : HasPassed stands g h before log old new was now pool
+    alone_passed =
+        record {
+          stands_for = subst (stands log g) same_history step.stands_for;
+          here = still_here;
+          frames = step.frames ∙ ap (frames_at g) same_history;
+          added = subst (Added old new) nothing step.added;
+          same_space = step.same_space;
+        }
 
--- and it has an image in the space
-pub image-passed : (old mid : Flight) (was here : Kept) → HasPassed old mid was here → old.processor < length was.images
-    → mid.processor < length here.images
-image-passed old mid was here passed image =
-    (let same = passed.same_work.processor in let count = passed.same_space.processors in omega (arith, same, count, image))
+  module _ (log log' : L) (old mid new : Flight) (was here now : Kept) (pool pool' : FrameState)
+      (passed : HasPassed stands g h before log old mid was here pool) where
+    not_ended : has_ended (row_of mid).outcome ≡ false
+    not_ended = ap has_ended (goes_on mid here passed.here)
+
+    -- one more
+    pub HasPassed-more : Stepped stands g h before log' false mid new here now pool' → HasPassed stands g h before log' old new was now pool'
+    HasPassed-more step =
+        let one = alone_passed log' mid new here now pool' step in
+        record {
+          stands_for = one.stands_for;
+          here = one.here;
+          frames = one.frames;
+          added = Added-on old mid new [] [] not_ended passed.added one.added;
+          same_space = same_space-on passed.same_space one.same_space;
+        }
+
+    -- and then the entry
+    pub Stepped-passed : (made : Bool) → Stepped stands g h before log' made mid new here now pool'
+        → Stepped stands g h before log' made old new was now pool'
+    Stepped-passed made step =
+        record {
+          piece = step.piece;
+          history = step.history;
+          grown = step.grown;
+          one = step.one;
+          stands_for = step.stands_for;
+          left = step.left;
+          frames = step.frames;
+          added = Added-on old mid new [] step.piece not_ended passed.added step.added;
+          elsewhere = subst (λ n. AllByRecursion (λ (e : Entry). IfSome e.space (λ s. s ≡ n)) step.piece) passed.same_space.number step.elsewhere;
+          same_space = same_space-on passed.same_space step.same_space;
+          between = step.between;
+          still = λ is. step.still is ∙ ap Some passed.same_space.number;
+        }
 
 -- what a step is made under is the space that the flight is ready in
 pub needs_space : (n : Needs) (k number : ℕ) → n ≡ Space k → space_under n ≡ Some number → n ≡ Space number

@@ -1,24 +1,27 @@
 -- A turn whose step is made under a space's lock.
-use Rattle.std.proofs.Common.{◌≡◌, ◌≢◌, ℕ, ◌<◌, length, slice_get, Option, Some, None, IfSome, refl, ap, sym, subst, ◌∙◌, inl, inr, arith}
+use Rattle.std.proofs.Common.{◌≡◌, ◌≢◌, ℕ, ◌<◌, true, List, [], ◌∷◌, ◌++◌, length, slice_get, Option, Some, None, IfSome, refl, ap, sym, subst, ◌∙◌, inl, inr}
+use Rattle.std.specs.List.{AllByRecursion}
 use Rattle.std.proofs.lemmas.Bool.{cases_eq}
 use Rattle.std.proofs.lemmas.Option.{same_Some, slice_get_within}
 use Rattle.std.proofs.Math.ListN.{set, length-set}
-use Rattle.pager_model.specs.Legal.{entries_in}
-use Rattle.pager_model.specs.Settings.{mark_of}
+use Rattle.pager_model.specs.declared.entry.Entry.{Entry}
+use Rattle.pager_model.specs.FrameStates.{FrameState}
+use Rattle.pager_model.specs.Legal.{entries_in, space_at}
+use Rattle.pager_model.specs.Settings.{Given, mark_of}
 use Rattle.space_core.specs.Standing.{Kept}
 use Rattle.flight_core.specs.declared.flight.Flight.{Flight}
-use Rattle.flight_core.specs.Flights.{Fits, IsReady, IsAtRest, LeftBy}
-use Rattle.pager_core.specs.Machines.{IsSpaceOf}
+use Rattle.flight_core.specs.Flights.{IsReady, IsAtRest, LeftBy}
 use Rattle.flight_core.specs.Rows.{row_of, space_under}
-use Rattle.pager_core.specs.Running.{flight_at, jobs_at, IsKeptByOther}
-use Rattle.flight_core.specs.Steps.{Makes, after_named}
-use Rattle.flight_core.proofs.EntrySteps.{Fits-left}
-use Rattle.pager_core.proofs.Lands.{Lands}
-use Rattle.step_log.proofs.FlightSteps.{own_kept}
-use Rattle.step_log.proofs.LegalSteps.{IsIn, IsIn-left, space_at-elsewhere, space_at-here, space_known}
+use Rattle.flight_core.specs.Steps.{SameSpace}
+use Rattle.flight_core.proofs.NextFlights.{keeps_under}
+use Rattle.step_log.specs.Logged.{Stepped}
 use Rattle.step_log.proofs.Lists.{slice_get-set_same, slice_get-set_other}
-use Rattle.pager_core.proofs.MachineTurns.{Goes, IsWhole, Keeps, MachineParts, Step, state_then, state_was, victim_within}
-use Rattle.flight_core.proofs.NextFlights.{keeps_under, under_cases}
+use Rattle.step_log.proofs.WholeFlights.{elsewhere-all}
+use Rattle.pager_core.specs.Machines.{IsSpaceOf}
+use Rattle.pager_core.specs.Running.{flight_at, jobs_at, IsKeptByOther}
+use Rattle.pager_core.proofs.Lands.{Lands}
+use Rattle.pager_core.proofs.Lists.{one_in}
+use Rattle.pager_core.proofs.MachineTurns.{Goes, Grows, Grows-by, IsWhole, Keeps, MachineParts, Step, history_is, state_then, state_was, step_by}
 
 -- The actor's flight makes an entry in a space that no other flight keeps, in a machine that is whole.
 pub record Turns (m : MachineParts) (step : Step) (s : ℕ) (was now : Kept) : Type 0 where
@@ -27,14 +30,17 @@ pub record Turns (m : MachineParts) (step : Step) (s : ℕ) (was now : Kept) : T
   pub under : space_under (row_of step.old).needs ≡ Some s
   pub at : slice_get m.spaces s ≡ Some was
   pub unkept : IsKeptByOther m.run.flights step.actor s → ⊥
-  pub makes : Makes step.old step.new was now (state_was m s) m.pool step.after step.entry
+  pub grows : Grows m step
+  pub left : LeftBy (row_of step.new).keeps step.new now (state_then m step now.number)
+  pub elsewhere : IfSome step.entry.space (λ t. t ≡ was.number)
+  pub same_space : SameSpace was now
 
 module _ (m : MachineParts) (step : Step) (s : ℕ) (was now : Kept) (turns : Turns m step s was now) where
   was_number : was.number ≡ s
   was_number = (turns.whole.space_is s was turns.at).number
 
   now_number : now.number ≡ s
-  now_number = turns.makes.space.same_space.number ∙ was_number
+  now_number = turns.same_space.number ∙ was_number
 
   within : s < length m.spaces
   within = slice_get_within m.spaces s was turns.at
@@ -42,41 +48,21 @@ module _ (m : MachineParts) (step : Step) (s : ℕ) (was now : Kept) (turns : Tu
   space_here : (kept : Kept) → slice_get (set m.spaces s now) s ≡ Some kept → now ≡ kept
   space_here kept at = same_Some now kept (sym (slice_get-set_same m.spaces s now within) ∙ at)
 
-  left : LeftBy (row_of step.new).keeps step.new now (after_named was.number (state_was m s) step.entry)
-  left = turns.makes.space.left
+  left_by : (o : Option ℕ) → (row_of step.new).keeps ≡ o → LeftBy o step.new now (state_then m step now.number)
+  left_by o keeps = subst (λ x. LeftBy x step.new now (state_then m step now.number)) keeps turns.left
 
   -- what the flight keeps is the space that it stepped under
   pub keeps_here : (t : ℕ) → Keeps step.new t → t ≡ s
-  keeps_here t keeps = (subst (λ x. LeftBy x step.new now (after_named was.number (state_was m s) step.entry)) keeps left).0 ∙ now_number
-
-  pub fits : Fits step.new
-  fits = Fits-left step.new now (after_named was.number (state_was m s) step.entry) (row_of step.new).keeps left
-
-  in_space : IsIn m.run.given (entries_in m.run.history) step.entry s
-  in_space = IsIn-left m.run.given (entries_in m.run.history) step.entry s turns.makes.space was_number
-
-  state_here : after_named was.number (state_was m s) step.entry ≡ state_then m step s
-  state_here = space_at-here m.run.given (entries_in m.run.history) step.entry s was was_number
+  keeps_here t keeps = (left_by (Some t) keeps).0 ∙ now_number
 
   state_elsewhere : (t : ℕ) → t ≢ s → state_then m step t ≡ state_was m t
-  state_elsewhere = space_at-elsewhere m.run.given (entries_in m.run.history) step.entry s in_space
+  state_elsewhere t other =
+      elsewhere-all m.run.given was.number t (λ is. other (is ∙ was_number)) (entries_in m.run.history) (step.entry ∷ []) (turns.elsewhere, tt)
 
   -- another flight keeps another space
   keeps_other : (t d : ℕ) (g : Flight) → d ≢ step.actor → flight_at m.run.flights d ≡ Some g → (row_of g).keeps ≡ Some t → t ≢ s
   keeps_other t d g other flies keeps = λ is. turns.unkept
       (record { other = d; differs = other; flight = g; flies = flies; keeps = keeps ∙ ap Some is })
-
-  under_within : (t : ℕ) → space_under (row_of step.new).needs ≡ Some t → t < length m.spaces
-  under_within t under =
-      elim (under_cases step.new t under) [
-        | inl own ↦
-            subst (λ o. IfSome o (λ k. k < length m.spaces)) (sym (own_kept turns.makes.entry.same_work) ∙ own)
-            (turns.whole.flights step.actor step.old turns.flies).on
-        | inr other ↦ elim other [
-          | inl keeps ↦ subst (λ n. n < length m.spaces) (sym (keeps_here t keeps)) within
-          | inr out ↦ subst (λ n. n < length m.spaces) (sym out.2) (victim_within m step turns.whole turns.makes.entry out.0 out.1)
-        ]
-      ]
 
   at_elsewhere : (t : ℕ) (kept : Kept) → t ≢ s → slice_get (set m.spaces s now) t ≡ Some kept → slice_get m.spaces t ≡ Some kept
   at_elsewhere t kept other at = sym (slice_get-set_other m.spaces s t now other) ∙ at
@@ -88,9 +74,8 @@ module _ (m : MachineParts) (step : Step) (s : ℕ) (was now : Kept) (turns : Tu
         subst (IsSpaceOf m.run t) (space_here kept (subst (λ k. slice_get (set m.spaces s now) k ≡ Some kept) here at))
         (record {
           number = now_number ∙ sym here;
-          frames = turns.makes.space.same_space.frames
-              ∙ before.frames;
-          processors = turns.makes.space.same_space.processors ∙ before.processors;
+          frames = turns.same_space.frames ∙ before.frames;
+          processors = turns.same_space.processors ∙ before.processors;
         })
     | inr elsewhere ↦ turns.whole.space_is t kept (at_elsewhere t kept elsewhere at)
   ]
@@ -99,11 +84,9 @@ module _ (m : MachineParts) (step : Step) (s : ℕ) (was now : Kept) (turns : Tu
       → IsReady step.new kept (state_then m step t)
   own_ready t kept keeps at =
       let here = keeps_here t keeps in
-      let ready = (subst (λ x. LeftBy x step.new now (after_named was.number (state_was m s) step.entry)) keeps left).1 in
-      subst (λ k. IsReady step.new kept (state_then m step k)) (sym here)
-      (subst (λ k. IsReady step.new k (state_then m step s))
-      (space_here kept (subst (λ k. slice_get (set m.spaces s now) k ≡ Some kept) here at))
-      (subst (IsReady step.new now) state_here ready))
+      subst (λ n. IsReady step.new kept (state_then m step n)) (now_number ∙ sym here)
+      (subst (λ k. IsReady step.new k (state_then m step now.number))
+      (space_here kept (subst (λ k. slice_get (set m.spaces s now) k ≡ Some kept) here at)) (left_by (Some t) keeps).1)
 
   others_ready : (t d : ℕ) (g : Flight) (kept : Kept) → d ≢ step.actor → flight_at m.run.flights d ≡ Some g → (row_of g).keeps ≡ Some t
       → slice_get (set m.spaces s now) t ≡ Some kept → IsReady g kept (state_then m step t)
@@ -115,7 +98,7 @@ module _ (m : MachineParts) (step : Step) (s : ℕ) (was now : Kept) (turns : Tu
   -- where it keeps no space it leaves this one at rest
   rest_here : (o : Option ℕ) → (row_of step.new).keeps ≡ o → o ≢ Some s → IsAtRest now (state_then m step s)
   rest_here None keeps other =
-      subst (IsAtRest now) state_here (subst (λ x. LeftBy x step.new now (after_named was.number (state_was m s) step.entry)) keeps left).1
+      subst (λ n. IsAtRest now (state_then m step n)) now_number (left_by None keeps).1
   rest_here (Some t) keeps other = absurd (other (ap Some (keeps_here t keeps)))
 
   rest : (t : ℕ) (kept : Kept) → slice_get (set m.spaces s now) t ≡ Some kept → (row_of step.new).keeps ≢ Some t
@@ -142,17 +125,41 @@ module _ (m : MachineParts) (step : Step) (s : ℕ) (was now : Kept) (turns : Tu
       → Goes m step (set m.spaces s now) o
   Goes-in o lands = record {
     flies = turns.flies;
-    entry = turns.makes.entry;
-    fits = fits;
+    grows = turns.grows;
     lands = lands;
-    space_in = space_known m.run.given (entries_in m.run.history) step.entry s in_space
-        (let below = within in let all = turns.whole.told in omega (arith, below, all));
-    space_allows = in_space.allowed;
     count = length-set m.spaces s now;
     spaces_are = spaces_are;
-    under = under_within;
     apart = λ t d g keeps other flies own. keeps_other t d g other flies own (keeps_here t keeps);
     own_ready = own_ready;
     others_ready = others_ready;
     rest = rest;
   }
+
+-- A step in a space, of which the log took an entry.
+module _ {L : Type 0} (stands : L → Given → List Entry → Type 0) (m : MachineParts) (c : ℕ) (old new : Flight) (s : ℕ) (was now : Kept)
+    (after : FrameState) (log : L)
+    (stepped : Stepped stands m.run.given (entries_in m.run.history) 0 log true old new was now after) where
+  abbrev pub step_in : Step
+  step_in = step_by m c old new after stepped.piece stepped.history stepped.one stepped.grown
+
+  pub stands_in : stands log m.run.given (entries_in m.run.history ++ step_in.entry ∷ [])
+  stands_in =
+      subst (stands log m.run.given) (history_is m c old new after stepped.piece stepped.history stepped.one stepped.grown) stepped.stands_for
+
+  pub Turns-of : IsWhole m → flight_at m.run.flights c ≡ Some old → space_under (row_of old).needs ≡ Some s → slice_get m.spaces s ≡ Some was
+      → (IsKeptByOther m.run.flights c s → ⊥) → Turns m step_in s was now
+  Turns-of whole flies under at unkept =
+      record {
+        whole = whole;
+        flies = flies;
+        under = under;
+        at = at;
+        unkept = unkept;
+        grows = Grows-by m c old new after stepped.piece stepped.history stepped.one stepped.grown stepped.left.legal stepped.left.flying
+            stepped.frames stepped.added (stepped.between refl);
+        left = subst (λ h. LeftBy (row_of new).keeps new now (space_at m.run.given h now.number))
+            (history_is m c old new after stepped.piece stepped.history stepped.one stepped.grown) stepped.left.left;
+        elsewhere = (subst (AllByRecursion (λ (e : Entry). IfSome e.space (λ t. t ≡ was.number))) (one_in stepped.piece stepped.one).1
+            stepped.elsewhere).0;
+        same_space = stepped.same_space;
+      }

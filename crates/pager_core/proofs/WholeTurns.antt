@@ -3,26 +3,24 @@ use Rattle.std.proofs.Common.{◌≡◌, ℕ, ◌+◌, ◌<◌, true, List, [], 
 use Rattle.std.proofs.lemmas.List.{get_or_read_under, get_or-map, get_or-set_same, get_or-set_other}
 use Rattle.std.proofs.lemmas.Option.{same_Some, slice_get_read, slice_get_within}
 use Rattle.std.proofs.Math.ListN.{set}
-use Rattle.pager_model.specs.declared.entry.Entry.{Entry}
 use Rattle.pager_model.specs.declared.entry.Numbered.{Numbered}
 use Rattle.pager_model.specs.declared.trace.Job.{Job}
-use Rattle.pager_model.specs.FrameStates.{FrameState}
+use Rattle.pager_model.specs.Legal.{entries_in}
 use Rattle.pager_model.specs.Settings.{mark_of}
 use Rattle.pager_model.proofs.Lists.{get_or_within}
 use Rattle.space_core.specs.Standing.{Kept}
 use Rattle.flight_core.specs.declared.flight.Flight.{Flight}
-use Rattle.flight_core.specs.Flights.{Fits, IsReady}
 use Rattle.pager_core.specs.Machines.{IsOther, AreKeepers, IsMachine}
 use Rattle.flight_core.specs.Rows.{Going, has_ended, row_of, space_under}
 use Rattle.pager_core.specs.Running.{Running, jobs_at, flight_at, flight_of, IsKeptByOther, MustWait, left_at, WentOn, OneMore, IsLawful}
-use Rattle.flight_core.specs.Steps.{AreAgreed, Makes, SameWork}
+use Rattle.step_log.specs.Flying.{IsHere}
 use Rattle.pager_core.proofs.FrameTurns.{TurnsOnFrames, Goes-on_frames}
 use Rattle.pager_core.proofs.Keepers.{kept_if, unkept_if, AreKeepers-same, AreKeepers-moved}
 use Rattle.pager_core.proofs.Lands.{Lands, Lands-on, job_kept}
-use Rattle.pager_core.proofs.ReadyFlights.{space_within, IsReady-machine, AreAgreed-machine, image-machine, room_in}
-use Rattle.pager_core.proofs.MachineTurns.{Goes, IsWhole, MachineParts, Step, state_was, run_after, left_own, IsLawful-turn, IsMachine-turn}
+use Rattle.pager_core.proofs.ReadyFlights.{space_within, IsHere-machine}
+use Rattle.pager_core.proofs.MachineTurns.{Goes, Grows, IsWhole, MachineParts, Step, run_after, left_own, IsLawful-turn, IsMachine-turn}
 use Rattle.flight_core.proofs.NextFlights.{keeps_none, keeps_under}
-use Rattle.pager_core.proofs.SpaceTurns.{Turns, Goes-in, fits, keeps_here}
+use Rattle.pager_core.proofs.SpaceTurns.{Turns, Goes-in, keeps_here}
 
 -- what an index gives
 
@@ -38,18 +36,13 @@ pub jobs_read : {V : Type 0} (items : V → List Job) (vs : List V) (c : ℕ) (v
     → items v ≡ jobs_at (map items vs) c
 jobs_read items vs c v below read = ap items read ∙ sym (get_or-map items vs c v [] below)
 
--- What a turn that goes on finds in a space: the actor's flight is ready in it, no other flight keeps it, it agrees with the frames, and has an
--- image for its processor. After an entry of the flight's the history has room for it.
+-- What a turn that goes on finds in a space: the actor's flight goes on in it, and no other flight keeps it.
 pub record Finds (m : MachineParts) (c s : ℕ) (f : Flight) (was : Kept) : Type 0 where
   pub flies : flight_at m.run.flights c ≡ Some f
   pub under : space_under (row_of f).needs ≡ Some s
   pub at : slice_get m.spaces s ≡ Some was
   pub unkept : IsKeptByOther m.run.flights c s → ⊥
-  pub ready : IsReady f was (state_was m s)
-  pub agreed : AreAgreed was m.pool
-  pub image : f.processor < length was.images
-  pub room : (f' : Flight) (now : Kept) (after : FrameState) (e : Entry) → Makes f f' was now (state_was m s) m.pool after e
-      → length m.run.history < m.capacity
+  pub here : IsHere m.run.given (entries_in m.run.history) 0 was f
 
 pub flies_in : (run self : Running) (c : ℕ) (f : Flight) → run ≡ self → flight_at self.flights c ≡ Some f → flight_at run.flights c ≡ Some f
 flies_in run self c f same flies = ap (λ (r : Running). flight_at r.flights c) same ∙ flies
@@ -80,10 +73,7 @@ module _ (m : MachineParts) (self : Running) (c s : ℕ) (f : Flight) where
         under = under;
         at = at;
         unkept = unkept;
-        ready = IsReady-machine m c f machine flies s under was at unkept;
-        agreed = AreAgreed-machine m c f machine flies s under was at unkept;
-        image = image-machine m c f machine flies s under was at unkept;
-        room = room_in m c f machine flies s under was at unkept;
+        here = IsHere-machine m c f machine flies s under was at unkept;
       }
 
   -- it waits where the keeper is another
@@ -114,21 +104,22 @@ pub record HasNext (m : MachineParts) (step : Step) (o : Option Flight) : Type 0
 
 module _ (m : MachineParts) (step : Step) (o : Option Flight) where
   -- what comes of the flight after a step
-  landed : IsWhole m → flight_at m.run.flights step.actor ≡ Some step.old → SameWork step.old step.new → Fits step.new → HasNext m step o
+  landed : IsWhole m → flight_at m.run.flights step.actor ≡ Some step.old → Grows m step → HasNext m step o
       → Lands (mark_of m.run.given step.actor) (jobs_at m.run.jobs step.actor) step.new o
-  landed machine flies same fits_too has =
+  landed machine flies grows has =
+      let same = grows.added.same_work in
       let job = job_kept same in
       let processor_is = same.processor ∙ (machine.flights step.actor step.old flies).processor in
       Lands-on (mark_of m.run.given step.actor) (jobs_at m.run.jobs step.actor) step.new (machine.kinds step.actor)
       (ap (slice_get (jobs_at m.run.jobs step.actor)) same.number ∙ (machine.flights step.actor step.old flies).job ∙ ap Some (sym job))
-      fits_too
+      grows.flying.fits
       o has.going
       (λ ended. has.next ended ∙ ap (λ c. flight_of step.new.processor (step.new.number + 1) (jobs_at m.run.jobs c)) processor_is)
 
   -- under a space's lock
   pub Goes-of : (s : ℕ) (was now : Kept) → Turns m step s was now → HasNext m step o → Goes m step (set m.spaces s now) o
   Goes-of s was now turns has =
-      Goes-in m step s was now turns o (landed turns.whole turns.flies turns.makes.entry.same_work (fits m step s was now turns) has)
+      Goes-in m step s was now turns o (landed turns.whole turns.flies turns.grows has)
 
   -- and then the space's keeper is the actor, or none
   pub AreKeepers-of : (s : ℕ) (was now : Kept) → Turns m step s was now → Goes m step (set m.spaces s now) o
@@ -145,14 +136,14 @@ module _ (m : MachineParts) (step : Step) (o : Option Flight) where
 
   -- under the frames' lock alone
   pub Goes-of_frames : TurnsOnFrames m step → HasNext m step o → Goes m step m.spaces o
-  Goes-of_frames turns has = Goes-on_frames m step turns o (landed turns.whole turns.flies turns.makes.entry.same_work turns.makes.fits has)
+  Goes-of_frames turns has = Goes-on_frames m step turns o (landed turns.whole turns.flies turns.grows has)
 
   pub AreKeepers-of_frames : TurnsOnFrames m step → Goes m step m.spaces o → (keepers : List (Option ℕ))
       → AreKeepers m.run.flights (length m.spaces) keepers
       → AreKeepers (set m.run.flights step.actor o) (length m.spaces) keepers
   AreKeepers-of_frames turns goes keepers are =
       AreKeepers-same m.run.flights (length m.spaces) keepers are step.actor step.old o turns.flies (keeps_none step.old turns.under)
-      (goes.lands.keeps ∙ turns.makes.keeps_none)
+      (goes.lands.keeps ∙ turns.keeps_none)
 
 module _ (m : MachineParts) (step : Step) (spaces' : List Kept) (o : Option Flight) where
   -- the machine then, whatever its capacity is called
@@ -174,7 +165,7 @@ module _ (m : MachineParts) (step : Step) (spaces' : List Kept) (o : Option Flig
       let at : flight_at new.flights step.actor ≡ o = ap (λ (r : Running). flight_at r.flights step.actor) is_new
       ∙ get_or-set_same m.run.flights step.actor o None (get_or_within m.run.flights step.actor step.old goes.flies) in
       let jobs : new.jobs ≡ m.run.jobs = ap (λ (r : Running). r.jobs) is_new in
-      let work = goes.entry.same_work in
+      let work = goes.grows.added.same_work in
       let number_is : step.new.number ≡ g.number = work.number ∙ ap (λ (x : Flight). x.number) is in
       let processor_is : step.new.processor ≡ step.actor = work.processor ∙ (machine.flights step.actor step.old goes.flies).processor in
       elim goes.lands.goes [
@@ -194,7 +185,7 @@ module _ (m : MachineParts) (step : Step) (spaces' : List Kept) (o : Option Flig
         entry = step.entry;
         history = ap (λ (r : Running). r.history) is_new
             ∙ ap (λ (l : List Numbered). l ++ (let x : Numbered = record { number = length l; entry = step.entry } in x) ∷ []) was_history;
-        of_actor = goes.entry.processor ∙ (machine.flights step.actor step.old goes.flies).processor;
+        of_actor = goes.grows.added.own.0 ∙ (machine.flights step.actor step.old goes.flies).processor;
         others = λ d other.
             ap (λ (r : Running). flight_at r.flights d) is_new ∙ get_or-set_other m.run.flights step.actor d o None other
             ∙ ap (λ (r : Running). flight_at r.flights d) same;

@@ -3,3 +3,4 @@ pub mod TraceJobs
 pub mod Running
 pub mod Machines
 pub mod Sums
+pub mod Listing

@@ -4,6 +4,7 @@
 #![tactic(auto)]
 
 mod jobs;
+mod listed;
 mod machine;
 mod run_parts;
 

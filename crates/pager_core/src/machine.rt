@@ -1,32 +1,34 @@
-ghost use Rattle.std.specs.Prelude.{◌≡◌, ◌≢◌, ℕ, ◌+◌, ◌*◌, ◌^◌, ◌<◌, ◌≤◌, ◌↔◌, [], Some, None, IfOk, IfErr, IfSome, IfNone, IsTrue, length, map, option_map, drop, take, replicate, true};
+ghost use Rattle.std.specs.Prelude.{◌≡◌, ◌≢◌, ℕ, ◌+◌, ◌*◌, ◌^◌, ◌<◌, ◌≤◌, ◌↔◌, if◌then◌else◌, List, [], Some, None, IfOk, IfErr, IsTrue, length, map, option_map, drop, take, replicate, true};
 ghost use Rattle.std.specs.List.{range_with_len};
-ghost use Rattle.pager_model.specs.Agreement.{OwnsBy};
 ghost use Rattle.pager_model.specs.Counts.{counts};
+ghost use Rattle.pager_model.specs.declared.entry.Entry.{Entry};
 ghost use Rattle.pager_model.specs.FrameStates.{start_frames};
 ghost use Rattle.pager_model.specs.Headline.{IsNeverShort};
 ghost use Rattle.pager_model.specs.Laws.{KeepsLaws};
-ghost use Rattle.pager_model.specs.Legal.{entries_in};
+ghost use Rattle.pager_model.specs.Legal.{entries_in, frames_at};
+ghost use Rattle.pager_model.specs.Settings.{Given};
 ghost use Rattle.pager_model.specs.Showing.{actors, jobs_of};
-ghost use Rattle.pager_model.specs.SpaceStates.{SpaceState};
 ghost use Rattle.pager_model.specs.TraceText.{HasText, IsDaemon};
 ghost use Rattle.pager_model.specs.Stores.{setting_over, StoresEnd, AreCapped};
-ghost use Rattle.flight_core.specs.Flights.{IsReady};
 ghost use Rattle.flight_core.specs.Lacking.{NeverLacks, NoneLacked};
 ghost use Rattle.pager_core.specs.Machines.{IsOther, entries_of_trace, entries_of_turns};
 ghost use Rattle.flight_core.specs.Rows.{Going, has_ended, row_of, space_under};
 ghost use Rattle.pager_core.specs.RunParts.{AreRoomsOver};
 ghost use Rattle.pager_core.specs.Running.{Running, progress_of_actor, flight_at, flight_for, flight_of, first_flights, jobs_at, HasEnded, MustWait, OneMore, IsLawful, IsWholeRun};
-ghost use Rattle.flight_core.specs.Steps.{AreAgreed, Makes, Passes};
+ghost use Rattle.step_log.specs.Flying.{IsHere};
+ghost use Rattle.step_log.specs.Logged.{CanStepBoth, Stepped};
 
 use crate::jobs::Jobs;
+use crate::listed::Listed;
 use crate::run_parts::{Gathered, RunRoom};
 use flight_core::{Flight, Needs};
 use frame_pool::Pool;
-use pager_model::{Daemon, Entry, Job, NoMemory, Setting, Trace};
+use pager_model::{Daemon, Job, NoMemory, Setting, Trace};
 use run_history::History;
 use space_core::Space;
 use std::alloc::Global;
 use std::marker::Model;
+use step_log::{Log, step_alone, step_both, step_frames};
 use store_core::Store;
 
 /// What a turn did.
@@ -56,7 +58,7 @@ pub struct Machine<'a, S: Store + Send + Drop> {
     // the stores that no space uses, last first, with room for those of the spaces
     stores: Vec<S>,
     pool: Pool,
-    history: History,
+    log: Listed,
 }
 
 impl<'a, S: Store + Send + Drop> Model for Machine<'a, S> {
@@ -70,7 +72,7 @@ impl<'a, S: Store + Send + Drop> Model for Machine<'a, S> {
       given = m.setting;
       jobs = m.jobs;
       flights = m.flights.items;
-      history = m.history.items;
+      history = m.log.history.items;
       unused = map S.seen (reverse m.stores.items);
     } };
 
@@ -78,14 +80,14 @@ impl<'a, S: Store + Send + Drop> Model for Machine<'a, S> {
       given = m.setting;
       jobs = m.jobs;
       flights = m.flights.items;
-      history = m.history.items;
+      history = m.log.history.items;
       unused = map S.seen (reverse m.stores.items);
-    }) m.spaces.items m.pool (m.history.room) × (vec_len m.stores + length m.spaces.items ≤ vec_capacity m.stores) × AreKeepers m.flights.items (length m.spaces.items) m.keepers.items
+    }) m.spaces.items m.pool (m.log.history.room) × (vec_len m.stores + length m.spaces.items ≤ vec_capacity m.stores) × AreKeepers m.flights.items (length m.spaces.items) m.keepers.items
         × (S.lasts ≡ true → HasMemory (record {
           given = m.setting;
           jobs = m.jobs;
           flights = m.flights.items;
-          history = m.history.items;
+          history = m.log.history.items;
           unused = map S.seen (reverse m.stores.items);
         })) };
 }
@@ -118,7 +120,9 @@ impl<'a, S: Store + Send + Drop> Machine<'a, S> {
             keepers: parts.keepers,
             stores,
             pool: room.pool,
-            history: parts.history,
+            log: Listed {
+                history: parts.history,
+            },
         })
     }
 
@@ -174,12 +178,12 @@ impl<'a, S: Store + Send + Drop> Machine<'a, S> {
             return Turn::Waits(space);
         }
         let mut flight = flight;
-        let entry = next_entry(
-            &mut flight,
+        make_entry(
+            &mut self.log,
             &mut self.spaces[space as usize],
             &mut self.pool,
+            &mut flight,
         );
-        self.history.push(&entry);
         self.keepers[space as usize] = keeper(actor, &flight);
         self.flights[actor as usize] = going_on(flight, &self.jobs);
         Turn::Stepped
@@ -199,8 +203,7 @@ impl<'a, S: Store + Send + Drop> Machine<'a, S> {
         ensures lasting { S.lasts ≡ true → NoneLacked (entries_in self.new.history) }
     {
         let mut flight = flight;
-        let entry = flight.step_frames(&mut self.pool);
-        self.history.push(&entry);
+        step_frames(&mut self.log, &mut self.pool, &mut flight);
         self.flights[actor as usize] = going_on(flight, &self.jobs);
         Turn::Stepped
     }
@@ -245,7 +248,7 @@ impl<'a, S: Store + Send + Drop> Machine<'a, S> {
         ensures summary { result.summary ≡ counts self.entry.given (entries_in self.entry.history) }
         ensures lasting { S.lasts ≡ true → NoneLacked (entries_in self.entry.history) }
     {
-        Gathered::of(self.history, self.spaces, self.pool, self.stores)
+        Gathered::of(self.log.history, self.spaces, self.pool, self.stores)
     }
 }
 
@@ -396,50 +399,50 @@ fn keeper(actor: u32, flight: &Flight) -> Option<u32>
 }
 
 /// Does the flight's steps until one has made an entry. All of them are made under this space.
-fn next_entry<S: Store + Send + Drop>(
-    flight: &mut Flight,
+fn make_entry<L: Log, S: Store + Send + Drop>(
+    log: &mut L,
     space: &mut Space<S>,
     pool: &mut Pool,
-) -> Entry
-    requires going { (row_of flight.old).outcome ≡ Going }
-    requires ready { (st : SpaceState) × IsReady flight.old space.old st }
-    requires image { flight.old.processor < length space.old.images }
-    requires agree { AreAgreed space.old pool.old }
-    requires owns { OwnsBy pool.old flight.old.processor (row_of flight.old).progress.doing }
-    requires known { flight.old.processor < length pool.old.held }
-    requires room { pool.old.entries < 2 ^ 45 }
-    ensures made { (st : SpaceState) → IsReady flight.old space.old st → Makes flight.old flight.new space.old space.new st pool.old pool.new result }
+    flight: &mut Flight,
+)
+    requires can { CanStepBoth L.stands log.old space.old pool.old flight.old }
+    requires takes { (e : Entry) → L.takes log.old e }
+    requires room { (row_of flight.old).entries ≤ L.room log.old }
+    requires few { pool.old.entries < 2 ^ 45 }
+    ensures made { (g : Given) (h : List Entry) (before : ℕ) → L.stands log.old g h → IsHere g h before space.old flight.old → pool.old ≡ frames_at g h
+        → Stepped L.stands g h before log.new true flight.old flight.new space.old space.new pool.new }
+    ensures fewer { L.room log.new + 1 ≡ L.room log.old }
     ensures lasting { S.lasts ≡ true → NeverLacks flight.old.phase flight.new.phase }
 {
     loop {
-        if let Some(entry) = step(flight, space, pool) {
-            return entry;
+        if step(log, space, pool, flight) {
+            return;
         }
     }
 }
 
-/// Does the flight's next step.
-fn step<S: Store + Send + Drop>(
-    flight: &mut Flight,
+/// Does the flight's next step, which is made under this space, and answers whether it made an entry.
+fn step<L: Log, S: Store + Send + Drop>(
+    log: &mut L,
     space: &mut Space<S>,
     pool: &mut Pool,
-) -> Option<Entry>
-    requires going { (row_of flight.old).outcome ≡ Going }
-    requires ready { (st : SpaceState) × IsReady flight.old space.old st }
-    requires image { flight.old.processor < length space.old.images }
-    requires agree { AreAgreed space.old pool.old }
-    requires owns { OwnsBy pool.old flight.old.processor (row_of flight.old).progress.doing }
-    requires known { flight.old.processor < length pool.old.held }
-    requires room { pool.old.entries < 2 ^ 45 }
-    ensures entry { IfSome result (λ e. (st : SpaceState) → IsReady flight.old space.old st → Makes flight.old flight.new space.old space.new st pool.old pool.new e) }
-    ensures none { IfNone result ((st : SpaceState) → IsReady flight.old space.old st → Passes flight.old flight.new space.old space.new st) }
-    ensures same_pool { result ≡ None → pool.new ≡ pool.old }
+    flight: &mut Flight,
+) -> bool
+    requires can { CanStepBoth L.stands log.old space.old pool.old flight.old }
+    requires takes { (e : Entry) → L.takes log.old e }
+    requires room { (row_of flight.old).entries ≤ L.room log.old }
+    requires few { pool.old.entries < 2 ^ 45 }
+    ensures stepped { (g : Given) (h : List Entry) (before : ℕ) → L.stands log.old g h → IsHere g h before space.old flight.old → pool.old ≡ frames_at g h
+        → Stepped L.stands g h before log.new result flight.old flight.new space.old space.new pool.new }
+    ensures takes { (e : Entry) → L.takes log.new e }
+    ensures room { (row_of flight.new).entries ≤ L.room log.new }
+    ensures fewer { L.room log.new + (if result then 1 else 0) ≡ L.room log.old }
     ensures lasting { S.lasts ≡ true → NeverLacks flight.old.phase flight.new.phase }
     ensures nearer { (row_of flight.new).steps < (row_of flight.old).steps }
 {
     match flight.needs() {
-        Needs::Space(_) => flight.step_space(space),
-        Needs::Both(_) => flight.step_both(space, pool),
+        Needs::Space(_) => step_alone(log, space, flight),
+        Needs::Both(_) => step_both(log, space, pool, flight),
         Needs::Frames | Needs::Ended => unreachable!(),
     }
 }

@@ -1,8 +1,6 @@
-pub mod Entries
-pub mod Refusals
+pub mod GrownLogs
+pub mod Meetings
 pub mod Flights
-pub mod Histories
-pub mod LockedSteps
 pub mod CountedCalls
 pub mod WholeCalls
 pub mod ClosedPagers

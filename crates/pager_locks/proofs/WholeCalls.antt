@@ -1,7 +1,8 @@
 -- A flight at its start, and the call or the turn that it made at its end.
-use Rattle.std.proofs.Common.{◌≡◌, ℕ, ◌+◌, ◌<◌, [], ◌∷◌, ◌++◌, length, count_by, option_to_list, true, Some, None, IfSome, refl, ap, ap₂, sym, subst, ◌∙◌, arith}
+use Rattle.std.proofs.Common.{◌≡◌, ℕ, ◌+◌, ◌<◌, [], ◌∷◌, ◌++◌, length, count_by, option_to_list, true, false, ◌≤◌, Some, None, IfSome, refl, ap, ap₂, sym, subst, ◌∙◌, arith}
 use Rattle.std.specs.List.{AllByRecursion}
 use Rattle.std.specs.Option.{IsSomeAnd}
+use Rattle.std.proofs.Math.ListN.{length-map}
 use Rattle.std.proofs.lemmas.Bool.{false≢true}
 use Rattle.std.proofs.lemmas.List.{append-nil, map-append}
 use Rattle.std.proofs.lemmas.Option.{none-some, same_Some}
@@ -23,22 +24,18 @@ use Rattle.flight_core.specs.declared.flight.Phase.TheVariants.{Ended}
 use Rattle.flight_core.specs.Flights.{IsFor}
 use Rattle.pager_core.specs.Machines.{CanFly}
 use Rattle.flight_core.specs.Rows.{Outcome, Going, TurnEnded, Answered, call_in, has_ended, is_of_call, new_flight, new_turn, own_space, reply_in, row_of, row_in}
-use Rattle.pager_core.specs.Running.{FitsMark, call_of, job_in}
+use Rattle.pager_core.specs.Running.{FitsMark, job_in}
 use Rattle.flight_core.specs.Steps.{answer_made}
-use Rattle.pager_core.proofs.Lands.{Fits-for, Starts, Starts-for, ended_progress, under-for}
+use Rattle.pager_core.proofs.Lands.{Fits-for, Starts, Starts-for, ended_progress, job_kept, under-for}
 use Rattle.flight_core.proofs.NextFlights.{ended_by, of_calls, turn_goes_on}
 use Rattle.flight_core.proofs.Purposes.{of_call-is}
 use Rattle.pager_locks.specs.Calls.{MakesCall, MakesTurn, IsNextFlight}
 use Rattle.pager_locks.specs.Locked.{Departure, IsFlying, SaysWhy}
-use Rattle.step_log.specs.Flying.{later}
+use Rattle.step_log.specs.Flying.{IsOnWay, later}
 use Rattle.pager_locks.specs.Prepared.{MayCall, MayTurn}
 use Rattle.pager_locks.proofs.CountedCalls.{counted}
 use Rattle.step_log.proofs.Later.{later_none}
-
--- a flight of a call
-of_call_job : (p : Purpose) (call : Call) → job_in p ≡ CallJob call → (is_of_call p ≡ true) × (call_in p ≡ call)
-of_call_job (OfCall own claimed) call is = (refl, same_Some own call (ap call_of is))
-of_call_job (OfTurn mark evictions) call is = absurd (none-some call (ap call_of is))
+use Rattle.step_log.proofs.WholeFlights.{Added-none}
 
 -- a turn has no reply
 no_reply : (p : Purpose) (mark : ℕ) (r : Reply) → job_in p ≡ Turn mark → IsFor p (Ended r) → ⊥
@@ -77,35 +74,38 @@ module _ (j : JournalName) (p : PassState) (f : Flight) (may : MayCall j p) (nex
       ap₂ (λ phase purpose. record { processor = f.processor; number = f.number; purpose = purpose; phase = phase }) (sym next.start)
       (sym (of_call-is f.purpose next.is_call ∙ ap (OfCall (call_in f.purpose)) next.unclaimed))
 
+  goes-start : has_ended (row_of f).outcome ≡ false
+  goes-start = subst (λ (x : Flight). has_ended (row_of x).outcome ≡ false) is_start refl
+
+  entries-start : (row_of f).entries ≡ 8
+  entries-start = subst (λ (x : Flight). (row_of x).entries ≡ 8) is_start refl
+
   abbrev from : Departure
-  from = record { pass = p; before = 0; number = f.number; job = CallJob (call_in f.purpose) }
+  from = record { pass = p; before = 0; flight = f }
 
   pub IsFlying-start : IsFlying j from f p
-  IsFlying-start = subst (λ (x : Flight). IsFlying j from x p) is_start (record {
-    journal = may.journal;
-    processor = sym next.processor;
-    same_processor = refl;
-    same_room = refl;
-    number = refl;
-    job = refl;
-    none_before = λ _. refl;
-    known = subst (λ k. k < length j.setting.marks) (sym next.processor) known;
-    mark = own_mark;
-    progress = ap (λ m. progress_of m (entries_in p.entries)) own_mark ∙ may.whole.1 ∙ ap (λ k. Some (at_rest 0 k)) made
-        ∙ ap Some (sym (later_none (at_rest 0 f.number)));
-    room = may.room;
-    fits = record { kind = refl; can = can.can; phase = refl };
-    on = can.on;
-    under = λ s under. subst (λ k. k < length j.setting.told) (same_Some (space_of_call (call_in f.purpose)) s under) can.on;
-    piece = [];
-    entries = sym (append-nil p.entries);
-    spent = omega arith;
-    own = tt;
-    answers = refl;
-    replies = refl;
-    will_say_why = tt;
-    says_why = tt;
-  })
+  IsFlying-start =
+      record {
+        journal = may.journal;
+        processor = sym next.processor;
+        same_processor = refl;
+        same_room = refl;
+        on_way = subst (IsOnWay j.setting (entries_in p.entries) 0) is_start (record {
+          known = subst (λ k. k < length j.setting.marks) (sym next.processor) known;
+          mark = own_mark;
+          none_before = λ _. refl;
+          progress = ap (λ m. progress_of m (entries_in p.entries)) own_mark ∙ may.whole.1 ∙ ap (λ k. Some (at_rest 0 k)) made
+              ∙ ap Some (sym (later_none (at_rest 0 f.number)));
+          fits = record { kind = refl; can = can.can; phase = refl };
+          on = can.on;
+          under = λ s under. subst (λ k. k < length j.setting.told) (same_Some (space_of_call (call_in f.purpose)) s under) can.on;
+        });
+        room = subst (λ (x : Flight). length p.entries + (row_of x).entries ≤ p.room) is_start may.room;
+        piece = [];
+        entries = sym (append-nil p.entries);
+        added = Added-none f goes-start;
+        says_why = subst (λ (x : Flight). IfSome (reply_in (row_of x).outcome) (SaysWhy j.setting)) is_start tt;
+      }
 
   -- it keeps no space yet
   pub keeps-start : (row_of f).keeps ≡ None
@@ -117,12 +117,13 @@ module _ (j : JournalName) (p : PassState) (f : Flight) (may : MayCall j p) (nex
   MakesCall-made g q r flying answered =
       let phase = ended_by g r answered in
       let own : g.processor ≡ f.processor = sym flying.processor ∙ flying.same_processor ∙ sym next.processor in
-      let called : call_in g.purpose ≡ call_in f.purpose = (of_call_job g.purpose (call_in f.purpose) flying.job).1 in
+      let called : call_in g.purpose ≡ call_in f.purpose = flying.added.same_work.call in
+      let number : g.number ≡ f.number = flying.added.same_work.number in
       let ended : (row_of g).progress ≡ at_rest 0 (f.number + 1) =
       ap (λ x. (row_in g.processor g.number (own_space g.purpose) g.purpose x).progress) phase
-      ∙ ap (λ k. at_rest 0 (k + 1)) flying.number in
+      ∙ ap (λ k. at_rest 0 (k + 1)) number in
       let all : progress_of 0 (entries_in q.entries) ≡ Some (at_rest 0 (f.number + 1)) =
-      ap (λ m. progress_of m (entries_in q.entries)) (sym (ap (mark_of j.setting) own ∙ own_mark)) ∙ flying.progress
+      ap (λ m. progress_of m (entries_in q.entries)) (sym (ap (mark_of j.setting) own ∙ own_mark)) ∙ flying.on_way.progress
       ∙ ap Some (later_none (row_of g).progress ∙ ended) in
       let before : progress_of 0 (entries_in p.entries) ≡ Some (at_rest 0 f.number) = may.whole.1 ∙ ap (λ k. Some (at_rest 0 k)) made in
       let split : entries_in q.entries ≡ entries_in p.entries ++ entries_in flying.piece = ap entries_in flying.entries
@@ -133,21 +134,25 @@ module _ (j : JournalName) (p : PassState) (f : Flight) (may : MayCall j p) (nex
         room = flying.same_room;
         piece = flying.piece;
         entries = flying.entries;
-        few = (let spent = flying.spent in omega (arith, spent));
+        few =
+            let spent = flying.added.spent in
+            let start = entries-start in
+            let same = length-map flying.piece (λ (x : Numbered). x.entry) in
+            omega (arith, spent, start, same);
         sequence = record {
           own = subst (λ k. AllByRecursion (λ (e : Entry). e.processor ≡ k) (entries_in flying.piece))
-              (sym flying.processor ∙ flying.same_processor) flying.own;
+              next.processor flying.added.own;
           made = f.number;
           leads =
               sym (ap (λ o. progress_from o (entries_in flying.piece)) before)
               ∙ sym (progress_from-append (Some (at_rest 0 0)) (entries_in p.entries) (entries_in flying.piece))
               ∙ sym (ap (progress_of 0) split)
               ∙ all;
-          answer = flying.answers ∙ ap (λ o. option_to_list (answer_made g (reply_in o))) answered
-              ∙ ap (λ k. (k, (call_in g.purpose)) ∷ []) flying.number ∙ ap (λ k. (f.number, k) ∷ []) called;
+          answer = flying.added.answers ∙ ap (λ o. option_to_list (answer_made g (reply_in o))) answered
+              ∙ ap (λ k. (k, (call_in g.purpose)) ∷ []) number ∙ ap (λ k. (f.number, k) ∷ []) called;
         };
         before = before;
-        replies = flying.replies ∙ ap (λ o. option_to_list (reply_in o)) answered;
+        replies = flying.added.replies ∙ ap (λ o. option_to_list (reply_in o)) answered;
         never_short = subst (λ o. IfSome (reply_in o) (SaysWhy j.setting)) answered flying.says_why;
         whole = (f.number + 1, all);
       }
@@ -159,7 +164,7 @@ module _ (j : JournalName) (p : PassState) (f : Flight) (may : MayCall j p) (nex
       by : (o : Outcome) → (row_of g).outcome ≡ o → has_ended o ≡ true
           → IsSomeAnd (reply_in o) (MakesCall j.setting p q (call_in f.purpose))
       by Going is some = absurd (false≢true some)
-      by TurnEnded is some = absurd (turn_goes_on g (of_calls g (of_call_job g.purpose (call_in f.purpose) flying.job).0 flying.fits) is)
+      by TurnEnded is some = absurd (turn_goes_on g (of_calls g (flying.added.same_work.same_kind ∙ next.is_call) flying.on_way.fits) is)
       by (Answered r) is some = MakesCall-made g q r flying is
 
 -- The flight of a daemon's next turn, from its start to its end.
@@ -171,7 +176,7 @@ module _ (j : JournalName) (p : PassState) (c mark : ℕ) (may : MayTurn j p mar
   started = new_turn c 0 mark
 
   abbrev pub from_turn : Departure
-  from_turn = record { pass = p; before = made_before; number = 0; job = Turn mark }
+  from_turn = record { pass = p; before = made_before; flight = started }
 
   starts : Starts c 0 mark (Turn mark)
   starts = Starts-for c 0 mark (Turn mark) (refl, may.some)
@@ -180,43 +185,41 @@ module _ (j : JournalName) (p : PassState) (c mark : ℕ) (may : MayTurn j p mar
   turn_mark = ap (mark_of j.setting) own ∙ may.mark_is
 
   pub IsFlying-turn : IsFlying j from_turn started p
-  IsFlying-turn = record {
-    journal = may.journal;
-    processor = sym own;
-    same_processor = refl;
-    same_room = refl;
-    number = refl;
-    job = refl;
-    none_before = λ call. absurd (false≢true call);
-    known = subst (λ k. k < length j.setting.marks) (sym own) known;
-    mark = turn_mark;
-    progress =
-        ap (λ m. progress_of m (entries_in p.entries)) turn_mark
-        ∙ may.whole.1
-        ∙ ap (λ n. Some (at_rest mark n)) (let e : made_before ≡ made_before + 0 = omega arith in e)
-        ∙ ap (λ x. Some (later made_before x)) (sym starts.progress);
-    room = (let room = may.room in let left = starts.entries in omega (arith, room, left));
-    fits = Fits-for (length j.setting.told) c 0 (Turn mark) (may.some, may.few);
-    on = tt;
-    under = λ s under. under-for (length j.setting.told) c 0 (Turn mark) s (may.some, may.few) under;
-    piece = [];
-    entries = sym (append-nil p.entries);
-    spent = (let left = starts.entries in omega (arith, left));
-    own = tt;
-    answers = refl;
-    replies = refl;
-    will_say_why = tt;
-    says_why = tt;
-  }
+  IsFlying-turn =
+      record {
+        journal = may.journal;
+        processor = sym own;
+        same_processor = refl;
+        same_room = refl;
+        on_way = record {
+          known = subst (λ k. k < length j.setting.marks) (sym own) known;
+          mark = turn_mark;
+          none_before = λ call. absurd (false≢true call);
+          progress =
+              ap (λ m. progress_of m (entries_in p.entries)) turn_mark
+              ∙ may.whole.1
+              ∙ ap (λ n. Some (at_rest mark n)) (let e : made_before ≡ made_before + 0 = omega arith in e)
+              ∙ ap (λ x. Some (later made_before x)) (sym starts.progress);
+          fits = Fits-for (length j.setting.told) c 0 (Turn mark) (may.some, may.few);
+          on = tt;
+          under = λ s under. under-for (length j.setting.told) c 0 (Turn mark) s (may.some, may.few) under;
+        };
+        room = (let room = may.room in let left = starts.entries in omega (arith, room, left));
+        piece = [];
+        entries = sym (append-nil p.entries);
+        added = Added-none started refl;
+        says_why = tt;
+      }
 
   pub MakesTurn-ended : (g : Flight) (q : PassState) → IsFlying j from_turn g q → has_ended (row_of g).outcome ≡ true → MakesTurn p q mark
   MakesTurn-ended g q flying ended =
       let own_g : g.processor ≡ c = sym flying.processor ∙ flying.same_processor ∙ sym own in
-      let fits : FitsMark mark (job_in g.purpose) = subst (FitsMark mark) (sym flying.job) (refl, may.some) in
-      let at_end : (row_of g).progress ≡ at_rest mark 1 = ended_progress g mark ended fits flying.fits
-      ∙ ap (λ n. at_rest mark (n + 1)) flying.number in
+      let job : job_in g.purpose ≡ Turn mark = job_kept flying.added.same_work in
+      let fits : FitsMark mark (job_in g.purpose) = subst (FitsMark mark) (sym job) (refl, may.some) in
+      let at_end : (row_of g).progress ≡ at_rest mark 1 = ended_progress g mark ended fits flying.on_way.fits
+      ∙ ap (λ n. at_rest mark (n + 1)) flying.added.same_work.number in
       let all : progress_of mark (entries_in q.entries) ≡ Some (at_rest mark (made_before + 1)) =
-      ap (λ m. progress_of m (entries_in q.entries)) (sym (ap (mark_of j.setting) own_g ∙ turn_mark)) ∙ flying.progress
+      ap (λ m. progress_of m (entries_in q.entries)) (sym (ap (mark_of j.setting) own_g ∙ turn_mark)) ∙ flying.on_way.progress
       ∙ ap (λ x. Some (later made_before x)) at_end in
       let split : entries_in q.entries ≡ entries_in p.entries ++ entries_in flying.piece = ap entries_in flying.entries
       ∙ map-append (λ (x : Numbered). x.entry) p.entries flying.piece in
@@ -226,10 +229,14 @@ module _ (j : JournalName) (p : PassState) (c mark : ℕ) (may : MayTurn j p mar
         room = flying.same_room;
         piece = flying.piece;
         entries = flying.entries;
-        few = (let spent = flying.spent in omega (arith, spent));
+        few =
+            let spent = flying.added.spent in
+            let left = starts.entries in
+            let same = length-map flying.piece (λ (x : Numbered). x.entry) in
+            omega (arith, spent, left, same);
         turn = record {
           own = subst (λ k. AllByRecursion (λ (e : Entry). e.processor ≡ k) (entries_in flying.piece))
-              (sym flying.processor ∙ flying.same_processor) flying.own;
+              own flying.added.own;
           made = made_before;
           leads =
               sym (ap (λ o. progress_from o (entries_in flying.piece)) may.whole.1)
@@ -237,7 +244,7 @@ module _ (j : JournalName) (p : PassState) (c mark : ℕ) (may : MayTurn j p mar
               ∙ sym (ap (progress_of mark) split)
               ∙ all;
         };
-        no_answers = flying.answers ∙ ap (λ o. option_to_list (answer_made g o)) (unanswered g mark flying.job flying.fits.kind);
+        no_answers = flying.added.answers ∙ ap (λ o. option_to_list (answer_made g o)) (unanswered g mark job flying.on_way.fits.kind);
         before = may.whole.1;
         after = all;
       }

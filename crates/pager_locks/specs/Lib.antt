@@ -2,3 +2,4 @@ pub mod Locked
 pub mod Locks
 pub mod Calls
 pub mod Prepared
+pub mod Logs

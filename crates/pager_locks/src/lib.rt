@@ -29,6 +29,7 @@
 
 mod locked;
 mod locks;
+mod logs;
 mod naming;
 mod numbers;
 mod pager;

@@ -35,14 +35,15 @@ use Rattle.pager_core.proofs.Lists.{enumerate-push}
 use Rattle.pager_core.proofs.MachineTurns.{all_calls, take_are}
 use Rattle.pager_core.proofs.WholeRuns.{IsWholeRun-legal}
 use Rattle.step_log.specs.Logged.{replies_in}
+use Rattle.step_log.proofs.Lists.{all-append}
 use Rattle.replay_core.specs.declared.jobs.Worker.{Worker}
-use Rattle.replay_core.proofs.TurnLemmas.{all_join, all_tested}
+use Rattle.replay_core.proofs.TurnLemmas.{all_tested}
 use Rattle.replay_core.specs.Jobs.{jobs_in, room_for, DoesJob, HasDone, IsReady, IsDoneFrom, HasPass, KeepsToRooms, MayDo, MayDoAll, MayDoNext, HaveDone}
 
 -- Want of memory.
 
 NoneLacked-append : (xs ys : List Entry) → NoneLacked xs → NoneLacked ys → NoneLacked (xs ++ ys)
-NoneLacked-append = all_join (λ (e : Entry). reply_said e.what ≢ Some NoMemory)
+NoneLacked-append = all-append (λ (e : Entry). reply_said e.what ≢ Some NoMemory)
 
 -- replies that say nothing of it
 first_reply : (o : Option Reply) (rs : List Reply) → AllByRecursion (λ r. r ≢ NoMemory) (cons_option o rs)

@@ -17,7 +17,7 @@ use Rattle.pager_core.specs.declared.machine.Turn.TheVariants.{Ended as HasNone,
 use Rattle.pager_core.specs.Machines.{all_left}
 use Rattle.pager_core.specs.Running.{Running, jobs_at, flight_at, left_at, entries_left, MustWait, OneMore, HasEnded, IsLawful}
 use Rattle.pager_core.proofs.Lists.{sum_by-lower}
-use Rattle.pager_locks.proofs.Flights.{all-push}
+use Rattle.step_log.proofs.Lists.{all-append}
 use Rattle.pager_model.specs.TurnOrders.{can_step, has_left, left_of}
 use Rattle.replay_core.specs.Turns.{flies, flying_in, IsStuck, FirstStepped}
 use Rattle.replay_core.proofs.RunLemmas.{IsRunOf, length-jobs}
@@ -29,10 +29,6 @@ all_parts : {X : Type 0} (P : X → Type 0) (xs ys : List X) → AllByRecursion 
 all_parts P [] ys all = (tt, all)
 all_parts P (x ∷ xs) ys all = (let rest = all_parts P xs ys all.1 in ((all.0, rest.0), rest.1))
 
-pub all_join : {X : Type 0} (P : X → Type 0) (xs ys : List X) → AllByRecursion P xs → AllByRecursion P ys → AllByRecursion P (xs ++ ys)
-all_join P [] ys front back = back
-all_join P (x ∷ xs) ys front back = (front.0, all_join P xs ys front.1 back)
-
 pub all_at : {X : Type 0} (P : X → Type 0) (xs : List X) (i : ℕ) (d : X) → AllByRecursion P xs → i < length xs → P (get_or xs i d)
 all_at P [] i d all below = absurd (omega (arith, below))
 all_at P (x ∷ xs) zero d all below = all.0
@@ -42,7 +38,7 @@ all_at P (x ∷ xs) (suc i) d all below = all_at P xs i d all.1 (omega (arith, b
 pub all_take_more : {X : Type 0} (P : X → Type 0) (xs : List X) (i : ℕ) (d : X) → i < length xs → AllByRecursion P (take i xs)
     → P (get_or xs i d) → AllByRecursion P (take (i + 1) xs)
 all_take_more P xs i d below all is = subst (AllByRecursion P) (sym (take_more xs i d below))
-    (all-push P (take i xs) (get_or xs i d) all is)
+    (all-append P (take i xs) (get_or xs i d ∷ []) all (is, tt))
 
 all_both : {X : Type 0} (P Q R : X → Type 0) → ((x : X) → P x → Q x → R x) → (xs : List X) → AllByRecursion P xs → AllByRecursion Q xs
     → AllByRecursion R xs
@@ -53,12 +49,12 @@ all_both P Q R both (x ∷ xs) p q = (both x p.0 q.0, all_both P Q R both xs p.1
 pub all_turned : {X : Type 0} (P : X → Type 0) (i : ℕ) (xs : List X) → AllByRecursion P xs → AllByRecursion P (drop i xs ++ take i xs)
 all_turned P i xs all =
     let parts = all_parts P (take i xs) (drop i xs) (subst (AllByRecursion P) (sym (take-append-drop i xs)) all) in
-    all_join P (drop i xs) (take i xs) parts.1 parts.0
+    all-append P (drop i xs) (take i xs) parts.1 parts.0
 
 pub all_unturned : {X : Type 0} (P : X → Type 0) (i : ℕ) (xs : List X) → AllByRecursion P (drop i xs ++ take i xs) → AllByRecursion P xs
 all_unturned P i xs all =
     let parts = all_parts P (drop i xs) (take i xs) all in
-    subst (AllByRecursion P) (take-append-drop i xs) (all_join P (take i xs) (drop i xs) parts.1 parts.0)
+    subst (AllByRecursion P) (take-append-drop i xs) (all-append P (take i xs) (drop i xs) parts.1 parts.0)
 
 -- numbers from one on
 all_range : (P : ℕ → Type 0) (a n : ℕ) → ((d : ℕ) → d < a + n → P d) → AllByRecursion P (range_with_len a n)

@@ -278,6 +278,8 @@ module _ (g : Given) (h : List Entry) (before : ℕ) (was : Kept) (f : Flight) (
           added = added_one g h before f here.legal here.flying pool frames f' after e makes.entry fits';
           elsewhere = (makes.space.own_space, tt);
           same_space = makes.space.same_space;
+          between = λ is. makes.entry.between;
+          still = λ is. absurd (false≢true (sym is));
         }
 
   -- One that leaves whatever state of the frames.
@@ -331,6 +333,8 @@ module _ (g : Given) (h : List Entry) (before : ℕ) (was : Kept) (f : Flight) (
           };
           elsewhere = tt;
           same_space = passes.same_space;
+          between = λ is. absurd (false≢true is);
+          still = λ is. passes.keeps;
         }
 
 -- On the frames alone.
@@ -358,5 +362,6 @@ module _ (g : Given) (h : List Entry) (before : ℕ) (f : Flight) (legal : IsLeg
         frames = frames_then g h before f legal flying pool frames f' after e makes.entry makes.fits;
         added = added_one g h before f legal flying pool frames f' after e makes.entry makes.fits;
         nowhere = (makes.no_space, tt);
+        between = makes.entry.between;
         keeps_none = makes.keeps_none;
       }

@@ -25,7 +25,7 @@ use Rattle.step_log.specs.Counting.{most_in_history}
 use Rattle.step_log.specs.Flying.{IsSpaceIn, IsHere}
 use Rattle.step_log.specs.Logged.{Added, Stepped, SteppedOnFrames, replies_in}
 use Rattle.step_log.specs.Whole.{AreAt, WentOn}
-use Rattle.step_log.proofs.Lists.{slice_get-set_same, slice_get-set_other}
+use Rattle.step_log.proofs.Lists.{all-append, slice_get-set_same, slice_get-set_other}
 use Rattle.step_log.proofs.FlightSteps.{going}
 
 -- entries that name no space but this one leave another as it is
@@ -190,10 +190,6 @@ module _ (g : Given) (h : List Entry) (before : ℕ) (spaces : List Kept) (pool 
 
 -- Steps one after another.
 
-all-append : {X : Type 0} (P : X → Type 0) (xs ys : List X) → AllByRecursion P xs → AllByRecursion P ys → AllByRecursion P (xs ++ ys)
-all-append P [] ys all more = more
-all-append P (x ∷ xs) ys all more = (all.0, all-append P xs ys all.1 more)
-
 answers-append : (xs ys : List Entry) → answers_in (xs ++ ys) ≡ answers_in xs ++ answers_in ys
 answers-append xs ys = filter_map-append (λ (e : Entry). answer_in e.what) xs ys
 
@@ -230,6 +226,17 @@ Added-on old mid new first second going one two =
       spent = (let long = length-append first second in let a = one.spent in let b = two.spent in omega (arith, long, a, b));
     }
 
+-- none yet
+pub Added-none : (f : Flight) → has_ended (row_of f).outcome ≡ false → Added f f []
+Added-none f going =
+    record {
+      same_work = record { processor = refl; number = refl; same_kind = refl; call = refl; mark = refl };
+      own = tt;
+      answers = sym (ap (λ o. option_to_list (answer_made f o)) (not_ended (row_of f).outcome going));
+      replies = sym (ap option_to_list (not_ended (row_of f).outcome going));
+      spent = omega arith;
+    }
+
 pub WentOn-none : {L : Type 0} (stands : L → Given → List Entry → Type 0) (g : Given) (h : List Entry) (before : ℕ) (log : L) (f : Flight)
     (spaces : List Kept) (pool : FrameState) → has_ended (row_of f).outcome ≡ false → stands log g h → AreAt g h before spaces pool f
     → WentOn stands g h before log f f spaces pool
@@ -240,13 +247,7 @@ WentOn-none stands g h before log f spaces pool going is at =
       grown = sym (append-nil h);
       stands_for = is;
       at = at;
-      added = record {
-        same_work = record { processor = refl; number = refl; same_kind = refl; call = refl; mark = refl };
-        own = tt;
-        answers = sym (ap (λ o. option_to_list (answer_made f o)) (not_ended (row_of f).outcome going));
-        replies = sym (ap option_to_list (not_ended (row_of f).outcome going));
-        spent = omega arith;
-      };
+      added = Added-none f going;
     }
 
 pub WentOn-on : {L : Type 0} (stands : L → Given → List Entry → Type 0) (g : Given) (h : List Entry) (before : ℕ) (log log' : L)

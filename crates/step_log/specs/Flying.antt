@@ -1,7 +1,8 @@
 -- A flight in the midst of a history, whoever keeps the history.
 use Rattle.std.specs.Prelude.{ℕ, ◌≡◌, ◌+◌, ◌<◌, true, List, length, Some, IfSome}
 use Rattle.pager_model.specs.declared.entry.Entry.{Entry}
-use Rattle.pager_model.specs.Legal.{IsLegal, space_at, progress_at}
+use Rattle.pager_model.specs.Entries.{entries_of}
+use Rattle.pager_model.specs.Legal.{IsLegal, space_at, progress_in}
 use Rattle.pager_model.specs.Order.{Progress}
 use Rattle.pager_model.specs.Settings.{Given, mark_of}
 use Rattle.space_core.specs.Standing.{Kept}
@@ -13,15 +14,19 @@ use Rattle.flight_core.specs.Rows.{is_of_call, mark_in, own_space, row_of, space
 abbrev pub later : ℕ → Progress → Progress
 later before p = record { made = before + p.made; doing = p.doing }
 
--- Its processor's list has led to where it is; its own space, and that of its next step, are there.
-pub record IsFlying (g : Given) (h : List Entry) (before : ℕ) (f : Flight) : Type 0 where
+-- These entries of its processor have led to where it is; its own space, and that of its next step, are there.
+pub record IsOnWay (g : Given) (own : List Entry) (before : ℕ) (f : Flight) : Type 0 where
   pub known : f.processor < length g.marks
   pub mark : mark_of g f.processor ≡ mark_in f.purpose
   pub none_before : is_of_call f.purpose ≡ true → before ≡ 0
-  pub progress : progress_at g h f.processor ≡ Some (later before (row_of f).progress)
+  pub progress : progress_in g f.processor own ≡ Some (later before (row_of f).progress)
   pub fits : Fits f
   pub on : IfSome (own_space f.purpose) (λ s. s < length g.told)
   pub under : (s : ℕ) → space_under (row_of f).needs ≡ Some s → s < length g.told
+
+-- After the history it is on its way.
+abbrev pub IsFlying : Given → List Entry → ℕ → Flight → Type 0
+IsFlying g h before f = IsOnWay g (entries_of f.processor h) before f
 
 -- a space of the setting
 pub record IsSpaceIn (g : Given) (kept : Kept) : Type 0 where

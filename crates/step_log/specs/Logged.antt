@@ -1,5 +1,5 @@
 -- What a step of a flight leaves, with a log that took its entry.
-use Rattle.std.specs.Prelude.{ℕ, ◌≡◌, ◌+◌, ◌≤◌, Bool, if◌then◌else◌, List, ◌++◌, filter_map, length, None, IfSome, option_to_list}
+use Rattle.std.specs.Prelude.{ℕ, ◌≡◌, ◌+◌, ◌≤◌, Bool, true, false, if◌then◌else◌, List, ◌++◌, filter_map, length, Some, None, IfSome, option_to_list}
 use Rattle.std.specs.List.{AllByRecursion}
 use Rattle.pager_model.specs.declared.entry.Entry.{Entry}
 use Rattle.pager_model.specs.declared.reply.Reply.{Reply}
@@ -9,7 +9,7 @@ use Rattle.pager_model.specs.Settings.{Given}
 use Rattle.pager_model.specs.Showing.{answers_in}
 use Rattle.space_core.specs.Standing.{Kept}
 use Rattle.flight_core.specs.declared.flight.Flight.{Flight}
-use Rattle.flight_core.specs.Rows.{reply_in, row_of}
+use Rattle.flight_core.specs.Rows.{is_between, reply_in, row_of}
 use Rattle.flight_core.specs.Steps.{SameSpace, SameWork, answer_made, reply_said}
 use Rattle.step_log.specs.Flying.{IsFlying, IsHere, HasLeft}
 
@@ -54,7 +54,7 @@ pub record CanStepFrames {L : Type 0} (stands : L → Given → List Entry → T
   pub frames : pool ≡ frames_at setting history
 
 -- A step in a space: the log stands for a history that is longer by the entry that was made, where one was, which names no other space, and the
--- pool is the frames' state after it.
+-- pool is the frames' state after it. A flight that made none keeps the space.
 pub record Stepped {L : Type 0} (stands : L → Given → List Entry → Type 0) (g : Given) (h : List Entry) (before : ℕ) (log : L) (made : Bool)
     (old new : Flight) (was now : Kept) (pool : FrameState) : Type 0 where
   pub piece : List Entry
@@ -67,6 +67,8 @@ pub record Stepped {L : Type 0} (stands : L → Given → List Entry → Type 0)
   pub added : Added old new piece
   pub elsewhere : AllByRecursion (λ (e : Entry). IfSome e.space (λ s. s ≡ was.number)) piece
   pub same_space : SameSpace was now
+  pub between : made ≡ true → is_between new.purpose new.phase ≡ true
+  pub still : made ≡ false → (row_of new).keeps ≡ Some was.number
 
 -- A step on the frames alone: the history is longer by one entry, which names no space.
 pub record SteppedOnFrames {L : Type 0} (stands : L → Given → List Entry → Type 0) (g : Given) (h : List Entry) (before : ℕ) (log : L)
@@ -81,4 +83,5 @@ pub record SteppedOnFrames {L : Type 0} (stands : L → Given → List Entry →
   pub frames : pool ≡ frames_at g history
   pub added : Added old new piece
   pub nowhere : AllByRecursion (λ (e : Entry). e.space ≡ None) piece
+  pub between : is_between new.purpose new.phase ≡ true
   pub keeps_none : (row_of new).keeps ≡ None

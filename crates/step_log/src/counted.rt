@@ -46,6 +46,8 @@ impl Log for Counted {
 
     ghost takes = { λ c e. Unit {0} };
 
+    ghost grown = { λ from c. Unit {0} };
+
     ghost room = { λ c. c.left };
 
     fn add(&mut self, entry: &Entry) {

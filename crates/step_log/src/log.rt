@@ -16,6 +16,9 @@ pub trait Log {
     /// It is one that takes such an entry.
     ghost takes: { Self → Made → Type 0 };
 
+    /// It has become this since it was that, by entries that it took.
+    ghost grown: { Self → Self → Type 0 };
+
     /// How many entries it has room for.
     ghost room: { Self → ℕ };
 
@@ -26,5 +29,6 @@ pub trait Log {
         requires room { 1 ≤ room self.old }
         ensures stands { (g : Given) (h : List Made) → stands self.old g h → stands self.new g (h ++ entry.now ∷ []) }
         ensures takes { (e : Made) → takes self.old e → takes self.new e }
+        ensures grown { (from : Self) → grown from self.old → grown from self.new }
         ensures room { room self.new + 1 ≡ room self.old };
 }

@@ -1,6 +1,6 @@
 //! One step of a flight, under the lock of a space, that of the frames, or both, and its entry for the log.
 
-ghost use Rattle.std.specs.Prelude.{ℕ, ◌≡◌, ◌^◌, ◌<◌, ◌≤◌, List, true, false, Some, None, IfSome};
+ghost use Rattle.std.specs.Prelude.{ℕ, ◌≡◌, ◌+◌, ◌^◌, ◌<◌, ◌≤◌, if◌then◌else◌, List, true, false, Some, None, IfSome};
 ghost use Rattle.pager_model.specs.declared.entry.Entry.{Entry};
 ghost use Rattle.pager_model.specs.Legal.{IsLegal, frames_at};
 ghost use Rattle.pager_model.specs.Settings.{Given};
@@ -29,7 +29,9 @@ pub fn step_alone<L: Log, S: Store + Send + Drop>(
     ensures stepped { (g : Given) (h : List Entry) (before : ℕ) → L.stands log.old g h → IsHere g h before space.old flight.old
         → Stepped L.stands g h before log.new result flight.old flight.new space.old space.new (frames_at g h) }
     ensures takes { (e : Entry) → L.takes log.old e → L.takes log.new e }
+    ensures grown { (from : L) → L.grown from log.old → L.grown from log.new }
     ensures room { (row_of flight.new).entries ≤ L.room log.new }
+    ensures fewer { L.room log.new + (if result then 1 else 0) ≡ L.room log.old }
     ensures lasting { S.lasts ≡ true → NeverLacks flight.old.phase flight.new.phase }
     ensures nearer { (row_of flight.new).steps < (row_of flight.old).steps }
 {
@@ -57,7 +59,9 @@ pub fn step_both<L: Log, S: Store + Send + Drop>(
     ensures stepped { (g : Given) (h : List Entry) (before : ℕ) → L.stands log.old g h → IsHere g h before space.old flight.old → pool.old ≡ frames_at g h
         → Stepped L.stands g h before log.new result flight.old flight.new space.old space.new pool.new }
     ensures takes { (e : Entry) → L.takes log.old e → L.takes log.new e }
+    ensures grown { (from : L) → L.grown from log.old → L.grown from log.new }
     ensures room { (row_of flight.new).entries ≤ L.room log.new }
+    ensures fewer { L.room log.new + (if result then 1 else 0) ≡ L.room log.old }
     ensures never_lacks { NeverLacks flight.old.phase flight.new.phase }
     ensures nearer { (row_of flight.new).steps < (row_of flight.old).steps }
 {
@@ -80,7 +84,9 @@ pub fn step_frames<L: Log>(log: &mut L, pool: &mut Pool, flight: &mut Flight)
     ensures stepped { (g : Given) (h : List Entry) (before : ℕ) → L.stands log.old g h → IsLegal g h → IsFlying g h before flight.old
         → pool.old ≡ frames_at g h → SteppedOnFrames L.stands g h before log.new flight.old flight.new pool.new }
     ensures takes { (e : Entry) → L.takes log.old e → L.takes log.new e }
+    ensures grown { (from : L) → L.grown from log.old → L.grown from log.new }
     ensures room { (row_of flight.new).entries ≤ L.room log.new }
+    ensures fewer { L.room log.new + 1 ≡ L.room log.old }
     ensures never_lacks { NeverLacks flight.old.phase flight.new.phase }
     ensures nearer { (row_of flight.new).steps < (row_of flight.old).steps }
 {

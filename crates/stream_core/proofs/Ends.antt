@@ -19,7 +19,7 @@ use Rattle.pager_model.specs.Stores.{StoresEnd, setting_over}
 use Rattle.pager_core.specs.RunParts.{AreAtRest}
 use Rattle.flight_core.specs.Steps.{reply_said}
 use Rattle.replay_core.specs.Replays.{IsReplay}
-use Rattle.replay_core.proofs.TurnLemmas.{all_join}
+use Rattle.step_log.proofs.Lists.{all-append}
 use Rattle.replay_core.proofs.RunLemmas.{IsReplay-numbered, told-over}
 use Rattle.stream_core.specs.Streaming.{IsAfter, IsAt, IsCalled, IsDue, IsMade, IsRunTo, IsRunWhole, Streaming, TookTurns, turns_in, with_calls}
 use Rattle.stream_core.proofs.Fronts.{FilesBy-part, part_is_front, part_is_whole, part_of, setting_of_part}
@@ -61,7 +61,7 @@ IsMade-then lasts plan stores calls h line s s' s'' after took called =
         turns = called.turns ∙ turns_then (turns_in plan.daemon) s.turns (length calls) s'.turns after.turns took.turns
             ∙ ap (min (turns_in plan.daemon)) (sym (length_push calls line));
       };
-      lasting = λ is. all_join (λ (e : Entry). reply_said e.what ≢ Some NoMemory) took.piece called.piece took.lacks (called.lasting is);
+      lasting = λ is. all-append (λ (e : Entry). reply_said e.what ≢ Some NoMemory) took.piece called.piece took.lacks (called.lasting is);
     }
 
 -- one more after some
@@ -74,7 +74,7 @@ TookTurns-more plan stores calls h before more s s' took one =
       at = subst (λ l. IsAt plan stores calls l s') (append_assoc h took.piece one.piece) one.at;
       turns = turns_then (turns_in plan.daemon) s.turns (before + more) s'.turns took.turns one.turns
           ∙ ap (min (turns_in plan.daemon)) (let e : before + more + 1 ≡ before + (more + 1) = omega arith in e);
-      lacks = all_join (λ (e : Entry). reply_said e.what ≢ Some NoMemory) took.piece one.piece took.lacks one.lacks;
+      lacks = all-append (λ (e : Entry). reply_said e.what ≢ Some NoMemory) took.piece one.piece took.lacks one.lacks;
     }
 
 -- as many as were left are all

@@ -10,7 +10,7 @@ use Rattle.pager_model.specs.Showing.{IsFiled}
 use Rattle.pager_model.specs.Stored.{Stored}
 use Rattle.pager_model.specs.Stores.{setting_over}
 use Rattle.flight_core.specs.Lacking.{NoneLacked}
-use Rattle.replay_core.proofs.TurnLemmas.{all_join}
+use Rattle.step_log.proofs.Lists.{all-append}
 use Rattle.report_text.specs.Written.{WroteAll, WrotePart}
 use Rattle.stream_core.specs.Streaming.{IsRunTo, Streaming, front_of, with_calls}
 use Rattle.trace_stream.specs.Streams.{Opens}
@@ -22,7 +22,7 @@ use Rattle.stream_run.proofs.ToldCounts.{AreToldBy-longer, wrote_more, wrote_par
 
 -- want of memory in neither of two pieces
 pub none_lacked : (h piece : List Entry) → NoneLacked h → NoneLacked piece → NoneLacked (h ++ piece)
-none_lacked h piece front back = all_join _ h piece front back
+none_lacked h piece front back = all-append _ h piece front back
 
 module _ (lasts : Bool) (every : Option ℕ) (plan : Plan) (stores : List Stored) (s : Streaming) (before mid : Ports)
     (opens : IfSome before.left (λ bytes. (rest : List ℕ) × Opens bytes plan rest)) where

@@ -1,18 +1,19 @@
-use Rattle.std.proofs.Common.{◌≡◌, true, map, reverse, refl, ap, sym, subst, arith}
+use Rattle.std.proofs.Common.{◌≡◌, true, [], ◌∷◌, ◌++◌, map, reverse, refl, ap, sym, subst, arith}
 use Rattle.std.proofs.Math.ListN.{set, length-set}
-use Rattle.pager_model.specs.Legal.{space_at, entries_in}
+use Rattle.pager_model.specs.Legal.{entries_in}
 use Rattle.flight_core.specs.Lacking.{NoneLacked}
+use Rattle.step_log.specs.Logged.{Stepped}
 use Rattle.pager_core.specs.Machines.{HasMemory}
 use Rattle.pager_core.specs.Running.{Running, MustWait}
-use Rattle.run_history.specs.Kept.{Kept}
 use Rattle.pager_laws.proofs.KeptLaws.{KeepsLaws-legal}
 use Rattle.pager_laws.proofs.OrderedRefusals.{IsNeverShort-legal}
 use Rattle.pager_core.proofs.Laws.{IsNeverShort-machine, KeepsLaws-machine}
 use Rattle.pager_core.proofs.MachineTurns.{Goes, MachineParts, Step, run_after}
 use Rattle.pager_core.proofs.Memory.{HasMemory-turned}
-use Rattle.pager_core.proofs.ReadyFlights.{number-few, OwnsBy-machine, entries-below, known-machine, space_within}
-use Rattle.pager_core.proofs.SpaceTurns.{Turns}
-use Rattle.pager_core.proofs.WholeTurns.{AreKeepers-of, MustWait-kept, none_waits, flies_in, Finds, finds, Goes-of, IsMachine-turned, IsLawful-turned, OneMore-turned}
+use Rattle.pager_core.proofs.MoreEntries.{listed_for, items_more, same_room}
+use Rattle.pager_core.proofs.ReadyFlights.{number-few, entries-below, room-machine, space_within, within-machine}
+use Rattle.pager_core.proofs.SpaceTurns.{Turns, Turns-of, stands_in, step_in}
+use Rattle.pager_core.proofs.WholeTurns.{AreKeepers-of, MustWait-kept, none_waits, flies_in, Finds, finds, Goes-of, HasNext, IsMachine-turned, IsLawful-turned, OneMore-turned}
 use Rattle.pager_core.proofs.machine.Machine.turn_in.Given.{Over}
 use Rattle.pager_core.proofs.machine.Machine.turn_in.Goals as goal
 
@@ -61,9 +62,10 @@ index_mut-requires g c =
     (flies_in _ c.args.self.now c.args.actor c.args.flight c.self.view_is c.requires.flies) c.args.space c.requires.under in
     omega (arith, below, i.spaces.ok.0)
 
-pub next_entry-entry-requires-clause-ready : goal.next_entry-entry-requires-clause-ready
-next_entry-entry-requires-clause-ready g c κs within =
+pub make_entry-requires-clause-can : goal.make_entry-requires-clause-can
+make_entry-requires-clause-can g c κs within =
     let i = c.self.inside in
+    let machine = c.self.invariant.0 in
     let found = finds _ c.args.self.now c.args.actor c.args.space c.args.flight c.index.result.now
     (record {
       whole = c.self.invariant.0;
@@ -75,84 +77,29 @@ next_entry-entry-requires-clause-ready g c κs within =
       read = c.index.ensures;
     })
     c.index_mut.result.now c.index_mut.ensures.value c.if-is_other.ensures.1 in
-    (space_at i.setting (entries_in i.history.items) c.args.space, found.ready)
+    record {
+      setting = i.setting;
+      history = entries_in i.log.history.items;
+      before = 0;
+      stands_for = record { entries = refl; numbered = machine.lawful.numbered; within = within-machine _ c.args.actor c.args.flight machine found.flies };
+      here = found.here;
+      frames = machine.frames;
+    }
 
-pub next_entry-entry-requires-clause-going : goal.next_entry-entry-requires-clause-going
-next_entry-entry-requires-clause-going g c κs within =
-    (c.self.invariant.0.flights c.args.actor c.args.flight
-    (flies_in _ c.args.self.now c.args.actor c.args.flight c.self.view_is c.requires.flies)).going
-
-pub next_entry-entry-requires-clause-agree : goal.next_entry-entry-requires-clause-agree
-next_entry-entry-requires-clause-agree g c κs within =
-    let i = c.self.inside in
-    let found = finds _ c.args.self.now c.args.actor c.args.space c.args.flight c.index.result.now
-    (record {
-      whole = c.self.invariant.0;
-      same = c.self.view_is;
-      flies = c.requires.flies;
-      under = c.requires.under;
-      keepers = i.keepers.items;
-      are = c.self.invariant.2;
-      read = c.index.ensures;
-    })
-    c.index_mut.result.now c.index_mut.ensures.value c.if-is_other.ensures.1 in
-    found.agreed
-
-pub next_entry-entry-requires-clause-image : goal.next_entry-entry-requires-clause-image
-next_entry-entry-requires-clause-image g c κs within =
-    let i = c.self.inside in
-    let found = finds _ c.args.self.now c.args.actor c.args.space c.args.flight c.index.result.now
-    (record {
-      whole = c.self.invariant.0;
-      same = c.self.view_is;
-      flies = c.requires.flies;
-      under = c.requires.under;
-      keepers = i.keepers.items;
-      are = c.self.invariant.2;
-      read = c.index.ensures;
-    })
-    c.index_mut.result.now c.index_mut.ensures.value c.if-is_other.ensures.1 in
-    found.image
-
-pub next_entry-entry-requires-clause-owns : goal.next_entry-entry-requires-clause-owns
-next_entry-entry-requires-clause-owns g c κs within =
-    let i = c.self.inside in
-    OwnsBy-machine _ c.args.actor c.args.flight c.self.invariant.0
+pub make_entry-requires-clause-room : goal.make_entry-requires-clause-room
+make_entry-requires-clause-room g c κs within =
+    room-machine _ c.args.actor c.args.flight c.self.invariant.0
     (flies_in _ c.args.self.now c.args.actor c.args.flight c.self.view_is c.requires.flies)
 
-pub next_entry-entry-requires-clause-room : goal.next_entry-entry-requires-clause-room
-next_entry-entry-requires-clause-room g c κs within =
-    let i = c.self.inside in
+pub make_entry-requires-clause-few : goal.make_entry-requires-clause-few
+make_entry-requires-clause-few g c κs within =
     entries-below _ c.args.actor c.args.flight c.self.invariant.0
     (flies_in _ c.args.self.now c.args.actor c.args.flight c.self.view_is c.requires.flies)
-
-pub next_entry-entry-requires-clause-known : goal.next_entry-entry-requires-clause-known
-next_entry-entry-requires-clause-known g c κs within =
-    let i = c.self.inside in
-    known-machine _ c.args.actor c.args.flight c.self.invariant.0
-    (flies_in _ c.args.self.now c.args.actor c.args.flight c.self.view_is c.requires.flies)
-
-pub push-requires : goal.push-requires
-push-requires g c =
-    let i = c.self.inside in
-    let found = finds _ c.args.self.now c.args.actor c.args.space c.args.flight c.index.result.now
-    (record {
-      whole = c.self.invariant.0;
-      same = c.self.view_is;
-      flies = c.requires.flies;
-      under = c.requires.under;
-      keepers = i.keepers.items;
-      are = c.self.invariant.2;
-      read = c.index.ensures;
-    })
-    c.index_mut.result.now c.index_mut.ensures.value c.if-is_other.ensures.1 in
-    let room = found.room c.next_entry-entry.new.flight c.next_entry-entry.new.space c.next_entry-entry.new.pool c.next_entry-entry.result
-    (c.next_entry-entry.ensures.made _ found.ready) in
-    room
 
 pub going_on-requires : goal.going_on-requires
 going_on-requires g c =
     let i = c.self.inside in
+    let machine = c.self.invariant.0 in
     let found = finds _ c.args.self.now c.args.actor c.args.space c.args.flight c.index.result.now
     (record {
       whole = c.self.invariant.0;
@@ -164,9 +111,11 @@ going_on-requires g c =
       read = c.index.ensures;
     })
     c.index_mut.result.now c.index_mut.ensures.value c.if-is_other.ensures.1 in
-    let few = number-few _ c.args.actor c.args.flight c.self.invariant.0 found.flies in
-    let same = (c.next_entry-entry.ensures.made
-    (space_at i.setting (entries_in i.history.items) c.args.space) found.ready).entry.same_work.number in
+    let few = number-few _ c.args.actor c.args.flight machine found.flies in
+    let made = c.make_entry.ensures.made i.setting (entries_in i.log.history.items) 0
+    (record { entries = refl; numbered = machine.lawful.numbered; within = within-machine _ c.args.actor c.args.flight machine found.flies })
+    found.here machine.frames in
+    let same = made.added.same_work.number in
     omega (arith, few, same)
 
 -- the machine before the turn
@@ -177,36 +126,10 @@ parts g c =
       given = i.setting;
       jobs = i.jobs;
       flights = i.flights.items;
-      history = i.history.items;
+      history = i.log.history.items;
       unused = map g.S.Store.seen (reverse i.stores.items);
     } in
-    record { run = run; spaces = i.spaces.items; pool = i.pool; capacity = i.history.room }
-
--- its step
-abbrev step : (g : Over) → goal.After-self-3-1 g → Step
-step g c = record {
-  actor = c.args.actor;
-  old = c.args.flight;
-  new = c.next_entry-entry.new.flight;
-  entry = c.next_entry-entry.result;
-  after = c.next_entry-entry.new.pool;
-}
-
--- and the machine after it
-abbrev after : (g : Over) → goal.After-self-3-1 g → Running
-after g c =
-    let i = c.self.inside in
-    record {
-      given = i.setting;
-      jobs = i.jobs;
-      flights = set i.flights.items c.args.actor c.going_on.result;
-      history = c.push.new.self.items;
-      unused = map g.S.Store.seen (reverse i.stores.items);
-    }
-
-after_is : (g : Over) (c : goal.After-self-3-1 g)
-    → after g c ≡ run_after (parts g c).run c.args.actor c.next_entry-entry.result c.going_on.result
-after_is g c = ap (λ l. record (after g c) { history = l }) (ap (λ (k : Kept). k.items) c.push.ensures)
+    record { run = run; spaces = i.spaces.items; pool = i.pool; capacity = i.log.history.room }
 
 -- what it found
 found : (g : Over) (c : goal.After-self-3-1 g) → Finds (parts g c) c.args.actor c.args.space c.args.flight c.index_mut.result.now
@@ -224,28 +147,59 @@ found g c =
     })
     c.index_mut.result.now c.index_mut.ensures.value c.if-is_other.ensures.1
 
-turns : (g : Over) (c : goal.After-self-3-1 g)
-    → Turns (parts g c) (step g c) c.args.space c.index_mut.result.now c.next_entry-entry.new.space
+-- its log, and what was made
+listed : (g : Over) (c : goal.After-self-3-1 g) → listed_for c.self.inside.log c.self.inside.setting (entries_in c.self.inside.log.history.items)
+listed g c = record {
+  entries = refl;
+  numbered = c.self.invariant.0.lawful.numbered;
+  within = within-machine (parts g c) c.args.actor c.args.flight c.self.invariant.0 (found g c).flies;
+}
+
+made : (g : Over) (c : goal.After-self-3-1 g)
+    → Stepped listed_for c.self.inside.setting (entries_in c.self.inside.log.history.items) 0 c.make_entry.new.log true c.args.flight c.make_entry.new.flight c.index_mut.result.now c.make_entry.new.space c.make_entry.new.pool
+made g c = c.make_entry.ensures.made c.self.inside.setting (entries_in c.self.inside.log.history.items) 0 (listed g c) (found g c).here
+    c.self.invariant.0.frames
+
+abbrev step : (g : Over) → goal.After-self-3-1 g → Step
+step g c = step_in listed_for (parts g c) c.args.actor c.args.flight c.make_entry.new.flight c.args.space c.index_mut.result.now c.make_entry.new.space c.make_entry.new.pool c.make_entry.new.log (made g c)
+
+-- the machine after it
+abbrev after : (g : Over) → goal.After-self-3-1 g → Running
+after g c =
+    let i = c.self.inside in
+    record {
+      given = i.setting;
+      jobs = i.jobs;
+      flights = set i.flights.items c.args.actor c.going_on.result;
+      history = c.make_entry.new.log.history.items;
+      unused = map g.S.Store.seen (reverse i.stores.items);
+    }
+
+now_listed : (g : Over) (c : goal.After-self-3-1 g)
+    → listed_for c.make_entry.new.log c.self.inside.setting (entries_in c.self.inside.log.history.items ++ (step g c).entry ∷ [])
+now_listed g c = stands_in listed_for (parts g c) c.args.actor c.args.flight c.make_entry.new.flight c.args.space c.index_mut.result.now c.make_entry.new.space c.make_entry.new.pool c.make_entry.new.log (made g c)
+
+after_is : (g : Over) (c : goal.After-self-3-1 g) → after g c ≡ run_after (parts g c).run c.args.actor (step g c).entry c.going_on.result
+after_is g c = ap (λ l. record (after g c) { history = l })
+    (items_more c.self.inside.log c.make_entry.new.log c.self.inside.setting (step g c).entry (listed g c) (now_listed g c))
+
+room_is : (g : Over) (c : goal.After-self-3-1 g) → c.make_entry.new.log.history.room ≡ c.self.inside.log.history.room
+room_is g c = same_room c.self.inside.log c.make_entry.new.log c.self.inside.setting (step g c).entry (listed g c) (now_listed g c)
+    c.make_entry.ensures.fewer
+
+turns : (g : Over) (c : goal.After-self-3-1 g) → Turns (parts g c) (step g c) c.args.space c.index_mut.result.now c.make_entry.new.space
 turns g c =
     let has = found g c in
-    record {
-      whole = c.self.invariant.0;
-      flies = has.flies;
-      under = has.under;
-      at = has.at;
-      unkept = has.unkept;
-      makes = c.next_entry-entry.ensures.made _ has.ready;
-    }
+    Turns-of listed_for (parts g c) c.args.actor c.args.flight c.make_entry.new.flight c.args.space c.index_mut.result.now c.make_entry.new.space c.make_entry.new.pool c.make_entry.new.log
+    (made g c) c.self.invariant.0 has.flies has.under has.at has.unkept
+
+has_next : (g : Over) (c : goal.After-self-3-1 g) → HasNext (parts g c) (step g c) c.going_on.result
+has_next g c = record { going = c.going_on.ensures.going; next = c.going_on.ensures.next }
 
 -- what the turn did
 goes : (g : Over) (c : goal.After-self-3-1 g)
-    → Goes (parts g c) (step g c) (set c.self.inside.spaces.items c.args.space c.next_entry-entry.new.space) c.going_on.result
-goes g c =
-    let i = c.self.inside in
-    Goes-of (parts g c) (step g c) c.going_on.result c.args.space c.index_mut.result.now c.next_entry-entry.new.space (turns g c) (record {
-      going = c.going_on.ensures.going;
-      next = c.going_on.ensures.next;
-    })
+    → Goes (parts g c) (step g c) (set c.self.inside.spaces.items c.args.space c.make_entry.new.space) c.going_on.result
+goes g c = Goes-of (parts g c) (step g c) c.going_on.result c.args.space c.index_mut.result.now c.make_entry.new.space (turns g c) (has_next g c)
 
 pub returns-clause-not_waiting : goal.returns-clause-not_waiting
 returns-clause-not_waiting g c = λ space waits.
@@ -257,19 +211,18 @@ has_memory : (g : Over) (c : goal.After-self-3-1 g) → g.S.Store.lasts ≡ true
 has_memory g c lasts =
     subst HasMemory (sym (after_is g c))
     (HasMemory-turned (parts g c) (step g c) c.going_on.result (c.self.invariant.3 lasts) (found g c).flies
-    (c.next_entry-entry.ensures.lasting lasts) (turns g c).makes.entry.reply
-    (record { going = c.going_on.ensures.going; next = c.going_on.ensures.next }))
+    (c.make_entry.ensures.lasting lasts) (turns g c).grows.added (has_next g c))
 
 pub invariant_of-self : goal.invariant_of-self
 invariant_of-self g c =
     let i = c.self.inside in
-    let spaces = set i.spaces.items c.args.space c.next_entry-entry.new.space in
-    let same = length-set i.spaces.items c.args.space c.next_entry-entry.new.space in
+    let spaces = set i.spaces.items c.args.space c.make_entry.new.space in
+    let same = length-set i.spaces.items c.args.space c.make_entry.new.space in
     let room = c.self.invariant.1 in (
       IsMachine-turned (parts g c) (step g c) spaces c.going_on.result c.self.invariant.0 (goes g c) (after g c) _ (after_is g c)
-          (ap (λ (k : Kept). k.room) c.push.ensures),
+          (room_is g c),
       omega (arith, room, same),
-      AreKeepers-of (parts g c) (step g c) c.going_on.result c.args.space c.index_mut.result.now c.next_entry-entry.new.space (turns g c)
+      AreKeepers-of (parts g c) (step g c) c.going_on.result c.args.space c.index_mut.result.now c.make_entry.new.space (turns g c)
           (goes g c) i.keepers.items c.self.invariant.2
           c.keeper.result c.keeper.ensures,
       λ lasts. has_memory g c lasts,
@@ -277,12 +230,12 @@ invariant_of-self g c =
 
 pub returns-clause-stepped : goal.returns-clause-stepped
 returns-clause-stepped g c = λ is.
-    OneMore-turned (parts g c) (step g c) (set c.self.inside.spaces.items c.args.space c.next_entry-entry.new.space) c.going_on.result
+    OneMore-turned (parts g c) (step g c) (set c.self.inside.spaces.items c.args.space c.make_entry.new.space) c.going_on.result
     c.self.invariant.0 (goes g c) c.args.self.now (after g c) c.self.view_is (after_is g c)
 
 pub returns-clause-lawful : goal.returns-clause-lawful
 returns-clause-lawful g c =
-    IsLawful-turned (parts g c) (step g c) (set c.self.inside.spaces.items c.args.space c.next_entry-entry.new.space) c.going_on.result
+    IsLawful-turned (parts g c) (step g c) (set c.self.inside.spaces.items c.args.space c.make_entry.new.space) c.going_on.result
     c.self.invariant.0 (goes g c) (after g c) (after_is g c)
 
 -- the laws, where the actor waits, and after an entry
