@@ -7,4 +7,4 @@ mod made;
 mod written;
 
 pub use made::make;
-pub use written::write_trace;
+pub use written::{line_of_first, put_calls, write_trace};

@@ -59,7 +59,7 @@ fn put_daemon<K: Sink>(
 }
 
 /// Puts a line for each call.
-fn put_calls<K: Sink>(room: &mut Room, sink: &mut K, calls: &[Line]) -> Result<(), WriteFailed>
+pub fn put_calls<K: Sink>(room: &mut Room, sink: &mut K, calls: &[Line]) -> Result<(), WriteFailed>
     ensures { Puts result
         (outgoing (K.taken sink.old) (K.writes sink.old) (K.faults sink.old) room.old.bytes.items)
         (outgoing (K.taken sink.new) (K.writes sink.new) (K.faults sink.new) room.new.bytes.items)
@@ -71,8 +71,8 @@ fn put_calls<K: Sink>(room: &mut Room, sink: &mut K, calls: &[Line]) -> Result<(
     Ok(())
 }
 
-/// The first line.
-fn line_of_first(trace: &Trace) -> TextLine
+/// The first line of a trace's text.
+pub fn line_of_first(trace: &Trace) -> TextLine
     ensures { line_text result ≡ first_line trace.now }
 {
     let version = trace.version();

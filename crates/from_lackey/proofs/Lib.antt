@@ -1,0 +1,4 @@
+mod EmptyTraces
+mod LineEnds
+mod MadeLines
+mod WroteLines
