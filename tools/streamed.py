@@ -26,6 +26,8 @@ class Counts(NamedTuple):
     # As they were at the last line of counts; nothing where there is none.
     evictions: Optional[int]
     unserved: Optional[int]
+    # The most frames that were used at a time: at the end, or at a line of counts.
+    most_used: int
 
 
 def counts_of(text: str) -> Optional[Counts]:
@@ -33,9 +35,10 @@ def counts_of(text: str) -> Optional[Counts]:
     counts = COUNTS.search(text)
     if counts is None:
         return None
-    after = [line.split() for line in AFTER.findall(text)][-1:]
-    evictions, unserved = (int(after[0][6]), int(after[0][10])) if after else (None, None)
-    return Counts(*map(int, counts.groups()), evictions, unserved)
+    after = [line.split() for line in AFTER.findall(text)]
+    evictions, unserved = (int(after[-1][6]), int(after[-1][10])) if after else (None, None)
+    used = [int(line[9]) for line in after] + [int(counts[8])]
+    return Counts(*map(int, counts.groups()), evictions, unserved, max(used))
 
 
 def lines_of(source: BinaryIO) -> int:

@@ -8,7 +8,7 @@ import os
 import subprocess
 import time
 from contextlib import ExitStack
-from typing import BinaryIO, Dict, Iterator, List, NamedTuple, Sequence, Set, Tuple
+from typing import BinaryIO, Dict, Iterator, List, NamedTuple, Sequence, Tuple
 
 from common import Stopped, with_first_line
 
@@ -16,9 +16,6 @@ from .programs import environment, found
 
 # How many bytes of a trace are passed on at a time.
 PIECE = 1 << 20
-# How many lines that were looked at already are known.
-KNOWN = 1 << 20
-PAGE = 8192
 LACKEY = ('--tool=lackey', '--trace-mem=yes', '--trace-syscalls=yes', '--basic-counts=no')
 
 
@@ -39,27 +36,7 @@ class Pipeline(NamedTuple):
 class Measured(NamedTuple):
     """What is known of a run besides its texts."""
     seconds: float
-    pages: int
     calls: int
-
-
-class Pages:
-    """The pages that the lines of a trace access, and how many lines there are. Most lines are of accesses that were looked at before."""
-
-    def __init__(self) -> None:
-        self.pages: Set[int] = set()
-        self.known: Set[bytes] = set()
-        self.lines = 0
-
-    def add(self, lines: Sequence[bytes]) -> None:
-        """So many lines more."""
-        self.lines += len(lines)
-        fresh = set(lines) - self.known
-        for line in fresh:
-            words = line.split(b' ')
-            if len(words) > 3 and words[1] in (b'load', b'store'):
-                self.pages.add(int(words[3]) // PAGE)
-        self.known = fresh if len(self.known) > KNOWN else self.known | fresh
 
 
 class Sinks:
@@ -93,18 +70,17 @@ def pieces_of(source: io.BufferedReader) -> Iterator[bytes]:
     return iter(lambda: source.read1(PIECE), b'')
 
 
-def pass_on(source: io.BufferedReader, sinks: Sinks) -> Pages:
-    """Passes a trace on to all sinks, each with the first line of its page sizes, and counts its pages."""
+def pass_on(source: io.BufferedReader, sinks: Sinks) -> int:
+    """Passes a trace on to all sinks, each with the first line of its page sizes, and answers how many lines stood behind it."""
     first = source.readline()
     sinks.write({sizes: with_first_line(first, None, sizes) for sizes in sinks.sinks})
-    pages, rest = Pages(), b''
+    lines = 0
     for piece in pieces_of(source):
         sinks.write_all(piece)
-        *lines, rest = (rest + piece).split(b'\n')
-        pages.add(lines)
+        lines += piece.count(b'\n')
         if not sinks.sinks:
             break
-    return pages
+    return lines
 
 
 def text_path(folder: str, sizes: str) -> str:
@@ -154,7 +130,7 @@ def measure(pipeline: Pipeline, command: Sequence[str], folder: str) -> Measured
         told.close()
         runs = {sizes: run_of(stack, pipeline, text_path(folder, sizes)) for sizes in pipeline.sizes}
         sinks = Sinks({sizes: run.stdin for sizes, run in runs.items()})
-        pages = pass_on(converter.stdout, sinks)
+        lines = pass_on(converter.stdout, sinks)
         for run in runs.values():
             run.stdin.close()
         if sinks.sinks:
@@ -162,7 +138,7 @@ def measure(pipeline: Pipeline, command: Sequence[str], folder: str) -> Measured
             check_ends('the converter', [converter.wait()])
         check_ends('the pager', [run.wait() for run in runs.values()])
         check_ends(command[0], [lackey.wait()])
-    return Measured(time.monotonic() - start, len(pages.pages), pages.lines)
+    return Measured(time.monotonic() - start, lines)
 
 
 def check_ends(name: str, statuses: Sequence[int]) -> None:
