@@ -1,5 +1,5 @@
 -- For each space the processor whose flight keeps it.
-use Rattle.std.proofs.Common.{◌≡◌, ◌≢◌, ℕ, ◌<◌, List, length, replicate, get_or, Option, Some, None, option_map, slice_get, IsTrue, false, refl, ap, sym, subst, ◌∙◌, inl, inr, arith}
+use Rattle.std.proofs.Common.{◌≡◌, ◌≢◌, ℕ, ◌<◌, List, length, replicate, get_or, Option, Some, None, option_map, slice_get, refl, ap, sym, subst, ◌∙◌, inl, inr, arith}
 use Rattle.std.proofs.lemmas.Bool.{cases_eq, cases_lt}
 use Rattle.std.proofs.lemmas.List.{get_or_past, get_or_read_under, get_or-set_same, get_or-set_other}
 use Rattle.std.proofs.lemmas.List.FromFn.{get_or-map-range_with_len, length-map-range_with_len}
@@ -62,10 +62,8 @@ module _ (flights : List (Option Flight)) (spaces : ℕ) (keepers : List (Option
   pub kept_if : (actor s : ℕ) (x : Option ℕ) → s < spaces → x ≡ get_or keepers s x → IsOther x actor → IsKeptByOther flights actor s
   kept_if actor s x within at other = kept_too actor s (subst (λ k. IsOther k actor) (read s x within at) other)
 
-  pub unkept_if : (actor s : ℕ) (x : Option ℕ) → s < spaces → x ≡ get_or keepers s x → (IsOther x actor → IsTrue false)
-      → IsKeptByOther flights actor s → ⊥
-  unkept_if actor s x within at none kept =
-      (let no = none (subst (λ k. IsOther k actor) (sym (read s x within at)) (other_keeps actor s kept)) in cc)
+  pub other_if : (actor s : ℕ) (x : Option ℕ) → s < spaces → x ≡ get_or keepers s x → IsKeptByOther flights actor s → IsOther x actor
+  other_if actor s x within at kept = subst (λ k. IsOther k actor) (sym (read s x within at)) (other_keeps actor s kept)
 
   -- a flight that keeps none goes on as one that keeps none
   module _ (c : ℕ) (f : Flight) (o : Option Flight) (flies : flight_at flights c ≡ Some f) where

@@ -200,7 +200,8 @@ module _ (mark : ℕ) (jobs : List Job) (f : Flight) (are : AreOfMark mark jobs)
   Lands-ended = lands_next (slice_get jobs (f.number + 1)) refl
 
 -- Either way.
-module _ (mark : ℕ) (jobs : List Job) (f : Flight) (are : AreOfMark mark jobs) (job : slice_get jobs f.number ≡ Some (job_in f.purpose)) (fits : Fits f) where
+module _ (mark : ℕ) (jobs : List Job) (f : Flight) (are : AreOfMark mark jobs) (job : slice_get jobs f.number ≡ Some (job_in f.purpose))
+    (fits : Fits f) where
   pub Lands-on : (o : Option Flight) → ((row_of f).outcome ≡ Going → o ≡ Some f)
       → (has_ended (row_of f).outcome ≡ true → o ≡ flight_of f.processor (f.number + 1) jobs) → Lands mark jobs f o
   Lands-on o going next = by (row_of f).outcome refl

@@ -9,6 +9,7 @@ pub mod Keepers
 pub mod ReadyFlights
 pub mod WholeTurns
 pub mod Memory
+pub mod TakenTurns
 pub mod Laws
 pub mod WholeRuns
 pub mod RunCounts

@@ -55,7 +55,7 @@ going_or_ended (Answered reply) = inr refl
 
 module _ (m : MachineParts) (step : Step) (o : Option Flight) where
   -- what the actor has after a step
-  next_has : HasNext m step o → is_lacking step.new.phase ≡ false → (f : Flight) → o ≡ Some f → is_lacking f.phase ≡ false
+  next_has : HasNext m.run.jobs step.new o → is_lacking step.new.phase ≡ false → (f : Flight) → o ≡ Some f → is_lacking f.phase ≡ false
   next_has next has f is = elim (going_or_ended (row_of step.new).outcome) [
     | inl going ↦ ap (λ (g : Flight). is_lacking g.phase) (same_Some f step.new (sym is ∙ next.going going)) ∙ has
     | inr ended ↦ new_has step.new.processor (step.new.number + 1)
@@ -63,7 +63,7 @@ module _ (m : MachineParts) (step : Step) (o : Option Flight) where
   ]
 
   pub HasMemory-turned : HasMemory m.run → flight_at m.run.flights step.actor ≡ Some step.old → NeverLacks step.old.phase step.new.phase
-      → Added step.old step.new (step.entry ∷ []) → HasNext m step o → HasMemory (run_after m.run step.actor step.entry o)
+      → Added step.old step.new (step.entry ∷ []) → HasNext m.run.jobs step.new o → HasMemory (run_after m.run step.actor step.entry o)
   HasMemory-turned has flies never added next =
       let still = never (has.flights step.actor step.old flies) in
       let reply : reply_said step.entry.what ≡ reply_in (row_of step.new).outcome =

@@ -10,18 +10,27 @@ use Rattle.pager_model.specs.Settings.{Given}
 use Rattle.pager_core.specs.declared.listed.Listed.{Listed}
 use Rattle.pager_core.specs.Listing.{IsListed}
 use Rattle.pager_core.specs.Running.{IsNumbered}
-use Rattle.pager_core.proofs.MachineTurns.{entries-push, numbered-push}
+use Rattle.pager_core.proofs.MachineTurns.{IsWhole, MachineParts, entries-push, numbered-push}
 
 -- what a list stands for
 abbrev pub listed_for : Listed → Given → List Entry → Type 0
 listed_for l g h = IsListed l.history.items l.history.room h
 
-abbrev room_of : Listed → ℕ
+-- the room that is left
+abbrev pub room_of : Listed → ℕ
 room_of l = l.history.room - length l.history.items
 
 -- an entry behind the others
 abbrev behind : List Numbered → Entry → List Numbered
 behind items e = items ++ record { number = length items; entry = e } ∷ []
+
+-- the history of a machine, in the room that it has
+pub IsListed-machine : (m : MachineParts) → IsWhole m → IsListed m.run.history m.capacity (entries_in m.run.history)
+IsListed-machine m machine = record {
+  entries = refl;
+  numbered = machine.lawful.numbered;
+  within = (let room = machine.room in omega (arith, room));
+}
 
 pub listed_more : (items : List Numbered) (room : ℕ) (h : List Entry) (e : Entry) → IsListed items room h → 1 ≤ room - length items
     → IsListed (behind items e) room (h ++ e ∷ [])
@@ -55,18 +64,18 @@ same_listed xs ys numbered numbered' same =
     sym (length-map xs (λ (n : Numbered). n.entry)) ∙ ap length same ∙ length-map ys (λ (n : Numbered). n.entry) in
     same_all xs ys (numbered ∙ ap (range_with_len 0) count ∙ sym numbered') same
 
--- A log that stood for its own entries, and now for those with one behind them.
-module _ (old new : Listed) (g : Given) (e : Entry) (was : listed_for old g (entries_in old.history.items))
-    (now : listed_for new g (entries_in old.history.items ++ e ∷ [])) where
-  pub items_more : new.history.items ≡ behind old.history.items e
+-- A log that stands for these entries with one behind them.
+module _ (items : List Numbered) (new : Listed) (g : Given) (e : Entry) (numbered : IsNumbered items)
+    (now : listed_for new g (entries_in items ++ e ∷ [])) where
+  pub items_more : new.history.items ≡ behind items e
   items_more =
-      same_listed new.history.items (behind old.history.items e) now.numbered (numbered-push old.history.items e was.numbered)
-      (now.entries ∙ sym (entries-push old.history.items (length old.history.items) e))
+      same_listed new.history.items (behind items e) now.numbered (numbered-push items e numbered)
+      (now.entries ∙ sym (entries-push items (length items) e))
 
   -- has as much room in all
-  pub same_room : room_of new + 1 ≡ room_of old → new.history.room ≡ old.history.room
-  same_room fewer =
-      let long : length new.history.items ≡ length old.history.items + 1 =
-      ap length items_more ∙ length_push old.history.items (record { number = length old.history.items; entry = e }) in
+  pub same_room : (room : ℕ) → room_of new + 1 ≡ room - length items → new.history.room ≡ room
+  same_room room fewer =
+      let long : length new.history.items ≡ length items + 1 =
+      ap length items_more ∙ length_push items (record { number = length items; entry = e }) in
       let within = now.within in
       omega (arith, fewer, long, within)

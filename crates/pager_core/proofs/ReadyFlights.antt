@@ -42,9 +42,6 @@ module _ (m : MachineParts) (c : ℕ) (f : Flight) (machine : IsWhole m) (flies 
       let room = machine.room in
       omega (arith, left, part, room)
 
-  pub within-machine : length m.run.history ≤ m.capacity
-  within-machine = (let room = machine.room in omega (arith, room))
-
   pub entries-below : m.pool.entries < 2 ^ 45
   entries-below =
       let same : m.pool.entries ≡ (frames_at m.run.given (entries_in m.run.history)).entries =

@@ -213,7 +213,8 @@ told_from st (e ∷ entries) = told_from (space_after st e) entries
 told_still : (g : Given) (h : List Entry) (s : ℕ) → (space_at g h s).told ≡ is_told g s
 told_still g h s = told_from (empty_state g.sizes (is_told g s) (faults_at_entry g s)) (space_part s h)
 
-module _ (given : Given) (history : List Numbered) (spaces : List Kept) (pool : FrameState) (rest : AreAtRest given (entries_in history) spaces pool) where
+module _ (given : Given) (history : List Numbered) (spaces : List Kept) (pool : FrameState)
+    (rest : AreAtRest given (entries_in history) spaces pool) where
   EndsWith-kept : (s : ℕ) (kept : Kept) → slice_get spaces s ≡ Some kept → EndsWith given history s kept.store
   EndsWith-kept s kept at =
       let here = rest.spaces_rest s kept at in

@@ -37,7 +37,8 @@ IsWholeRun-legal given jobs history legal numbered answers whole all =
       agrees = Agrees-legal given (entries_in history) legal;
     }
 
-module _ (run : Running) (spaces : List Kept) (pool : FrameState) (capacity : ℕ) (machine : IsMachine run spaces pool capacity) (ended : HasEnded run) where
+module _ (run : Running) (spaces : List Kept) (pool : FrameState) (capacity : ℕ) (machine : IsMachine run spaces pool capacity)
+    (ended : HasEnded run) where
   abbrev by_flight : ℕ → Option Flight → Progress
   by_flight c x = progress_by_flight (mark_of run.given c) (jobs_at run.jobs c) x
 

@@ -1,5 +1,5 @@
 -- A turn from what its calls ensure.
-use Rattle.std.proofs.Common.{◌≡◌, ℕ, ◌+◌, ◌<◌, true, List, [], ◌∷◌, ◌++◌, length, map, get_or, slice_get, Option, Some, None, option_map, refl, ap, sym, subst, ◌∙◌, arith, IsTrue, false, inl, inr}
+use Rattle.std.proofs.Common.{◌≡◌, ℕ, ◌+◌, ◌<◌, true, List, [], ◌∷◌, ◌++◌, length, map, get_or, slice_get, Option, Some, None, option_map, refl, ap, sym, subst, ◌∙◌, arith, inl, inr}
 use Rattle.std.proofs.lemmas.List.{get_or_read_under, get_or-map, get_or-set_same, get_or-set_other}
 use Rattle.std.proofs.lemmas.Option.{same_Some, slice_get_read, slice_get_within}
 use Rattle.std.proofs.Math.ListN.{set}
@@ -12,13 +12,13 @@ use Rattle.space_core.specs.Standing.{Kept}
 use Rattle.flight_core.specs.declared.flight.Flight.{Flight}
 use Rattle.pager_core.specs.Machines.{IsOther, AreKeepers, IsMachine}
 use Rattle.flight_core.specs.Rows.{Going, has_ended, row_of, space_under}
-use Rattle.pager_core.specs.Running.{Running, jobs_at, flight_at, flight_of, IsKeptByOther, MustWait, left_at, WentOn, OneMore, IsLawful}
+use Rattle.pager_core.specs.Running.{Running, jobs_at, flight_at, flight_of, IsKeptByOther, MustWait, left_at, WentOn, OneMore}
 use Rattle.step_log.specs.Flying.{IsHere}
 use Rattle.pager_core.proofs.FrameTurns.{TurnsOnFrames, Goes-on_frames}
-use Rattle.pager_core.proofs.Keepers.{kept_if, unkept_if, AreKeepers-same, AreKeepers-moved}
+use Rattle.pager_core.proofs.Keepers.{kept_if, other_if, AreKeepers-same, AreKeepers-moved}
 use Rattle.pager_core.proofs.Lands.{Lands, Lands-on, job_kept}
 use Rattle.pager_core.proofs.ReadyFlights.{space_within, IsHere-machine}
-use Rattle.pager_core.proofs.MachineTurns.{Goes, Grows, IsWhole, MachineParts, Step, run_after, left_own, IsLawful-turn, IsMachine-turn}
+use Rattle.pager_core.proofs.MachineTurns.{Goes, Grows, IsWhole, MachineParts, Step, run_after, left_own, IsMachine-turn}
 use Rattle.flight_core.proofs.NextFlights.{keeps_none, keeps_under}
 use Rattle.pager_core.proofs.SpaceTurns.{Turns, Goes-in, keeps_here}
 
@@ -47,64 +47,51 @@ pub record Finds (m : MachineParts) (c s : ℕ) (f : Flight) (was : Kept) : Type
 pub flies_in : (run self : Running) (c : ℕ) (f : Flight) → run ≡ self → flight_at self.flights c ≡ Some f → flight_at run.flights c ≡ Some f
 flies_in run self c f same flies = ap (λ (r : Running). flight_at r.flights c) same ∙ flies
 
--- A turn reads who keeps the space that its actor's next step is made under.
-pub record ReadsKeeper (m : MachineParts) (self : Running) (c s : ℕ) (f : Flight) (keeper : Option ℕ) : Type 0 where
-  pub whole : IsWhole m
-  pub same : m.run ≡ self
-  pub flies : flight_at self.flights c ≡ Some f
-  pub under : space_under (row_of f).needs ≡ Some s
-  pub keepers : List (Option ℕ)
-  pub are : AreKeepers m.run.flights (length m.spaces) keepers
-  pub read : keeper ≡ get_or keepers s keeper
+module _ (m : MachineParts) (self : Running) (c s : ℕ) (f : Flight) (whole : IsWhole m) (same : m.run ≡ self)
+    (flies : flight_at self.flights c ≡ Some f) (under : space_under (row_of f).needs ≡ Some s) where
+  waits_if : IsKeptByOther m.run.flights c s → MustWait self c s
+  waits_if kept = record {
+    flight = f;
+    flies = flies;
+    under = under;
+    kept = subst (λ (r : Running). IsKeptByOther r.flights c s) same kept;
+  }
 
-module _ (m : MachineParts) (self : Running) (c s : ℕ) (f : Flight) where
-  pub finds : (keeper : Option ℕ) → ReadsKeeper m self c s f keeper → (was : Kept) → was ≡ get_or m.spaces s was
-      → (IsOther keeper c → IsTrue false)
-      → Finds m c s f was
-  finds keeper reads was at_space none =
-      let machine = reads.whole in
-      let under = reads.under in
-      let flies = flies_in m.run self c f reads.same reads.flies in
-      let within = space_within m c f machine flies s under in
-      let at = slice_get_read m.spaces (length m.spaces) s was refl within at_space in
-      let unkept = unkept_if m.run.flights (length m.spaces) reads.keepers reads.are c s keeper within reads.read none in
+  pub finds : (MustWait self c s → ⊥) → (was : Kept) → was ≡ get_or m.spaces s was → Finds m c s f was
+  finds none was at_space =
+      let flies = flies_in m.run self c f same flies in
+      let at = slice_get_read m.spaces (length m.spaces) s was refl (space_within m c f whole flies s under) at_space in
+      let unkept : IsKeptByOther m.run.flights c s → ⊥ = λ kept. none (waits_if kept) in
       record {
         flies = flies;
         under = under;
         at = at;
         unkept = unkept;
-        here = IsHere-machine m c f machine flies s under was at unkept;
+        here = IsHere-machine m c f whole flies s under was at unkept;
       }
 
-  -- it waits where the keeper is another
-  pub MustWait-kept : (keeper : Option ℕ) → ReadsKeeper m self c s f keeper → IsOther keeper c → MustWait self c s
-  MustWait-kept keeper reads other =
-      let within = space_within m c f reads.whole (flies_in m.run self c f reads.same reads.flies) s reads.under in
-      record {
-        flight = f;
-        flies = reads.flies;
-        under = reads.under;
-        kept = subst (λ (r : Running). IsKeptByOther r.flights c s) reads.same
-            (kept_if m.run.flights (length m.spaces) reads.keepers reads.are c s keeper within reads.read other);
-      }
+  -- The actor waits where the space's keeper is another.
+  module _ (keepers : List (Option ℕ)) (are : AreKeepers m.run.flights (length m.spaces) keepers) (keeper : Option ℕ)
+      (read : keeper ≡ get_or keepers s keeper) where
+    there : s < length m.spaces
+    there = space_within m c f whole (flies_in m.run self c f same flies) s under
 
-  -- and nowhere else
-  pub none_waits : (was : Kept) → Finds m c s f was → m.run ≡ self → (t : ℕ) → MustWait self c t → ⊥
-  none_waits was found same t waits =
-      let own : f ≡ waits.flight = same_Some f waits.flight (sym found.flies ∙ flies_in m.run self c waits.flight same waits.flies) in
-      let here : s ≡ t = same_Some s t (sym found.under ∙ ap (λ (g : Flight). space_under (row_of g).needs) own ∙ waits.under) in
-      found.unkept (subst (λ n. IsKeptByOther m.run.flights c n) (sym here)
-      (subst (λ (r : Running). IsKeptByOther r.flights c t) (sym same) waits.kept))
+    pub must_wait : IsOther keeper c → MustWait self c s
+    must_wait other = waits_if (kept_if m.run.flights (length m.spaces) keepers are c s keeper there read other)
 
--- What the actor has after a step: its flight where that goes on, and else that of its next job.
-pub record HasNext (m : MachineParts) (step : Step) (o : Option Flight) : Type 0 where
-  pub going : (row_of step.new).outcome ≡ Going → o ≡ Some step.new
-  pub next : has_ended (row_of step.new).outcome ≡ true
-      → o ≡ flight_of step.new.processor (step.new.number + 1) (jobs_at m.run.jobs step.new.processor)
+    pub is_other : MustWait self c s → IsOther keeper c
+    is_other waits =
+        other_if m.run.flights (length m.spaces) keepers are c s keeper there read
+        (subst (λ (r : Running). IsKeptByOther r.flights c s) (sym same) waits.kept)
+
+-- What comes of a flight after a step: it goes on, or its processor's next job comes next.
+pub record HasNext (jobs : List (List Job)) (f : Flight) (o : Option Flight) : Type 0 where
+  pub going : (row_of f).outcome ≡ Going → o ≡ Some f
+  pub next : has_ended (row_of f).outcome ≡ true → o ≡ flight_of f.processor (f.number + 1) (jobs_at jobs f.processor)
 
 module _ (m : MachineParts) (step : Step) (o : Option Flight) where
   -- what comes of the flight after a step
-  landed : IsWhole m → flight_at m.run.flights step.actor ≡ Some step.old → Grows m step → HasNext m step o
+  landed : IsWhole m → flight_at m.run.flights step.actor ≡ Some step.old → Grows m step → HasNext m.run.jobs step.new o
       → Lands (mark_of m.run.given step.actor) (jobs_at m.run.jobs step.actor) step.new o
   landed machine flies grows has =
       let same = grows.added.same_work in
@@ -117,7 +104,7 @@ module _ (m : MachineParts) (step : Step) (o : Option Flight) where
       (λ ended. has.next ended ∙ ap (λ c. flight_of step.new.processor (step.new.number + 1) (jobs_at m.run.jobs c)) processor_is)
 
   -- under a space's lock
-  pub Goes-of : (s : ℕ) (was now : Kept) → Turns m step s was now → HasNext m step o → Goes m step (set m.spaces s now) o
+  pub Goes-of : (s : ℕ) (was now : Kept) → Turns m step s was now → HasNext m.run.jobs step.new o → Goes m step (set m.spaces s now) o
   Goes-of s was now turns has =
       Goes-in m step s was now turns o (landed turns.whole turns.flies turns.grows has)
 
@@ -135,7 +122,7 @@ module _ (m : MachineParts) (step : Step) (o : Option Flight) where
       turns.unkept (is ∙ ap (option_map (λ (t : ℕ). step.actor)) (sym goes.lands.keeps)))
 
   -- under the frames' lock alone
-  pub Goes-of_frames : TurnsOnFrames m step → HasNext m step o → Goes m step m.spaces o
+  pub Goes-of_frames : TurnsOnFrames m step → HasNext m.run.jobs step.new o → Goes m step m.spaces o
   Goes-of_frames turns has = Goes-on_frames m step turns o (landed turns.whole turns.flies turns.grows has)
 
   pub AreKeepers-of_frames : TurnsOnFrames m step → Goes m step m.spaces o → (keepers : List (Option ℕ))
@@ -153,9 +140,6 @@ module _ (m : MachineParts) (step : Step) (spaces' : List Kept) (o : Option Flig
       subst (λ r. IsMachine r spaces' step.after room) (sym same)
       (subst (IsMachine (run_after m.run step.actor step.entry o) spaces' step.after) (sym same_room)
       (IsMachine-turn m step spaces' o machine goes))
-
-  pub IsLawful-turned : IsWhole m → Goes m step spaces' o → (new : Running) → new ≡ run_after m.run step.actor step.entry o → IsLawful new
-  IsLawful-turned machine goes new same = subst IsLawful (sym same) (IsLawful-turn m step spaces' o machine goes)
 
   -- the actor's flight went on
   went_on : IsWhole m → Goes m step spaces' o → (self new : Running) → m.run ≡ self → new ≡ run_after m.run step.actor step.entry o

@@ -80,7 +80,8 @@ fn lines_by_processor(
 ) -> Result<Vec<Vec<u32>>, NoMemory>
     requires within { All (λ (l : Line). l.processor < processors) lines.now }
     requires few { length lines.now ≤ most_calls }
-    ensures calls { IfOk result (λ own. map (λ v. map (job_at lines.now) v.items) own.items ≡ map (λ c. map Job.Call (calls_of c lines.now)) (range_with_len 0 processors)) }
+    ensures calls { IfOk result (λ own. map (λ v. map (job_at lines.now) v.items) own.items
+        ≡ map (λ c. map Job.Call (calls_of c lines.now)) (range_with_len 0 processors)) }
     ensures lines { IfOk result (λ own. All (λ v. AreOfLines lines.now v.items) own.items) }
 {
     let mut own = empty_rows(alloc, processors, lines.len())?;

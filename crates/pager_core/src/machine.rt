@@ -82,7 +82,9 @@ impl<'a, S: Store + Send + Drop> Model for Machine<'a, S> {
       flights = m.flights.items;
       history = m.log.history.items;
       unused = map S.seen (reverse m.stores.items);
-    }) m.spaces.items m.pool (m.log.history.room) × (vec_len m.stores + length m.spaces.items ≤ vec_capacity m.stores) × AreKeepers m.flights.items (length m.spaces.items) m.keepers.items
+    }) m.spaces.items m.pool (m.log.history.room)
+        × (vec_len m.stores + length m.spaces.items ≤ vec_capacity m.stores)
+        × AreKeepers m.flights.items (length m.spaces.items) m.keepers.items
         × (S.lasts ≡ true → HasMemory (record {
           given = m.setting;
           jobs = m.jobs;
@@ -152,21 +154,32 @@ impl<'a, S: Store + Send + Drop> Machine<'a, S> {
         let Some(flight) = self.flights[actor as usize] else {
             return Turn::Ended;
         };
-        match flight.under() {
-            Some(space) => self.turn_in(actor, flight, space),
-            None => self.turn_on_frames(actor, flight),
+        let Some(space) = flight.under() else {
+            self.turn_on_frames(actor, flight);
+            return Turn::Stepped;
+        };
+        if self.must_wait(actor, &flight, space) {
+            return Turn::Waits(space);
         }
+        self.turn_in(actor, flight, space);
+        Turn::Stepped
+    }
+
+    /// Whether another flight keeps this space, which the next step of the actor's flight is made under.
+    fn must_wait(&self, actor: u32, flight: &Flight, space: u32) -> bool
+        requires flies { flight_at self.now.flights actor ≡ Some flight.now }
+        requires under { space_under (row_of flight.now).needs ≡ Some space }
+        ensures { IsTrue result ↔ MustWait self.now actor space }
+    {
+        is_other(self.keepers[space as usize], actor)
     }
 
     /// Does the steps of the actor's flight, of which the next is made under this space, until one has made an entry.
-    fn turn_in(&mut self, actor: u32, flight: Flight, space: u32) -> Turn
-        requires actor { actor < length self.old.jobs }
+    fn turn_in(&mut self, actor: u32, flight: Flight, space: u32)
         requires flies { flight_at self.old.flights actor ≡ Some flight }
         requires under { space_under (row_of flight).needs ≡ Some space }
-        ensures ended { result ≢ Turn.Ended }
-        ensures waits { (space : ℕ) → result ≡ Turn.Waits space → (self.new ≡ self.old) × MustWait self.old actor space }
-        ensures not_waiting { (space : ℕ) → MustWait self.old actor space → result ≡ Turn.Waits space }
-        ensures stepped { result ≡ Turn.Stepped → OneMore self.old self.new actor }
+        requires free { MustWait self.old actor space → ⊥ }
+        ensures stepped { OneMore self.old self.new actor }
         ensures same_jobs { (self.new.given ≡ self.old.given) × (self.new.jobs ≡ self.old.jobs) }
         ensures same_unused { self.new.unused ≡ self.old.unused }
         ensures lawful { IsLawful self.new }
@@ -174,9 +187,6 @@ impl<'a, S: Store + Send + Drop> Machine<'a, S> {
         ensures never_short { IsNeverShort self.new.given (entries_in self.new.history) }
         ensures lasting { S.lasts ≡ true → NoneLacked (entries_in self.new.history) }
     {
-        if is_other(self.keepers[space as usize], actor) {
-            return Turn::Waits(space);
-        }
         let mut flight = flight;
         make_entry(
             &mut self.log,
@@ -186,15 +196,13 @@ impl<'a, S: Store + Send + Drop> Machine<'a, S> {
         );
         self.keepers[space as usize] = keeper(actor, &flight);
         self.flights[actor as usize] = going_on(flight, &self.jobs);
-        Turn::Stepped
     }
 
     /// Does the next step of the actor's flight, which is made under the frames' lock alone and makes an entry.
-    fn turn_on_frames(&mut self, actor: u32, flight: Flight) -> Turn
-        requires actor { actor < length self.old.jobs }
+    fn turn_on_frames(&mut self, actor: u32, flight: Flight)
         requires flies { flight_at self.old.flights actor ≡ Some flight }
         requires under { space_under (row_of flight).needs ≡ None }
-        ensures stepped { (result ≡ Turn.Stepped) × OneMore self.old self.new actor }
+        ensures stepped { OneMore self.old self.new actor }
         ensures same_jobs { (self.new.given ≡ self.old.given) × (self.new.jobs ≡ self.old.jobs) }
         ensures same_unused { self.new.unused ≡ self.old.unused }
         ensures lawful { IsLawful self.new }
@@ -205,7 +213,6 @@ impl<'a, S: Store + Send + Drop> Machine<'a, S> {
         let mut flight = flight;
         step_frames(&mut self.log, &mut self.pool, &mut flight);
         self.flights[actor as usize] = going_on(flight, &self.jobs);
-        Turn::Stepped
     }
 
     /// How many of its jobs the actor has done.
@@ -363,7 +370,8 @@ fn flight_for(processor: u32, number: u32, job: Job) -> Flight
 fn going_on(flight: Flight, jobs: &Jobs<'_>) -> Option<Flight>
     requires { flight.number + 1 < 2 ^ 32 }
     ensures going { (row_of flight).outcome ≡ Going → result ≡ Some flight }
-    ensures next { has_ended (row_of flight).outcome ≡ true → result ≡ flight_of flight.processor (flight.number + 1) (jobs_at jobs.now flight.processor) }
+    ensures next { has_ended (row_of flight).outcome ≡ true
+        → result ≡ flight_of flight.processor (flight.number + 1) (jobs_at jobs.now flight.processor) }
 {
     if flight.has_ended() {
         return flight_of(flight.processor, flight.number + 1, jobs);
@@ -409,7 +417,8 @@ fn make_entry<L: Log, S: Store + Send + Drop>(
     requires takes { (e : Entry) → L.takes log.old e }
     requires room { (row_of flight.old).entries ≤ L.room log.old }
     requires few { pool.old.entries < 2 ^ 45 }
-    ensures made { (g : Given) (h : List Entry) (before : ℕ) → L.stands log.old g h → IsHere g h before space.old flight.old → pool.old ≡ frames_at g h
+    ensures made { (g : Given) (h : List Entry) (before : ℕ) → L.stands log.old g h → IsHere g h before space.old flight.old
+        → pool.old ≡ frames_at g h
         → Stepped L.stands g h before log.new true flight.old flight.new space.old space.new pool.new }
     ensures fewer { L.room log.new + 1 ≡ L.room log.old }
     ensures lasting { S.lasts ≡ true → NeverLacks flight.old.phase flight.new.phase }
@@ -432,7 +441,8 @@ fn step<L: Log, S: Store + Send + Drop>(
     requires takes { (e : Entry) → L.takes log.old e }
     requires room { (row_of flight.old).entries ≤ L.room log.old }
     requires few { pool.old.entries < 2 ^ 45 }
-    ensures stepped { (g : Given) (h : List Entry) (before : ℕ) → L.stands log.old g h → IsHere g h before space.old flight.old → pool.old ≡ frames_at g h
+    ensures stepped { (g : Given) (h : List Entry) (before : ℕ) → L.stands log.old g h → IsHere g h before space.old flight.old
+        → pool.old ≡ frames_at g h
         → Stepped L.stands g h before log.new result flight.old flight.new space.old space.new pool.new }
     ensures takes { (e : Entry) → L.takes log.new e }
     ensures room { (row_of flight.new).entries ≤ L.room log.new }

@@ -171,10 +171,12 @@ impl<S: Store + Send + Drop> Gathered<S> {
         requires room { length unused.items + length spaces.items ≤ vec_capacity unused }
         ensures history { result.history ≡ history }
         ensures stores { map S.seen result.stores.items ≡ map (λ (k : Kept). k.store) spaces.items ++ map S.seen (reverse unused.items) }
-        ensures ends { (given : Given) → AreAtRest given (entries_in history.items) spaces.items pool → StoresEnd given history.items (map S.seen result.stores.items) }
+        ensures ends { (given : Given) → AreAtRest given (entries_in history.items) spaces.items pool
+            → StoresEnd given history.items (map S.seen result.stores.items) }
         ensures unused { drop (length spaces.items) (map S.seen result.stores.items) ≡ map S.seen (reverse unused.items) }
         ensures count { length result.stores.items ≡ length spaces.items + length unused.items }
-        ensures summary { (given : Given) → AreAtRest given (entries_in history.items) spaces.items pool → result.summary ≡ counts given (entries_in history.items) }
+        ensures summary { (given : Given) → AreAtRest given (entries_in history.items) spaces.items pool
+            → result.summary ≡ counts given (entries_in history.items) }
     {
         let accesses = history.accesses();
         let summary = counts_of(spaces.as_slice(), &pool, accesses.hits, accesses.misses);
@@ -241,7 +243,8 @@ fn setting_of<S: Store + Send + Drop>(
     requires spaces { (1 ≤ length stores.now) × (length stores.now ≤ most_spaces) }
     requires processors { (1 ≤ length marks.now) × (length marks.now ≤ most_actors) }
     ensures given { IfOk result (λ g. g ≡ given_over frames sizes marks.now (map S.seen stores.now)) }
-    ensures told { IfOk result (λ g. (s : ℕ) (store : Stored) → slice_get (map S.seen stores.now) s ≡ Some store → store.told ≡ true → TellsZero store) }
+    ensures told { IfOk result (λ g. (s : ℕ) (store : Stored) → slice_get (map S.seen stores.now) s ≡ Some store → store.told ≡ true
+        → TellsZero store) }
     ensures capped { IfOk result (λ _. AreCapped (length stores.now) (map S.seen stores.now)) }
 {
     let marks = marks.to_vec(alloc)?;

@@ -1,7 +1,7 @@
 -- The spaces and the authors that come back and what they stand for, and the one history.
-use Rattle.std.proofs.Common.{◌≡◌, ℕ, zero, suc, ◌+◌, ◌<◌, ◌≤◌, List, [], ◌∷◌, ◌++◌, length, map, get_or, slice_get, cond, Some, refl, ap, sym, subst, ◌∙◌, inl, inr, arith}
+use Rattle.std.proofs.Common.{◌≡◌, ℕ, zero, suc, ◌+◌, ◌<◌, ◌≤◌, List, [], ◌∷◌, ◌++◌, length, map, get_or, slice_get, Some, refl, ap, sym, subst, ◌∙◌, inl, inr, arith}
 use Rattle.std.specs.List.{All, range_with_len}
-use Rattle.std.proofs.lemmas.Bool.{cases_lt, ne_eqb, eq-eqb}
+use Rattle.std.proofs.lemmas.Bool.{cases_lt}
 use Rattle.std.proofs.lemmas.List.{length_push, get_or-map}
 use Rattle.std.proofs.lemmas.List.FromFn.{length-range_with_len, get_or-range_with_len}
 use Rattle.std.proofs.lemmas.List.Elements.{All-push, All-same}
@@ -9,12 +9,12 @@ use Rattle.std.proofs.lemmas.Option.{none-some, same_Some, slice_get_cases}
 use Rattle.std.proofs.Math.ListN.{length-map}
 use Rattle.journal_core.specs.Clauses.{IsPartOf, IsOwnOf}
 use Rattle.journal_core.specs.Journals.{JournalName, AuthorState, PassState, new_pass}
-use Rattle.journal_core.specs.Parts.{part_list, numbered, numbered_from}
+use Rattle.journal_core.specs.Parts.{numbered, numbered_from}
 use Rattle.pager_model.specs.declared.entry.Entry.{Entry}
 use Rattle.pager_model.specs.declared.entry.Numbered.{Numbered}
-use Rattle.pager_model.specs.Entries.{space_part, frames_part, entries_of}
+use Rattle.pager_model.specs.Entries.{entries_of}
 use Rattle.pager_model.specs.FrameStates.{FrameState}
-use Rattle.pager_model.specs.Legal.{state_of_space, frames_state, space_at, entries_in}
+use Rattle.pager_model.specs.Legal.{space_at, entries_in}
 use Rattle.pager_model.specs.Order.{IsWhole}
 use Rattle.pager_model.specs.Settings.{mark_of}
 use Rattle.space_core.specs.Standing.{Kept}
@@ -24,6 +24,7 @@ use Rattle.pager_core.specs.Running.{IsNumbered}
 use Rattle.pager_core.proofs.Lists.{slice_get-push}
 use Rattle.pager_locks.specs.Locks.{AreParts}
 use Rattle.pager_locks.specs.Locked.{IsLockedSpace, IsPoolAt}
+use Rattle.pager_locks.proofs.Meetings.{frames_are, frames_met, space_met, state_is}
 
 pub slice_get-kept : {X : Type 0} (xs : List X) (y : X) (i : ℕ) (x : X) → slice_get xs i ≡ Some x → slice_get (xs ++ y ∷ []) i ≡ Some x
 slice_get-kept [] y i x at = cc
@@ -101,26 +102,14 @@ AreAtRest-closed j spaces authors all pool frames h parts few pool_at are of =
           let stands = part.locked.stands in
           let in_all : slice_get all s ≡ Some own = subst (λ l. slice_get l s ≡ Some own) (sym are)
           (slice_get-kept authors frames s own (part.at ∙ ap Some is_own)) in
-          let entries : own.entries ≡ part_list (length own.journal.setting.told) own.part h =
-          all_at (λ (a : AuthorState). IsPartOf a h) all s own of in_all in
-          let listed : own.entries ≡ space_part own.part h =
-          entries ∙ ap (λ (x : JournalName). part_list (length x.setting.told) own.part h) stands.journal
-          ∙ ap (λ b. cond b (frames_part h) (space_part own.part h)) (ne_eqb own.part (length j.setting.told)
-          (λ same. (let within = stands.within in absurd (omega (arith, within, same))))) in
-          let state : state_of_space own.journal.setting own.part own.entries ≡ space_at j.setting h s =
-          ap (λ (x : JournalName). state_of_space x.setting own.part own.entries) stands.journal
-          ∙ ap (state_of_space j.setting own.part) listed ∙ ap (space_at j.setting h) part.locked.part_is in
-          subst (IsAtRest kept) state part.locked.rest;
+          let is_space = space_met j h own stands.journal stands.within (all_at (λ (a : AuthorState). IsPartOf a h) all s own of in_all) in
+          subst (IsAtRest kept) (state_is j h own is_space ∙ ap (space_at j.setting h) part.locked.part_is) part.locked.rest;
       pool_is =
           let at_end : slice_get all (length authors) ≡ Some frames =
           subst (λ l. slice_get l (length authors) ≡ Some frames) (sym are) (slice_get-last authors frames) in
-          let entries : frames.entries ≡ part_list (length frames.journal.setting.told) frames.part h =
-          all_at (λ (a : AuthorState). IsPartOf a h) all (length authors) frames of at_end in
-          let listed : frames.entries ≡ frames_part h =
-          entries ∙ ap (λ (x : JournalName). part_list (length x.setting.told) frames.part h) pool_at.journal
-          ∙ ap (λ b. cond b (frames_part h) (space_part frames.part h)) (eq-eqb frames.part (length j.setting.told) pool_at.part) in
-          pool_at.state ∙ ap (λ (x : JournalName). frames_state x.setting frames.entries) pool_at.journal
-          ∙ ap (frames_state j.setting) listed;
+          pool_at.state
+          ∙ frames_are j h frames (frames_met j h frames pool_at.journal pool_at.part
+          (all_at (λ (a : AuthorState). IsPartOf a h) all (length authors) frames of at_end));
     }
 
 -- The numbers of a history are its places.

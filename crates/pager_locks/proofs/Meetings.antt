@@ -45,7 +45,7 @@ module _ (j : JournalName) (h : List Entry) where
   history_met : (i : JournalName) → i ≡ j → IsHistory i.setting h → IsHistory j.setting h
   history_met i is met = subst (λ (x : JournalName). IsHistory x.setting h) is met
 
-  space_met : (a : AuthorState) → a.journal ≡ j → a.part < length j.setting.told → IsPartOf a h → IsSpaceOf j a h
+  pub space_met : (a : AuthorState) → a.journal ≡ j → a.part < length j.setting.told → IsPartOf a h → IsSpaceOf j a h
   space_met a journal below part =
       record {
         journal = journal;
@@ -55,7 +55,7 @@ module _ (j : JournalName) (h : List Entry) where
             (ne_eqb a.part (length j.setting.told) (λ same. absurd (omega (arith, below, same))));
       }
 
-  frames_met : (a : AuthorState) → a.journal ≡ j → a.part ≡ length j.setting.told → IsPartOf a h → IsFramesOf j a h
+  pub frames_met : (a : AuthorState) → a.journal ≡ j → a.part ≡ length j.setting.told → IsPartOf a h → IsFramesOf j a h
   frames_met a journal is part =
       record {
         journal = journal;

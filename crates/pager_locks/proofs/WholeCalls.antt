@@ -5,9 +5,8 @@ use Rattle.std.specs.Option.{IsSomeAnd}
 use Rattle.std.proofs.Math.ListN.{length-map}
 use Rattle.std.proofs.lemmas.Bool.{false≢true}
 use Rattle.std.proofs.lemmas.List.{append-nil, map-append}
-use Rattle.std.proofs.lemmas.Option.{none-some, same_Some}
+use Rattle.std.proofs.lemmas.Option.{same_Some}
 use Rattle.journal_core.specs.Journals.{JournalName, PassState, is_numbered_answer}
-use Rattle.pager_model.specs.declared.call.Call.{Call}
 use Rattle.pager_model.specs.declared.entry.Entry.{Entry}
 use Rattle.pager_model.specs.declared.entry.Numbered.{Numbered}
 use Rattle.pager_model.specs.declared.reply.Reply.{Reply}
@@ -23,7 +22,7 @@ use Rattle.flight_core.specs.declared.flight.Purpose.TheVariants.{Call as OfCall
 use Rattle.flight_core.specs.declared.flight.Phase.TheVariants.{Ended}
 use Rattle.flight_core.specs.Flights.{IsFor}
 use Rattle.pager_core.specs.Machines.{CanFly}
-use Rattle.flight_core.specs.Rows.{Outcome, Going, TurnEnded, Answered, call_in, has_ended, is_of_call, new_flight, new_turn, own_space, reply_in, row_of, row_in}
+use Rattle.flight_core.specs.Rows.{Outcome, Going, TurnEnded, Answered, call_in, has_ended, new_flight, new_turn, own_space, reply_in, row_of, row_in}
 use Rattle.pager_core.specs.Running.{FitsMark, job_in}
 use Rattle.flight_core.specs.Steps.{answer_made}
 use Rattle.pager_core.proofs.Lands.{Fits-for, Starts, Starts-for, ended_progress, job_kept, under-for}

@@ -1,19 +1,25 @@
 -- What an entry names.
 use Rattle.std.proofs.Common.{◌≡◌, ℕ, Bool, true, false, cond, Option, Some, None, IfSome, refl, ap, sym, subst, ◌∙◌, inl, inr, ◌⊎◌, arith}
 use Rattle.std.proofs.lemmas.Bool.{false≢true}
-use Rattle.std.proofs.lemmas.Option.{none-some}
+use Rattle.std.proofs.lemmas.Option.{none-some, same_Some}
+use Rattle.pager_model.specs.declared.call.Call.{Call}
 use Rattle.pager_model.specs.declared.entry.Entry.{Entry}
 use Rattle.pager_model.specs.declared.entry.What.{What}
 use Rattle.pager_model.specs.declared.entry.What.TheVariants.{Answer, Out, Failed, Take, Give, Clear, Claim, UseHeld, DropHeld, Got, Unclaim, Refused, Pin, Kept as KeptEntry, Rest}
+use Rattle.pager_model.specs.declared.reply.Reply.{Reply}
 use Rattle.pager_model.specs.Entries.{NamesItsParts, IsOn}
 use Rattle.pager_model.specs.Flat.{space_of_call}
 use Rattle.pager_model.specs.FrameStates.{FrameState, frames_after, start_frames}
 use Rattle.pager_model.specs.SizeSets.{all_sizes}
+use Rattle.pager_model.specs.Showing.{answer_in}
 use Rattle.pager_model.specs.SpaceStates.{SpaceState}
 use Rattle.pager_model.proofs.FrameEntries.{frames_after-entries}
-use Rattle.space_core.specs.Standing.{Kept}
+use Rattle.space_core.specs.Standing.{Kept, CanBegin}
 use Rattle.flight_core.specs.declared.flight.Flight.{Flight}
-use Rattle.flight_core.specs.Steps.{Makes}
+use Rattle.flight_core.specs.Flights.{Fits}
+use Rattle.flight_core.specs.Rows.{call_in, reply_in, row_of}
+use Rattle.flight_core.specs.Steps.{Makes, MakesEntry, answer_made}
+use Rattle.step_log.specs.Taken.{AnswersCall}
 
 -- an entry names a space, or it names the frames
 pub names_some : (space : Option ℕ) (frames : Bool) (what : What) → IsOn space frames what → ((s : ℕ) × (space ≡ Some s)) ⊎ (frames ≡ true)
@@ -61,3 +67,16 @@ no_frames f f' was now st e makes = by e.frames refl
         let one = frames_after-entries start e in
         let count : start.entries ≡ (frames_after start e).entries = ap (λ (st : FrameState). st.entries) same in
         absurd (omega (arith, one, count))
+
+-- the answer of a flight is of its call, which can be begun
+pub answers_call : (f f' : Flight) (before after : FrameState) (e : Entry) → MakesEntry f f' before after e → Fits f' → AnswersCall e.what
+answers_call f f' before after e makes fits = of_what e.what makes.answer
+  where
+    of_call : (number : ℕ) (call : Call) (reply : Option Reply) → Some (number, call) ≡ answer_made f' reply → CanBegin call
+    of_call number call None is = absurd (none-some _ (sym is))
+    of_call number call (Some reply) is =
+        subst CanBegin (sym (ap (λ (x : ℕ × Call). x.1) (same_Some (number, call) (f'.number, call_in f'.purpose) is))) fits.can
+
+    of_what : (what : What) → answer_in what ≡ answer_made f' (reply_in (row_of f').outcome) → AnswersCall what
+    of_what (Answer number call answered) is = of_call number call (reply_in (row_of f').outcome) is
+    of_what what is = tt

@@ -35,9 +35,10 @@ use Rattle.flight_core.proofs.EntrySteps.{Fits-left}
 use Rattle.flight_core.proofs.NextFlights.{ended_by, under_cases, keeps_under}
 use Rattle.step_log.specs.Flying.{later, IsFlying, IsSpaceIn, IsHere, HasLeft}
 use Rattle.step_log.specs.Logged.{Added, replies_in, Stepped, SteppedOnFrames}
+use Rattle.step_log.specs.Taken.{AnswersCall}
 use Rattle.step_log.proofs.LegalSteps.{victim_placed, frames_at-step, space_at-after}
 use Rattle.step_log.proofs.Later.{leads_later}
-use Rattle.step_log.proofs.Entries.{on_space, no_frames}
+use Rattle.step_log.proofs.Entries.{on_space, no_frames, answers_call}
 
 -- a flight that needs a lock goes on
 abbrev pub is_over : Needs → Bool
@@ -239,6 +240,9 @@ module _ (g : Given) (h : List Entry) (before : ℕ) (was : Kept) (f : Flight) (
         may_follow g h before f here.legal here.flying pool frames f' after e makes.entry fits'
         (named_here (λ s. s < length g.told) e.space makes.space.own_space here.space.within)
         (allowed_here e e.space makes.space.own_space makes.space.space_allows)
+
+    pub line_here : AnswersCall e.what
+    line_here = answers_call f f' pool after e makes.entry fits'
 
     pub spent_here : (row_of f').entries < (row_of f).entries
     spent_here = makes.entry.fewer

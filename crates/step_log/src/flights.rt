@@ -27,6 +27,7 @@ pub fn fly<L: Log, S: Store + Send + Drop>(
     requires room { (row_of flight.old).entries ≤ L.room log.old }
     ensures went { (g : Given) (h : List Entry) (before : ℕ) → L.stands log.old g h → AreAt g h before spaces.old.items pool.old flight.old
         → WentOn L.stands g h before log.new flight.old flight.new spaces.new.items pool.new }
+    ensures grown { (from : L) → L.grown from log.old → L.grown from log.new }
     ensures ended { has_ended (row_of flight.new).outcome ≡ true }
     ensures lasting { S.lasts ≡ true → NeverLacks flight.old.phase flight.new.phase }
 {
@@ -49,6 +50,7 @@ fn go_on<L: Log, S: Store + Send + Drop>(
     ensures went { (g : Given) (h : List Entry) (before : ℕ) → L.stands log.old g h → AreAt g h before spaces.old.items pool.old flight.old
         → WentOn L.stands g h before log.new flight.old flight.new spaces.new.items pool.new }
     ensures takes { (e : Entry) → L.takes log.new e }
+    ensures grown { (from : L) → L.grown from log.old → L.grown from log.new }
     ensures room { (row_of flight.new).entries ≤ L.room log.new }
     ensures lasting { S.lasts ≡ true → NeverLacks flight.old.phase flight.new.phase }
     ensures nearer { (row_of flight.new).steps < (row_of flight.old).steps }

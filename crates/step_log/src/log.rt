@@ -4,6 +4,7 @@ ghost use Rattle.std.specs.Prelude.{ℕ, ◌≡◌, ◌+◌, ◌≤◌, List, []
 ghost use Rattle.pager_model.specs.declared.entry.Entry.{Entry as Made};
 ghost use Rattle.pager_model.specs.Legal.{MayFollow};
 ghost use Rattle.pager_model.specs.Settings.{Given};
+ghost use Rattle.step_log.specs.Taken.{AnswersCall};
 
 use pager_model::Entry;
 
@@ -22,12 +23,14 @@ pub trait Log {
     /// How many entries it has room for.
     ghost room: { Self → ℕ };
 
-    /// Takes an entry that may come next: then it stands for each history that it stood for, with this entry behind it.
+    /// Takes an entry that may come next; where it is an answer, it is of a call that a line of a trace may hold. Then it stands for each history
+    /// that it stood for and that the entry may follow, with this entry behind it.
     fn add(&mut self, entry: &Entry)
         requires may { (g : Given) × (h : List Made) × stands self.old g h × MayFollow g h entry.now }
+        requires line { AnswersCall entry.now.what }
         requires takes { takes self.old entry.now }
         requires room { 1 ≤ room self.old }
-        ensures stands { (g : Given) (h : List Made) → stands self.old g h → stands self.new g (h ++ entry.now ∷ []) }
+        ensures stands { (g : Given) (h : List Made) → stands self.old g h → MayFollow g h entry.now → stands self.new g (h ++ entry.now ∷ []) }
         ensures takes { (e : Made) → takes self.old e → takes self.new e }
         ensures grown { (from : Self) → grown from self.old → grown from self.new }
         ensures room { room self.new + 1 ≡ room self.old };

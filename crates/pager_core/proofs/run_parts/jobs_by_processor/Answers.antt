@@ -19,8 +19,9 @@ returns-clause-jobs c =
     elim c.match-daemon.branch [
       | in-Some+in_ok-turns_of+in_ok-push w ↦
           ap (λ v. map (λ v. v.items) v.items) w.jobs-is
-          ∙ jobs-turns (λ v. v.items) c.args.trace.now c.in_ok-jobs.jobs.items w.push.new.self.items w.in_ok-turns_of.field-0 w.in-Some.daemon (sym c.daemon.ensures.daemon ∙ w.in-Some.is)
-          (λ i d below. (c.calls.ensures.text.lines i d below).0) w.in_ok-push.ensures.items (callers c) w.in_ok-turns_of.ensures
+          ∙ jobs-turns (λ v. v.items) c.args.trace.now c.in_ok-jobs.jobs.items w.push.new.self.items w.in_ok-turns_of.field-0 w.in-Some.daemon
+          (sym c.daemon.ensures.daemon ∙ w.in-Some.is) (λ i d below. (c.calls.ensures.text.lines i d below).0) w.in_ok-push.ensures.items
+          (callers c) w.in_ok-turns_of.ensures
       | in_default w ↦ ap (λ v. map (λ v. v.items) v.items) w.jobs-is
           ∙ jobs-calls c.args.trace.now _ (sym c.daemon.ensures.daemon ∙ w.in_default.is) (callers c)
     ]

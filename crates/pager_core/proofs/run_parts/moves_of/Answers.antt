@@ -18,7 +18,9 @@ overflow_add-demotions g c =
 pub loop-space-preserved : goal.loop-space-preserved
 loop-space-preserved g c = (
   sum-next (λ (k : Kept). k.promotions) c.args.spaces.now c.loop-space.space-index c.space-item.result
-      c.loop-space.promotions c.moves-own.result.0 c.loop-space-test.true c.space-item.is c.loop-space.invariant.0 (ap (λ m. m.0) c.moves-own.ensures),
+      c.loop-space.promotions c.moves-own.result.0 c.loop-space-test.true c.space-item.is c.loop-space.invariant.0
+      (ap (λ m. m.0) c.moves-own.ensures),
   sum-next (λ (k : Kept). k.demotions) c.args.spaces.now c.loop-space.space-index c.space-item.result
-      c.loop-space.demotions c.moves-own.result.1 c.loop-space-test.true c.space-item.is c.loop-space.invariant.1 (ap (λ m. m.1) c.moves-own.ensures),
+      c.loop-space.demotions c.moves-own.result.1 c.loop-space-test.true c.space-item.is c.loop-space.invariant.1
+      (ap (λ m. m.1) c.moves-own.ensures),
 )

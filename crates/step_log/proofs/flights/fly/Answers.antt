@@ -7,6 +7,7 @@ loop-log-init g c =
     record {
       went = λ s h before is at.
           WentOn-none g.L.Log.stands s h before c.args.log.now c.args.flight.now c.args.spaces.now.items c.args.pool.now c.requires.going is at;
+      grown = λ from grown. grown;
       takes = c.requires.takes;
       room = c.requires.room;
       lasting = λ lasts never. never;
@@ -33,6 +34,7 @@ loop-log-preserved g c =
           c.loop-log.spaces.items c.go_on.new.spaces.items c.loop-log.pool c.go_on.new.pool
           (sym c.has_ended.ensures ∙ c.loop-log-test.true) first
           (c.go_on.ensures.went s first.history before first.stands_for first.at);
+      grown = λ from grown. c.go_on.ensures.grown from (c.loop-log.invariant.grown from grown);
       takes = c.go_on.ensures.takes;
       room = c.go_on.ensures.room;
       lasting = λ lasts never. c.go_on.ensures.lasting lasts (c.loop-log.invariant.lasting lasts never);

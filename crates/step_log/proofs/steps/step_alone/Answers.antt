@@ -1,6 +1,6 @@
 use Rattle.std.proofs.Common.{refl, arith}
 use Rattle.pager_model.specs.Legal.{frames_at}
-use Rattle.step_log.proofs.FlightSteps.{may_follow_here, stepped_here, passed_here, none_alone, space_alone}
+use Rattle.step_log.proofs.FlightSteps.{may_follow_here, line_here, stepped_here, passed_here, none_alone, space_alone}
 use Rattle.step_log.proofs.steps.step_alone.Goals as goal
 
 pub add-requires-clause-may : goal.add-requires-clause-may
@@ -13,6 +13,13 @@ add-requires-clause-may g c =
       may_follow_here can.setting can.history can.before c.args.space.now c.args.flight.now can.here c.step_space.new.self
           c.step_space.new.space all all refl c.in-Some.entry (c.in-Some.ensures.entry _ all can.here.ready),
     )
+
+pub add-requires-clause-line : goal.add-requires-clause-line
+add-requires-clause-line g c =
+    let can = c.requires.can in
+    let all = frames_at can.setting can.history in
+    line_here can.setting can.history can.before c.args.space.now c.args.flight.now can.here c.step_space.new.self c.step_space.new.space all all refl
+    c.in-Some.entry (c.in-Some.ensures.entry _ all can.here.ready)
 
 pub add-requires-clause-takes : goal.add-requires-clause-takes
 add-requires-clause-takes g c =
@@ -28,7 +35,9 @@ pub returns-in-Some-clause-stepped : goal.returns-in-Some-clause-stepped
 returns-in-Some-clause-stepped g c = λ s h before is here.
     stepped_here s h before c.args.space.now c.args.flight.now here c.step_space.new.self c.step_space.new.space
     (frames_at s h) (frames_at s h) refl c.in-Some.entry (c.in-Some.ensures.entry _ (frames_at s h) here.ready)
-    g.L.Log.stands c.add.new.self (c.add.ensures.stands s h is)
+    g.L.Log.stands c.add.new.self (c.add.ensures.stands s h is
+    (may_follow_here s h before c.args.space.now c.args.flight.now here c.step_space.new.self c.step_space.new.space
+    (frames_at s h) (frames_at s h) refl c.in-Some.entry (c.in-Some.ensures.entry _ (frames_at s h) here.ready)))
 
 pub returns-in-Some-clause-room : goal.returns-in-Some-clause-room
 returns-in-Some-clause-room g c =

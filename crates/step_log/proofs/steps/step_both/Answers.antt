@@ -1,5 +1,5 @@
 use Rattle.std.proofs.Common.{arith, ◌∙◌}
-use Rattle.step_log.proofs.FlightSteps.{may_follow_here, stepped_here, passed_here, agreed, owns, known}
+use Rattle.step_log.proofs.FlightSteps.{may_follow_here, line_here, stepped_here, passed_here, agreed, owns, known}
 use Rattle.step_log.proofs.steps.step_both.Goals as goal
 
 pub step_both-requires-clause-agree : goal.step_both-requires-clause-agree
@@ -28,6 +28,12 @@ add-requires-clause-may g c =
           c.step_both.new.space c.args.pool.now c.step_both.new.pool can.frames c.in-Some.entry (c.in-Some.ensures.entry _ can.here.ready),
     )
 
+pub add-requires-clause-line : goal.add-requires-clause-line
+add-requires-clause-line g c =
+    let can = c.requires.can in
+    line_here can.setting can.history can.before c.args.space.now c.args.flight.now can.here c.step_both.new.self c.step_both.new.space
+    c.args.pool.now c.step_both.new.pool can.frames c.in-Some.entry (c.in-Some.ensures.entry _ can.here.ready)
+
 pub add-requires-clause-takes : goal.add-requires-clause-takes
 add-requires-clause-takes g c =
     let one = c.in-Some.ensures.entry _ c.requires.can.here.ready in
@@ -43,7 +49,9 @@ pub returns-in-Some-clause-stepped : goal.returns-in-Some-clause-stepped
 returns-in-Some-clause-stepped g c = λ s h before is here frames.
     stepped_here s h before c.args.space.now c.args.flight.now here c.step_both.new.self c.step_both.new.space
     c.args.pool.now c.step_both.new.pool frames c.in-Some.entry (c.in-Some.ensures.entry _ here.ready)
-    g.L.Log.stands c.add.new.self (c.add.ensures.stands s h is)
+    g.L.Log.stands c.add.new.self (c.add.ensures.stands s h is
+    (may_follow_here s h before c.args.space.now c.args.flight.now here c.step_both.new.self c.step_both.new.space
+    c.args.pool.now c.step_both.new.pool frames c.in-Some.entry (c.in-Some.ensures.entry _ here.ready)))
 
 pub returns-in-Some-clause-room : goal.returns-in-Some-clause-room
 returns-in-Some-clause-room g c =

@@ -1,3 +1,4 @@
+use Rattle.step_log.proofs.Entries.{answers_call}
 use Rattle.step_log.proofs.FlightSteps.{may_follow_frames, stepped_frames, owns, known}
 use Rattle.step_log.proofs.steps.step_frames.Goals as goal
 
@@ -21,8 +22,16 @@ add-requires-clause-may g c =
           c.step_frames-entry.new.self c.step_frames-entry.new.pool c.step_frames-entry.result c.step_frames-entry.ensures.entry,
     )
 
+pub add-requires-clause-line : goal.add-requires-clause-line
+add-requires-clause-line g c =
+    let entry = c.step_frames-entry.ensures.entry in
+    answers_call c.args.flight.now c.step_frames-entry.new.self c.args.pool.now c.step_frames-entry.new.pool c.step_frames-entry.result
+    entry.entry entry.fits
+
 pub returns-clause-stepped : goal.returns-clause-stepped
 returns-clause-stepped g c = λ s h before is legal flying frames.
     stepped_frames s h before c.args.flight.now legal flying c.args.pool.now frames
     c.step_frames-entry.new.self c.step_frames-entry.new.pool c.step_frames-entry.result c.step_frames-entry.ensures.entry
-    g.L.Log.stands c.add.new.self (c.add.ensures.stands s h is)
+    g.L.Log.stands c.add.new.self (c.add.ensures.stands s h is
+    (may_follow_frames s h before c.args.flight.now legal flying c.args.pool.now frames c.step_frames-entry.new.self
+    c.step_frames-entry.new.pool c.step_frames-entry.result c.step_frames-entry.ensures.entry))
