@@ -22,7 +22,8 @@ use Rattle.pager_model.specs.TraceText.{line_of_words}
 use Rattle.trace_lines.specs.Words.{words_of}
 use Rattle.trace_lines.proofs.Splits.{some_piece}
 use Rattle.trace_reader.specs.Refusals.{lines_of}
-use Rattle.trace_reader.proofs.CutTexts.{IsWord, is_word, line_again, words_again}
+use Rattle.trace_lines.proofs.CutWords.{IsWord, is_word, words_again}
+use Rattle.trace_reader.proofs.CutTexts.{line_again}
 use Rattle.history_text.specs.declared.fault.HistoryFault.{HistoryFault}
 use Rattle.history_text.specs.HistoryText.{IsEntryOf, IsHistoryText, entry_words, text_of_history}
 use Rattle.history_text.specs.Refusals.{IsRefused, RefusedFrom}

@@ -12,7 +12,8 @@ use Rattle.pager_model.specs.Plans.{Plan}
 use Rattle.pager_model.specs.TraceText.{HasText, IsDaemon, IsLine, call_line, daemon_words, first_words, line_of_words, line_words, sizes_word, text_of}
 use Rattle.trace_lines.specs.Words.{words_of}
 use Rattle.trace_reader.specs.Refusals.{lines_of}
-use Rattle.trace_reader.proofs.CutTexts.{IsWord, behind_text, calls_text, calls_text-cons, call_is_not_end, daemon_words_are, first_words_are, line_again, line_words_are, text_is, words_again}
+use Rattle.trace_lines.proofs.CutWords.{IsWord, line_words_are, words_again}
+use Rattle.trace_reader.proofs.CutTexts.{behind_text, calls_text, calls_text-cons, call_is_not_end, daemon_words_are, first_words_are, line_again, text_is}
 use Rattle.history_text.specs.Refusals.{end_in}
 use Rattle.history_text.proofs.ReadLines.{end_here, end_later}
 

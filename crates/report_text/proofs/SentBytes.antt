@@ -1,5 +1,5 @@
 -- Bytes that go out one after another.
-use Rattle.std.proofs.Common.{◌≡◌, ℕ, ◌+◌, ◌<◌, List, [], ◌∷◌, ◌++◌, length, take, drop, get_or, flat_map, Option, Some, IfSome, Result, Ok, Err, IsErr, ap, sym, subst, ◌∙◌, append_assoc, arith}
+use Rattle.std.proofs.Common.{◌≡◌, ℕ, ◌+◌, ◌<◌, List, [], ◌∷◌, ◌++◌, length, take, drop, get_or, flat_map, Option, Some, None, IfSome, refl, Result, Ok, Err, IsErr, ap, sym, subst, ◌∙◌, append_assoc, arith}
 use Rattle.std.specs.List.{range_with_len}
 use Rattle.std.proofs.Math.Seq.{take-append-add}
 use Rattle.std.proofs.lemmas.List.{append-nil, flat_map_more, length-append, take-append-le, take-append-drop, take_more}
@@ -8,7 +8,7 @@ use Rattle.std.proofs.lemmas.Bool.{false≢true}
 use Rattle.std.proofs.lemmas.Option.{IfSome_then}
 use Rattle.std.proofs.lemmas.Grind.{flat_map-append}
 use Rattle.io_core.specs.Faults.{one_more}
-use Rattle.report_text.specs.Writing.{Outgoing, Sent, SentPart, Puts}
+use Rattle.report_text.specs.Writing.{Outgoing, outgoing, Sent, SentPart, Puts}
 
 -- of what waited and these bytes a beginning went out, behind what the sink had, and the rest waits
 abbrev Gone : Outgoing → Outgoing → List ℕ → List ℕ → Type 0
@@ -94,6 +94,28 @@ puts_failed (Err e) {a = a} {b = b} x rest is part = further x rest part
       few_writes = omega (arith, part.few_writes, ap length (append_assoc a.waiting x y), length-append (a.waiting ++ x) y);
       rose = part.rose;
     })
+
+-- nothing went out, and these bytes wait behind those that waited
+puts_behind : (taken : Option (List ℕ)) (had now bytes : List ℕ) → now ≡ had ++ bytes
+    → IfSome taken (λ gone_before. (gone : List ℕ) × (taken ≡ Some (gone_before ++ gone)) × (gone ++ now ≡ had ++ bytes))
+puts_behind None had now bytes is = tt
+puts_behind (Some before) had now bytes is = ([], ap Some (sym (append-nil before)), is)
+
+-- room was made, and then these bytes put
+pub room_put : (a : Outgoing) (taken : Option (List ℕ)) (writes faults : ℕ) (had now bytes : List ℕ)
+    → Sent a (outgoing taken writes faults had) [] → now ≡ had ++ bytes → Sent a (outgoing taken writes faults now) bytes
+room_put a taken writes faults had now bytes made is =
+    sent_sent {a = a} {b = outgoing taken writes faults had} {c = outgoing taken writes faults now} [] bytes made (record {
+      told = puts_behind taken had now bytes is;
+      few_writes = omega (arith, ap length is);
+      unfailed = refl;
+    })
+
+-- or no room could be made for them
+pub room_failed : {E : Type 0} (r : Result (Unit {0}) E) (a b : Outgoing) (bytes : List ℕ) → IsErr r → SentPart a b [] → Puts r a b bytes
+room_failed r a b bytes fails part = puts_failed r [] (bytes ∷ []) fails part
+
+pub ruleset into_room = (room_put, room_failed)
 
 -- texts that are joined from the last on
 pub joined : (x : List ℕ) (rest : List (List ℕ)) → x ++ flat_map (λ (text : List ℕ). text) rest ≡ and_then x rest

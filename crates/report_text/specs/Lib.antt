@@ -1,3 +1,4 @@
+pub mod Bytes
 pub mod CurveText
 pub mod Writing
 pub mod Written

@@ -5,11 +5,11 @@ ghost use Rattle.std.specs.List.{range_with_len};
 ghost use Rattle.io_core.specs.Faults.{one_more};
 ghost use Rattle.pager_model.specs.TraceText.{line_of_words};
 ghost use Rattle.report_text.specs.CurveText.{curve_line, curves_text};
-ghost use Rattle.report_text.specs.Lines.{line_text};
+ghost use Rattle.report_text.specs.Lines.{Gains, HasRoom};
 ghost use Rattle.report_text.specs.Writing.{Puts, outgoing};
 ghost use Rattle.report_text.specs.Written.{WroteAll, WrotePart};
 
-use crate::line::Line;
+use crate::text::{LONGEST, Text};
 use crate::writing::Room;
 use io_core::{Sink, WriteFailed};
 
@@ -61,19 +61,39 @@ fn put_capacities<K: Sink>(
         (flat_map (curve_line tiles.now pages.now) (range_with_len 0 (length tiles.now))) }
 {
     for place in 0..tiles.len() {
-        room.put_line(sink, &line_of_capacity(place, tiles[place], pages[place]))?;
+        put_capacity(room, sink, place, tiles[place], pages[place])?;
     }
     Ok(())
 }
 
-/// The line of the capacity at a place, which has so many misses by tiles and by base pages.
-fn line_of_capacity(place: usize, tiles: u64, pages: u64) -> Line
+/// Puts the line of the capacity at a place, which has so many misses by tiles and by base pages.
+#[tactic(auto, using(crate::proofs::SentBytes::into_room))]
+fn put_capacity<K: Sink>(
+    room: &mut Room,
+    sink: &mut K,
+    place: usize,
+    tiles: u64,
+    pages: u64,
+) -> Result<(), WriteFailed>
     requires { place + 1 < 2 ^ 64 }
-    ensures { line_text result ≡ line_of_words (decimal (place + 1) ∷ decimal tiles ∷ decimal pages ∷ []) }
+    ensures { Puts result
+        (outgoing (K.taken sink.old) (K.writes sink.old) (K.faults sink.old) room.old.bytes.items)
+        (outgoing (K.taken sink.new) (K.writes sink.new) (K.faults sink.new) room.new.bytes.items)
+        (line_of_words (decimal (place + 1) ∷ decimal tiles ∷ decimal pages ∷ [])) }
 {
-    let mut line = Line::numbered(place as u64 + 1);
-    line.add_number(tiles);
-    line.add_number(pages);
-    line.end();
-    line
+    room.make_room(sink, LONGEST)?;
+    write_capacity(&mut room.bytes, place, tiles, pages);
+    Ok(())
+}
+
+/// Puts that line into a text.
+fn write_capacity(text: &mut Text, place: usize, tiles: u64, pages: u64)
+    requires place { place + 1 < 2 ^ 64 }
+    requires room { HasRoom LONGEST text.old }
+    ensures { Gains (line_of_words (decimal (place + 1) ∷ decimal tiles ∷ decimal pages ∷ [])) text.old text.new }
+{
+    text.put_number(place as u64 + 1);
+    text.add_number(tiles);
+    text.add_number(pages);
+    text.end();
 }

@@ -4,18 +4,18 @@
 
 mod curve_lines;
 mod entry_words;
-mod line;
 mod plan_lines;
 mod report;
 mod so_far_line;
 mod summary_lines;
+mod text;
 mod verdict_line;
 mod writing;
 
 pub use curve_lines::write_curves;
-pub use line::Line;
 pub use plan_lines::write_plan;
 pub use report::{Parts, write_report, write_summary};
 pub use so_far_line::{SoFar, write_so_far};
+pub use text::{LONGEST, Text};
 pub use verdict_line::write_verdict;
 pub use writing::Room;

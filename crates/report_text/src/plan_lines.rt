@@ -3,12 +3,12 @@
 ghost use Rattle.std.specs.Prelude.{◌≡◌, ◌+◌, ◌≤◌, [], ◌∷◌, ◌++◌, OnOk, OnErr, codes, flat_map, length};
 ghost use Rattle.io_core.specs.Faults.{one_more};
 ghost use Rattle.pager_model.specs.TraceText.{line_of_words};
-ghost use Rattle.report_text.specs.Lines.{line_text};
+ghost use Rattle.report_text.specs.Lines.{Gains, HasRoom};
 ghost use Rattle.report_text.specs.PlanText.{extent_line, page_line, plan_text, planned_lines};
 ghost use Rattle.report_text.specs.Writing.{Puts, outgoing};
 ghost use Rattle.report_text.specs.Written.{WroteAll, WrotePart};
 
-use crate::line::Line;
+use crate::text::{LONGEST, Text};
 use crate::writing::Room;
 use contiguity_plan::{PageOf, Plan};
 use io_core::{Sink, WriteFailed};
@@ -53,7 +53,7 @@ fn put_planned<K: Sink>(
 {
     match plan {
         Some(plan) => put_extent(room, sink, plan),
-        None => room.put_line(sink, &line_of_none()),
+        None => put_none(room, sink),
     }
 }
 
@@ -64,7 +64,7 @@ fn put_extent<K: Sink>(room: &mut Room, sink: &mut K, plan: &Plan) -> Result<(),
         (outgoing (K.taken sink.new) (K.writes sink.new) (K.faults sink.new) room.new.bytes.items)
         (extent_line plan.now ++ flat_map page_line plan.now.pages.items) }
 {
-    room.put_line(sink, &line_of_extent(plan))?;
+    put_first(room, sink, plan)?;
     put_pages(room, sink, plan.pages.as_slice())
 }
 
@@ -76,38 +76,67 @@ fn put_pages<K: Sink>(room: &mut Room, sink: &mut K, pages: &[PageOf]) -> Result
         (flat_map page_line pages.now) }
 {
     for page in pages {
-        room.put_line(sink, &line_of_page(page))?;
+        put_page(room, sink, page)?;
     }
     Ok(())
 }
 
-/// The line of an extent, and of how many pages are to be evicted.
-fn line_of_extent(plan: &Plan) -> Line
-    ensures { line_text result ≡ extent_line plan.now }
+/// Puts the line of an extent, and of how many pages are to be evicted.
+#[tactic(auto, using(crate::proofs::SentBytes::into_room))]
+fn put_first<K: Sink>(room: &mut Room, sink: &mut K, plan: &Plan) -> Result<(), WriteFailed>
+    ensures { Puts result
+        (outgoing (K.taken sink.old) (K.writes sink.old) (K.faults sink.old) room.old.bytes.items)
+        (outgoing (K.taken sink.new) (K.writes sink.new) (K.faults sink.new) room.new.bytes.items)
+        (extent_line plan.now) }
 {
-    let mut line = Line::named("plan");
-    line.add_counts(&[plan.extent.first]);
-    line.add_number(plan.pages.len() as u64);
-    line.end();
-    line
+    room.make_room(sink, LONGEST)?;
+    write_extent(&mut room.bytes, plan);
+    Ok(())
 }
 
-/// The line that says that nothing is planned.
-fn line_of_none() -> Line
-    ensures { line_text result ≡ line_of_words (codes "plan" ∷ codes "none" ∷ []) }
+/// Puts that line into a text.
+fn write_extent(text: &mut Text, plan: &Plan)
+    requires { HasRoom LONGEST text.old }
+    ensures { Gains (extent_line plan.now) text.old text.new }
 {
-    let mut line = Line::named("plan");
-    line.add_name("none");
-    line.end();
-    line
+    text.put_name("plan");
+    text.add_counts(&[plan.extent.first]);
+    text.add_number(plan.pages.len() as u64);
+    text.end();
 }
 
-/// The line of a page.
-fn line_of_page(page: &PageOf) -> Line
-    ensures { line_text result ≡ page_line page.now }
+/// Puts the line that says that nothing is planned.
+#[tactic(auto, using(crate::proofs::SentBytes::into_room))]
+fn put_none<K: Sink>(room: &mut Room, sink: &mut K) -> Result<(), WriteFailed>
+    ensures { Puts result
+        (outgoing (K.taken sink.old) (K.writes sink.old) (K.faults sink.old) room.old.bytes.items)
+        (outgoing (K.taken sink.new) (K.writes sink.new) (K.faults sink.new) room.new.bytes.items)
+        (line_of_words (codes "plan" ∷ codes "none" ∷ [])) }
 {
-    let mut line = Line::numbered(u64::from(page.space));
-    line.add_counts(&[page.page]);
-    line.end();
-    line
+    room.make_room(sink, LONGEST)?;
+    room.bytes.put(b"plan none\n");
+    Ok(())
+}
+
+/// Puts the line of a page.
+#[tactic(auto, using(crate::proofs::SentBytes::into_room))]
+fn put_page<K: Sink>(room: &mut Room, sink: &mut K, page: &PageOf) -> Result<(), WriteFailed>
+    ensures { Puts result
+        (outgoing (K.taken sink.old) (K.writes sink.old) (K.faults sink.old) room.old.bytes.items)
+        (outgoing (K.taken sink.new) (K.writes sink.new) (K.faults sink.new) room.new.bytes.items)
+        (page_line page.now) }
+{
+    room.make_room(sink, LONGEST)?;
+    write_page(&mut room.bytes, page);
+    Ok(())
+}
+
+/// Puts that line into a text.
+fn write_page(text: &mut Text, page: &PageOf)
+    requires { HasRoom LONGEST text.old }
+    ensures { Gains (page_line page.now) text.old text.new }
+{
+    text.put_number(u64::from(page.space));
+    text.add_counts(&[page.page]);
+    text.end();
 }

@@ -1,20 +1,19 @@
 //! The report of a run: each call's answer, the history where it is asked for, and the counts.
 
-ghost use Rattle.std.specs.Prelude.{◌≡◌, ◌+◌, ◌≤◌, if◌then◌else◌, [], decimal, length, option_to_list, slice_get, OnOk, OnErr};
+ghost use Rattle.std.specs.Prelude.{◌≡◌, ◌+◌, ◌≤◌, if◌then◌else◌, [], length, option_to_list, slice_get, OnOk, OnErr};
 ghost use Rattle.io_core.specs.Faults.{one_more};
 ghost use Rattle.pager_model.specs.Legal.{entries_in};
-ghost use Rattle.pager_model.specs.PrintedText.{answers_of, answers_text, history_text, out_text, summary_text};
-ghost use Rattle.report_text.specs.Lines.{line_text};
+ghost use Rattle.pager_model.specs.PrintedText.{answers_of, answers_text, history_line, history_text, out_text, summary_text};
 ghost use Rattle.report_text.specs.Parts.{has_history};
 ghost use Rattle.report_text.specs.Writing.{Puts, outgoing};
 ghost use Rattle.report_text.specs.Written.{WroteAll, WrotePart};
 
-use crate::entry_words::{end_answer, line_of_entry};
-use crate::line::Line;
-use crate::summary_lines::summary_lines;
+use crate::entry_words::{put_answer, put_entry};
+use crate::summary_lines::{SUMMARY, put_summary_lines};
+use crate::text::LONGEST;
 use crate::writing::Room;
 use io_core::{Sink, WriteFailed};
-use pager_model::Summary;
+use pager_model::{Numbered, Summary};
 use run_history::History;
 
 /// Which parts of a run are printed before its counts.
@@ -87,7 +86,8 @@ fn put_summary<K: Sink>(room: &mut Room, sink: &mut K, summary: &Summary) -> Res
         (summary_text summary.now) }
     ensures empty { OnOk result (room.new.bytes.items ≡ []) }
 {
-    room.put_lines(sink, &summary_lines(summary))?;
+    room.make_room(sink, SUMMARY)?;
+    put_summary_lines(&mut room.bytes, summary);
     room.send(sink)
 }
 
@@ -121,40 +121,33 @@ fn put_answers_of<K: Sink>(
         (outgoing (K.taken sink.new) (K.writes sink.new) (K.faults sink.new) room.new.bytes.items)
         (answers_of (entries_in history.now.items) processor) }
 {
-    // The number of the processor begins each of its lines.
-    let mut line = Line::numbered(u64::from(processor));
     let mut from = 0;
     while let Some(place) = history.next_by(from, processor) {
-        put_answer_of(room, sink, &mut line, processor, history, place)?;
+        put_answer_of(room, sink, processor, history, place)?;
         from = place + 1;
     }
     Ok(())
 }
 
-/// Puts the line of the entry at a place, where it is an answer of the processor, whose number the line has then and now. Others have none.
+/// Puts the line of the entry at a place, where it is an answer of the processor. Others have none.
 fn put_answer_of<K: Sink>(
     room: &mut Room,
     sink: &mut K,
-    line: &mut Line,
     processor: u32,
     history: &History,
     place: usize,
 ) -> Result<(), WriteFailed>
-    requires { line_text line.old ≡ decimal processor }
-    ensures puts { Puts result
+    ensures { Puts result
         (outgoing (K.taken sink.old) (K.writes sink.old) (K.faults sink.old) room.old.bytes.items)
         (outgoing (K.taken sink.new) (K.writes sink.new) (K.faults sink.new) room.new.bytes.items)
         (answers_of (entries_in (option_to_list (slice_get history.now.items place))) processor) }
-    ensures line { line_text line.new ≡ decimal processor }
 {
     let Some((number, answered)) = history.answer_by(place, processor) else {
         return Ok(());
     };
-    let begun = line.len();
-    end_answer(line, number, &answered);
-    let put = room.put_line(sink, line);
-    line.cut(begun);
-    put
+    room.make_room(sink, LONGEST)?;
+    put_answer(&mut room.bytes, processor, number, &answered);
+    Ok(())
 }
 
 /// Puts the history where the parts have it.
@@ -186,7 +179,24 @@ fn put_entries<K: Sink>(room: &mut Room, sink: &mut K, history: &History) -> Res
         let Some(numbered) = history.get(place) else {
             unreachable!()
         };
-        room.put_line(sink, &line_of_entry(&numbered))?;
+        put_line_of(room, sink, &numbered)?;
     }
+    Ok(())
+}
+
+/// Puts the line of an entry.
+#[tactic(auto, using(crate::proofs::SentBytes::into_room))]
+fn put_line_of<K: Sink>(
+    room: &mut Room,
+    sink: &mut K,
+    numbered: &Numbered,
+) -> Result<(), WriteFailed>
+    ensures { Puts result
+        (outgoing (K.taken sink.old) (K.writes sink.old) (K.faults sink.old) room.old.bytes.items)
+        (outgoing (K.taken sink.new) (K.writes sink.new) (K.faults sink.new) room.new.bytes.items)
+        (history_line numbered.now) }
+{
+    room.make_room(sink, LONGEST)?;
+    put_entry(&mut room.bytes, numbered);
     Ok(())
 }

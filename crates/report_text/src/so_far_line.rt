@@ -2,12 +2,11 @@
 
 ghost use Rattle.std.specs.Prelude.{◌≡◌, ◌+◌, ◌≤◌, OnOk, OnErr, length};
 ghost use Rattle.io_core.specs.Faults.{one_more};
-ghost use Rattle.report_text.specs.Lines.{line_text};
 ghost use Rattle.report_text.specs.SoFarText.{so_far_text};
 ghost use Rattle.report_text.specs.Written.{WroteAll, WrotePart};
 
-use crate::line::Line;
-use crate::summary_lines::line_of_counts;
+use crate::summary_lines::put_counts;
+use crate::text::Text;
 use io_core::{Sink, WriteFailed, write_all};
 use pager_model::Summary;
 
@@ -34,15 +33,17 @@ pub fn write_so_far<K: Sink>(sink: &mut K, so_far: &SoFar) -> Result<(), WriteFa
     ensures unfailed { OnOk result (K.faults sink.new ≡ K.faults sink.old) }
     ensures rose { OnErr result (K.faults sink.new ≡ one_more (K.faults sink.old)) }
 {
-    write_all(sink, line_of_so_far(so_far).as_bytes())
+    write_all(sink, text_of_so_far(so_far).as_bytes())
 }
 
 /// The line of the counts so far.
-fn line_of_so_far(so_far: &SoFar) -> Line
-    ensures { line_text result ≡ so_far_text so_far.now }
+fn text_of_so_far(so_far: &SoFar) -> Text
+    ensures { result.items ≡ so_far_text so_far.now }
 {
+    let mut text = Text::new();
     let summary = &so_far.summary;
-    line_of_counts(
+    put_counts(
+        &mut text,
         "after",
         &[
             so_far.calls,
@@ -57,5 +58,6 @@ fn line_of_so_far(so_far: &SoFar) -> Line
             u64::from(summary.used),
             so_far.unserved,
         ],
-    )
+    );
+    text
 }

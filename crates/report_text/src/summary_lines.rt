@@ -1,25 +1,27 @@
 //! The lines of the counts.
 
-ghost use Rattle.std.specs.Prelude.{◌≡◌, ◌≤◌, [], ◌∷◌, flat_map, length};
+ghost use Rattle.std.specs.Prelude.{◌≡◌, ◌+◌, ◌*◌, ◌≤◌, [], ◌∷◌, length};
 ghost use Rattle.pager_model.specs.PrintedText.{count_line, summary_text};
-ghost use Rattle.report_text.specs.Lines.{line_text};
+ghost use Rattle.report_text.specs.Lines.{Gains, GrowsBy, HasRoom};
 
-use crate::line::Line;
+use crate::text::Text;
 use pager_model::Summary;
 
-/// The lines of the counts: translations by size, promotions, demotions, broken reservations, hits and misses, frames; and the end.
-pub fn summary_lines(summary: &Summary) -> [Line; 7]
-    ensures { flat_map line_text result ≡ summary_text summary.now }
+/// No more bytes are in the lines of the counts.
+pub const SUMMARY: usize = 512;
+
+/// Puts the lines of the counts: translations by size, promotions, demotions, broken reservations, hits and misses, frames; and the end.
+pub fn put_summary_lines(text: &mut Text, summary: &Summary)
+    requires { HasRoom SUMMARY text.old }
+    ensures { Gains (summary_text summary.now) text.old text.new }
 {
-    [
-        line_of_counts("tiles", &tile_counts(&summary.tiles)),
-        line_of_counts("promotions", &[summary.promotions]),
-        line_of_counts("demotions", &[summary.demotions]),
-        line_of_counts("preemptions", &[summary.preemptions]),
-        line_of_counts("images", &[summary.hits, summary.misses]),
-        line_of_counts("frames", &frame_counts(summary)),
-        line_of_counts("end", &[]),
-    ]
+    put_counts(text, "tiles", &tile_counts(&summary.tiles));
+    put_counts(text, "promotions", &[summary.promotions]);
+    put_counts(text, "demotions", &[summary.demotions]);
+    put_counts(text, "preemptions", &[summary.preemptions]);
+    put_counts(text, "images", &[summary.hits, summary.misses]);
+    put_counts(text, "frames", &frame_counts(summary));
+    put_counts(text, "end", &[]);
 }
 
 /// A count for each size.
@@ -46,16 +48,16 @@ fn frame_counts(summary: &Summary) -> [u64; 3]
     ]
 }
 
-/// A line of a name and its counts.
-pub fn line_of_counts(name: &str, counts: &[u64]) -> Line
-    requires few { length counts.now ≤ 11 }
+/// Puts a line of a name and its counts.
+pub fn put_counts(text: &mut Text, name: &str, counts: &[u64])
     requires short { length name.now ≤ 20 }
-    ensures { line_text result ≡ count_line name.now counts.now }
+    requires room { HasRoom (21 + 21 * length counts.now) text.old }
+    ensures text { Gains (count_line name.now counts.now) text.old text.new }
+    ensures few { GrowsBy (21 + 21 * length counts.now) text.old text.new }
 {
-    let mut line = Line::named(name);
+    text.put_name(name);
     for count in counts {
-        line.add_number(*count);
+        text.add_number(*count);
     }
-    line.end();
-    line
+    text.end();
 }

@@ -2,11 +2,10 @@
 
 ghost use Rattle.std.specs.Prelude.{◌≡◌, ◌+◌, ◌≤◌, Some, None, OnOk, OnErr, length};
 ghost use Rattle.io_core.specs.Faults.{one_more};
-ghost use Rattle.report_text.specs.Lines.{line_text};
 ghost use Rattle.report_text.specs.VerdictText.{verdict_text};
 ghost use Rattle.report_text.specs.Written.{WroteAll, WrotePart};
 
-use crate::line::Line;
+use crate::text::Text;
 use io_core::{Sink, WriteFailed, write_all};
 
 /// Writes what a checker says of a history: yes, or no and this entry. After a failed write the sink has taken a beginning of that.
@@ -19,28 +18,29 @@ pub fn write_verdict<K: Sink>(sink: &mut K, bad: Option<u64>) -> Result<(), Writ
     ensures unfailed { OnOk result (K.faults sink.new ≡ K.faults sink.old) }
     ensures rose { OnErr result (K.faults sink.new ≡ one_more (K.faults sink.old)) }
 {
-    let line = match bad {
-        None => line_of_yes(),
-        Some(entry) => line_of_no(entry),
+    let text = match bad {
+        None => text_of_yes(),
+        Some(entry) => text_of_no(entry),
     };
-    write_all(sink, line.as_bytes())
+    write_all(sink, text.as_bytes())
 }
 
-/// The line of a history that is legal.
-fn line_of_yes() -> Line
-    ensures { line_text result ≡ verdict_text None }
+/// What is said of a history that is legal.
+fn text_of_yes() -> Text
+    ensures { result.items ≡ verdict_text None }
 {
-    let mut line = Line::named("yes");
-    line.end();
-    line
+    let mut text = Text::new();
+    text.put(b"yes\n");
+    text
 }
 
-/// The line of a history whose first bad entry this is.
-fn line_of_no(entry: u64) -> Line
-    ensures { line_text result ≡ verdict_text (Some entry) }
+/// What is said of a history whose first bad entry this is.
+fn text_of_no(entry: u64) -> Text
+    ensures { result.items ≡ verdict_text (Some entry) }
 {
-    let mut line = Line::named("no");
-    line.add_number(entry);
-    line.end();
-    line
+    let mut text = Text::new();
+    text.put_name("no");
+    text.add_number(entry);
+    text.end();
+    text
 }

@@ -1,21 +1,18 @@
 //! Texts on their way out, in pieces.
 
-ghost use Rattle.std.specs.Prelude.{◌≡◌, [], ◌∷◌, OnOk, codes, flat_map};
+ghost use Rattle.std.specs.Prelude.{◌≡◌, ◌≤◌, [], ◌∷◌, OnOk, codes};
 ghost use Rattle.pager_model.specs.TraceText.{line_of_words};
-ghost use Rattle.report_text.specs.Lines.{line_text};
+ghost use Rattle.report_text.specs.Lines.{Gains, HasRoom};
 ghost use Rattle.report_text.specs.Writing.{Puts, outgoing};
 
-use crate::line::Line;
-use arrayvec::ArrayVec;
+use crate::text::{LONGEST, SIZE, Text};
 use io_core::{Sink, WriteFailed, write_all};
-
-/// How many bytes go out at once, at most.
-const PIECE: usize = 4096;
 
 /// Where bytes wait for a sink until there are enough of them for a piece.
 #[derive(Drop)]
 pub struct Room {
-    bytes: ArrayVec<u8, PIECE>,
+    /// What waits, behind which lines are put.
+    pub bytes: Text,
 }
 
 impl Room {
@@ -23,9 +20,7 @@ impl Room {
     pub fn new() -> Room
         ensures { result.bytes.items ≡ [] }
     {
-        Room {
-            bytes: ArrayVec::new(),
-        }
+        Room { bytes: Text::new() }
     }
 
     /// Sends what waits.
@@ -36,7 +31,7 @@ impl Room {
             [] }
         ensures empty { OnOk result (self.new.bytes.items ≡ []) }
     {
-        write_all(sink, self.bytes.as_slice())?;
+        write_all(sink, self.bytes.as_bytes())?;
         self.bytes.clear();
         Ok(())
     }
@@ -49,45 +44,46 @@ impl Room {
             (line_of_words (codes "end" ∷ [])) }
         ensures empty { OnOk result (self.new.bytes.items ≡ []) }
     {
-        self.put_line(sink, &last_line())?;
+        self.make_room(sink, LONGEST)?;
+        put_last(&mut self.bytes);
         self.send(sink)
     }
 
-    /// Adds a line. The bytes that wait go out first where there is no room for it.
-    pub fn put_line<K: Sink>(&mut self, sink: &mut K, line: &Line) -> Result<(), WriteFailed>
-        ensures { Puts result
+    /// Makes room for so many bytes: those that wait go out where there isn't.
+    pub fn make_room<K: Sink>(&mut self, sink: &mut K, more: usize) -> Result<(), WriteFailed>
+        requires { more ≤ SIZE }
+        ensures puts { Puts result
             (outgoing (K.taken sink.old) (K.writes sink.old) (K.faults sink.old) self.old.bytes.items)
             (outgoing (K.taken sink.new) (K.writes sink.new) (K.faults sink.new) self.new.bytes.items)
-            (line_text line.now) }
+            [] }
+        ensures room { OnOk result (HasRoom more self.new.bytes) }
     {
-        let bytes = line.as_bytes();
-        if bytes.len() > self.bytes.remaining_capacity() {
-            self.send(sink)?;
+        if self.bytes.has_room(more) {
+            Ok(())
+        } else {
+            self.send(sink)
         }
-        // No line is longer than a piece.
-        self.bytes.try_extend_from_slice(bytes).unwrap();
-        Ok(())
     }
 
-    /// Adds lines.
-    pub fn put_lines<K: Sink>(&mut self, sink: &mut K, lines: &[Line]) -> Result<(), WriteFailed>
+    /// Adds what a text has.
+    #[tactic(auto, using(crate::proofs::SentBytes::into_room))]
+    pub fn put_line<K: Sink>(&mut self, sink: &mut K, line: &Text) -> Result<(), WriteFailed>
         ensures { Puts result
             (outgoing (K.taken sink.old) (K.writes sink.old) (K.faults sink.old) self.old.bytes.items)
             (outgoing (K.taken sink.new) (K.writes sink.new) (K.faults sink.new) self.new.bytes.items)
-            (flat_map line_text lines.now) }
+            line.now.items }
     {
-        for line in lines {
-            self.put_line(sink, line)?;
-        }
+        let bytes = line.as_bytes();
+        self.make_room(sink, bytes.len())?;
+        self.bytes.put(bytes);
         Ok(())
     }
 }
 
-/// The line that ends a text.
-fn last_line() -> Line
-    ensures { line_text result ≡ line_of_words (codes "end" ∷ []) }
+/// Puts the line that ends a text.
+fn put_last(text: &mut Text)
+    requires { HasRoom LONGEST text.old }
+    ensures { Gains (line_of_words (codes "end" ∷ [])) text.old text.new }
 {
-    let mut line = Line::named("end");
-    line.end();
-    line
+    text.put(b"end\n");
 }

@@ -3,3 +3,4 @@ pub mod Splits
 pub mod Forms
 pub mod Lines
 pub mod Calls
+pub mod CutWords

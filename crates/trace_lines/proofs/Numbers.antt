@@ -1,20 +1,20 @@
 -- Words that are decimals.
 use Rattle.std.proofs.Common.{◌∙◌, ap, false, cond, leb, eqb, ◌+◌, ◌-◌, ◌*◌, ◌%◌, ◌≡◌, ℕ, ◌^◌, ◌<◌, ◌≤◌, Bool, true, ltb, ◌&&◌, List, length, take, get_or, Ok, Err, Option, Some, None, decimal, refl, sym, subst, arith, inl, inr}
 use Rattle.std.specs.Fmt.{digits}
-use Rattle.std.specs.Int.{IsInRange}
 use Rattle.std.specs.Str.{bytes_eq}
 use Rattle.std.specs.Str.Parse.{AllDigits, digits_value}
 use Rattle.pager_model.proofs.Options.{none_from_never}
 use Rattle.trace_lines.specs.Forms.{number_of, in_range, number_in}
-use Rattle.trace_lines.specs.Words.{IsPlain}
+use Rattle.trace_lines.specs.Words.{AreDigits, IsPlain}
 use Rattle.trace_lines.specs.declared.cause.LineCause.TheVariants as causes
 use Rattle.std.proofs.lemmas.Bool.{cases_lt, cases_Bool, and_parts, ltb-true, lt-ltb, eqb-true, eq-eqb, leb-true, le-leb}
 use Rattle.std.proofs.lemmas.Fmt.{digits_decimal, digits_value-decimal, decimal_digit, decimal_nonempty, first_decimal, decimal-digits_value}
 use Rattle.std.proofs.lemmas.Int.Digits.{digits_value_more}
+use Rattle.std.proofs.lemmas.List.{get_or-take, length-take-le}
 use Rattle.std.proofs.lemmas.Option.{cond_some}
 use Rattle.std.proofs.lemmas.Slice.Eq.{bytes_eq-Decides}
 use Rattle.std.proofs.lemmas.Str.{digit_value_digit}
-use Rattle.std.proofs.lemmas.Str.Parse.{IsNumeralModel, numerals_by_value, tells_digits, tells_by_index, digits_value-take-le}
+use Rattle.std.proofs.lemmas.Str.Parse.{IsNumeralModel, numerals_by_value, tells_digits, tells_by_index, digits_value-take-le, digits_value_short}
 
 own : IsNumeralModel (AllDigits 10) (digits_value 10)
 own = numerals_by_value (AllDigits 10) tells_digits
@@ -61,10 +61,6 @@ no_number word none = none_from_never (number_of word) (λ n e. let t = number_t
 
 -- ---- words digit by digit
 
--- each byte up to this place is a digit
-abbrev pub AreDigits : List ℕ → ℕ → Type 0
-AreDigits word i = (j : ℕ) → j < i → IsInRange 48 57 (get_or word j 0)
-
 by_index : IsNumeralModel (λ ds. AreDigits ds (length ds)) (digits_value 10)
 by_index = numerals_by_value (λ ds. AreDigits ds (length ds)) tells_by_index
 
@@ -92,6 +88,28 @@ digits_more word i number below so_far low high =
         | inr after ↦ (let here : j ≡ i = omega arith in rw here (low, high))
       ],
     )
+
+-- the first digits of a text are digits
+first_digits : (text : List ℕ) (count : ℕ) → count ≤ length text → AreDigits text count
+    → AreDigits (take count text) (length (take count text))
+first_digits text count within are = λ j below.
+    let long = length-take-le count text within in
+    let same : get_or (take count text) j 0 ≡ get_or text j 0 = get_or-take count text j 0 (omega (arith, below, long)) in
+    rw same (are j (omega (arith, below, long)))
+
+-- the number of eighteen digits at most
+pub short_number : (text : List ℕ) (count : ℕ) → count ≤ 18 → count ≤ length text → AreDigits text count
+    → digits_value 10 (take count text) < 10 ^ 18
+short_number text count few within are =
+    digits_value_short by_index (take count text) 18 (first_digits text count within are)
+    (omega (arith, few, length-take-le count text within))
+
+-- the word of the first digits of a text, with no zero before others, is the decimal of their number
+pub first_number : (text : List ℕ) (count number : ℕ) → count ≤ length text → AreDigits text count → IsPlain (take count text)
+    → number ≡ digits_value 10 (take count text) → number < 2 ^ 64 → take count text ≡ decimal number
+first_number text count number within are plain value small =
+    let is = number_of-digits (take count text) plain (first_digits text count within are) (omega (arith, value, small)) in
+    (number_takes (take count text) (digits_value 10 (take count text)) is).1 ∙ ap decimal (sym value)
 
 -- a byte that is no digit
 pub number_of-other : (word : List ℕ) (i : ℕ) → i < length word → (48 ≤ get_or word i 0 → get_or word i 0 ≤ 57 → ⊥) → number_of word ≡ None

@@ -5,9 +5,11 @@
 #![tactic(auto)]
 
 mod cause;
+mod front;
 mod line;
 mod word;
 
 pub use cause::LineCause;
+pub use front::cut_call;
 pub use line::{Head, call, daemon, daemon_numbers, first_line};
 pub use word::{any_number, cut, words};

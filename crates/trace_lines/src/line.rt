@@ -8,6 +8,7 @@ ghost use Rattle.trace_lines.specs.Heads.{HasName, IsInRange, IsRead, is_later, 
 ghost use Rattle.trace_lines.specs.Words.{seen, words_of};
 
 use crate::cause::LineCause;
+use crate::front::call_at_front;
 use crate::word::{any_number, kind, number, page_sizes, rights, small, words};
 use pager_model::{Call, Daemon, Line, PAGES, Sizes};
 
@@ -18,7 +19,7 @@ const TRACE: &[u8] = b"trace";
 const DAEMON: &[u8] = b"daemon";
 
 /// The bytes of a space.
-const ADDRESSES: u64 = 8_589_934_592;
+pub const ADDRESSES: u64 = 8_589_934_592;
 
 /// What a trace's first line says.
 #[derive(Drop)]
@@ -144,6 +145,18 @@ pub fn daemon(low: &[u8], turns: &[u8]) -> Result<Daemon, LineCause>
 pub fn call(line: &[u8], head: &Head) -> Result<Line, LineCause>
     ensures { IsRead head.now (call_forms head.now.version head.now.processors head.now.spaces) (words_of line.now) result }
 {
+    if let Some((call, rest)) = call_at_front(line, head.processors, head.spaces) {
+        if rest.is_empty() {
+            return Ok(call);
+        }
+    }
+    call_by_words(line, head)
+}
+
+/// The call that a line says by its words.
+fn call_by_words(line: &[u8], head: &Head) -> Result<Line, LineCause>
+    ensures { IsRead head.now (call_forms head.now.version head.now.processors head.now.spaces) (words_of line.now) result }
+{
     let Some(words) = words(line) else {
         return Err(LineCause::Form);
     };
@@ -220,7 +233,7 @@ fn call_of(
 
 /// The name of a call.
 #[derive(Clone, Copy)]
-enum Name {
+pub enum Name {
     Map,
     Grow,
     Unmap,

@@ -53,14 +53,14 @@ pub fn words(line: &[u8]) -> Option<ArrayVec<&[u8], MAX_WORDS>>
 }
 
 /// Whether a word has a byte, and no zero before others.
-fn is_plain(word: &[u8]) -> bool
+pub fn is_plain(word: &[u8]) -> bool
     ensures { IsTrue result ↔ IsPlain word.now }
 {
     !matches!(word, [] | [b'0', _, ..])
 }
 
 /// The digit that a byte is.
-fn digit_of(byte: u8) -> Option<u64>
+pub fn digit_of(byte: u8) -> Option<u64>
     ensures some { IfSome result (λ digit. (48 ≤ byte) × (byte ≤ 57) × (digit ≡ byte - 48)) }
     ensures none { IfNone result (48 ≤ byte → byte ≤ 57 → ⊥) }
 {

@@ -3,13 +3,13 @@
 ghost use Rattle.std.specs.Prelude.{◌≡◌, ◌+◌, ◌≤◌, ◌==◌, if◌then◌else◌, [], ◌∷◌, OnOk, OnErr, codes, flat_map, length};
 ghost use Rattle.io_core.specs.Faults.{one_more};
 ghost use Rattle.pager_model.specs.TraceText.{call_line, call_words, daemon_line, daemon_words, first_line, kind_word, line_of_words, rights_word, sizes_word, text_of};
-ghost use Rattle.report_text.specs.Lines.{Adds, GrowsBy, HasRoom, line_text};
+ghost use Rattle.report_text.specs.Lines.{Adds, Gains, GrowsBy, HasRoom};
 ghost use Rattle.report_text.specs.Writing.{Puts, outgoing};
 ghost use Rattle.report_text.specs.Written.{WroteAll, WrotePart};
 
 use io_core::{Sink, WriteFailed};
 use pager_model::{Call, Daemon, Kind, Line, Rights, Size, Sizes, Trace};
-use report_text::{Line as TextLine, Room};
+use report_text::{LONGEST, Room, Text};
 
 /// Writes the text of a trace: its first line, the daemon's where it has one, a line for each call, and the line `end`. After a failed write the sink has taken a beginning
 /// of it.
@@ -37,8 +37,7 @@ fn put_trace<K: Sink>(room: &mut Room, sink: &mut K, trace: &Trace) -> Result<()
     room.put_line(sink, &line_of_first(trace))?;
     put_daemon(room, sink, trace.daemon())?;
     put_calls(room, sink, trace.calls())?;
-    room.put_line(sink, &line_of_end())?;
-    room.send(sink)
+    room.finish(sink)
 }
 
 /// Puts the daemon's line, where there is one.
@@ -66,31 +65,55 @@ pub fn put_calls<K: Sink>(room: &mut Room, sink: &mut K, calls: &[Line]) -> Resu
         (flat_map call_line calls.now) }
 {
     for line in calls {
-        room.put_line(sink, &line_of_call(line))?;
+        put_call(room, sink, line)?;
     }
     Ok(())
 }
 
+/// Puts the line of a call.
+#[tactic(auto, using(report_text::proofs::SentBytes::into_room))]
+fn put_call<K: Sink>(room: &mut Room, sink: &mut K, line: &Line) -> Result<(), WriteFailed>
+    ensures { Puts result
+        (outgoing (K.taken sink.old) (K.writes sink.old) (K.faults sink.old) room.old.bytes.items)
+        (outgoing (K.taken sink.new) (K.writes sink.new) (K.faults sink.new) room.new.bytes.items)
+        (call_line line.now) }
+{
+    room.make_room(sink, LONGEST)?;
+    write_call(&mut room.bytes, line);
+    Ok(())
+}
+
+/// Puts that line into a text.
+fn write_call(text: &mut Text, line: &Line)
+    requires { HasRoom LONGEST text.old }
+    ensures { Gains (call_line line.now) text.old text.new }
+{
+    text.put_number(u64::from(line.processor));
+    add_call(text, &line.call);
+    text.end();
+}
+
 /// The first line of a trace's text.
-pub fn line_of_first(trace: &Trace) -> TextLine
-    ensures { line_text result ≡ first_line trace.now }
+pub fn line_of_first(trace: &Trace) -> Text
+    ensures { result.items ≡ first_line trace.now }
 {
     let version = trace.version();
-    let mut line = TextLine::named("trace");
-    line.add_counts(&[version, trace.frames(), trace.processors(), trace.spaces()]);
-    add_sizes(&mut line, version, trace.sizes());
-    line.end();
-    line
+    let mut text = Text::new();
+    text.put_name("trace");
+    text.add_counts(&[version, trace.frames(), trace.processors(), trace.spaces()]);
+    add_sizes(&mut text, version, trace.sizes());
+    text.end();
+    text
 }
 
 /// Adds the word of the page sizes, which the first line of version 1 doesn't name.
-fn add_sizes(line: &mut TextLine, version: u32, sizes: Sizes)
-    requires { HasRoom 5 line.old }
-    ensures text { Adds (if version == 1 then [] else sizes_word sizes ∷ []) line.old line.new }
-    ensures short { GrowsBy 5 line.old line.new }
+fn add_sizes(text: &mut Text, version: u32, sizes: Sizes)
+    requires { HasRoom 5 text.old }
+    ensures text { Adds (if version == 1 then [] else sizes_word sizes ∷ []) text.old text.new }
+    ensures short { GrowsBy 5 text.old text.new }
 {
     if version != 1 {
-        line.add_name(sizes_name(sizes));
+        text.add_name(sizes_name(sizes));
     }
 }
 
@@ -113,39 +136,21 @@ fn sizes_name(sizes: Sizes) -> &'static str
 }
 
 /// The line of a daemon.
-fn line_of_daemon(daemon: Daemon) -> TextLine
-    ensures { line_text result ≡ line_of_words (daemon_words daemon) }
+fn line_of_daemon(daemon: Daemon) -> Text
+    ensures { result.items ≡ line_of_words (daemon_words daemon) }
 {
-    let mut line = TextLine::named("daemon");
-    line.add_counts(&[daemon.low, daemon.turns]);
-    line.end();
-    line
-}
-
-/// The last line.
-fn line_of_end() -> TextLine
-    ensures { line_text result ≡ line_of_words (codes "end" ∷ []) }
-{
-    let mut line = TextLine::named("end");
-    line.end();
-    line
-}
-
-/// The line of a call.
-fn line_of_call(line: &Line) -> TextLine
-    ensures { line_text result ≡ call_line line.now }
-{
-    let mut text = TextLine::numbered(u64::from(line.processor));
-    add_call(&mut text, &line.call);
+    let mut text = Text::new();
+    text.put_name("daemon");
+    text.add_counts(&[daemon.low, daemon.turns]);
     text.end();
     text
 }
 
 /// Adds the words of a call.
-fn add_call(line: &mut TextLine, call: &Call)
-    requires { HasRoom 100 line.old }
-    ensures text { Adds (call_words call.now) line.old line.new }
-    ensures short { GrowsBy 100 line.old line.new }
+fn add_call(text: &mut Text, call: &Call)
+    requires { HasRoom 100 text.old }
+    ensures text { Adds (call_words call.now) text.old text.new }
+    ensures short { GrowsBy 100 text.old text.new }
 {
     match *call {
         Call::Map {
@@ -155,43 +160,43 @@ fn add_call(line: &mut TextLine, call: &Call)
             kind,
             rights,
         } => {
-            line.add("map", &[space, page, length]);
-            line.add_name(kind_name(kind));
-            line.add_name(rights_name(rights));
+            text.add("map", &[space, page, length]);
+            text.add_name(kind_name(kind));
+            text.add_name(rights_name(rights));
         }
-        Call::Grow { space, page, by } => line.add("grow", &[space, page, by]),
-        Call::Unmap { space, page } => line.add("unmap", &[space, page]),
+        Call::Grow { space, page, by } => text.add("grow", &[space, page, by]),
+        Call::Unmap { space, page } => text.add("unmap", &[space, page]),
         Call::Protect {
             space,
             page,
             length,
             rights,
         } => {
-            line.add("protect", &[space, page, length]);
-            line.add_name(rights_name(rights));
+            text.add("protect", &[space, page, length]);
+            text.add_name(rights_name(rights));
         }
         Call::Load { space, address } => {
-            line.add("load", &[space]);
-            line.add_number(address);
+            text.add("load", &[space]);
+            text.add_number(address);
         }
         Call::Store {
             space,
             address,
             word,
         } => {
-            line.add("store", &[space]);
-            line.add_number(address);
-            line.add_number(word);
+            text.add("store", &[space]);
+            text.add_number(address);
+            text.add_number(word);
         }
-        Call::Sync { space, page } => line.add("sync", &[space, page]),
-        Call::Evict { space, page } => line.add("evict", &[space, page]),
+        Call::Sync { space, page } => text.add("sync", &[space, page]),
+        Call::Evict { space, page } => text.add("evict", &[space, page]),
         Call::Discard {
             space,
             page,
             length,
-        } => line.add("discard", &[space, page, length]),
-        Call::Wire { space, page } => line.add("wire", &[space, page]),
-        Call::Unwire { space, page } => line.add("unwire", &[space, page]),
+        } => text.add("discard", &[space, page, length]),
+        Call::Wire { space, page } => text.add("wire", &[space, page]),
+        Call::Unwire { space, page } => text.add("unwire", &[space, page]),
     }
 }
 

@@ -1,5 +1,5 @@
 -- A trace's text is cut into the lines and words that it was made of, and has no refusal.
-use Rattle.std.proofs.Common.{◌≡◌, ℕ, ◌+◌, ◌^◌, ◌<◌, ◌≤◌, ◌==◌, if◌then◌else◌, Bool, true, false, eqb, ltb, List, [], ◌∷◌, ◌++◌, length, flat_map, Option, Some, None, decimal, codes, refl, sym, ap, ◌∙◌, append_assoc, arith, lit≤, inl, inr}
+use Rattle.std.proofs.Common.{◌≡◌, ◌≢◌, ℕ, ◌+◌, ◌^◌, ◌<◌, ◌≤◌, ◌==◌, if◌then◌else◌, Bool, true, false, eqb, ltb, List, [], ◌∷◌, ◌++◌, length, flat_map, Option, Some, None, decimal, codes, refl, sym, ap, ◌∙◌, append_assoc, arith, lit≤, inl, inr}
 use Rattle.std.specs.List.{join_with_byte, All, AllByRecursion, list_all}
 use Rattle.std.specs.Str.{bytes_eq}
 use Rattle.std.specs.Str.Parse.{AllDigits}
@@ -27,38 +27,11 @@ use Rattle.trace_reader.specs.Refusals.{calls_refusal, first_call, lines_of, ref
 use Rattle.trace_lines.specs.Words.{words_of}
 use Rattle.trace_lines.proofs.Forms.{fits_length}
 use Rattle.trace_lines.proofs.Lines.{line_is_lawful}
-use Rattle.trace_lines.proofs.Numbers.{all_digits}
-use Rattle.trace_reader.proofs.Refusals.{goes_on, no_daemon, behind_daemon, behind_first_line}
+use Rattle.trace_lines.proofs.CutWords.{IsWord, is_word, decimal_is, lacks_all, words_again, line_words_are, call_words_again}
+use Rattle.trace_reader.specs.declared.fault.TraceFault.TheVariants.{TooManyCalls}
+use Rattle.trace_reader.proofs.Refusals.{goes_on, one_call_more, no_daemon, behind_daemon, behind_first_line}
 
--- ---- words without a space and a line feed
-
--- each byte is above that of a space
-abbrev pub IsWord : List ℕ → Type 0
-IsWord word = AllByRecursion (λ b. 32 < b) word
-
--- for a word that is written out
-pub is_word : (word : List ℕ) → list_all (λ b. ltb 32 b) word ≡ true → IsWord word
-is_word [] e = tt
-is_word (b ∷ word) e =
-    let p = and_parts (ltb 32 b) (list_all (λ c. ltb 32 c) word) e in
-    (ltb-true 32 b p.0, is_word word p.1)
-
-digits_are : (word : List ℕ) → AllDigits 10 word → IsWord word
-digits_are [] h = tt
-digits_are (b ∷ word) h = (let r = digit_from_value b h.0 in omega arith, digits_are word h.1)
-
-pub decimal_is : (n : ℕ) → n < 2 ^ 64 → IsWord (decimal n)
-decimal_is n small = digits_are (decimal n) (all_digits n small)
-
-kind_is : (kind : Kind) → IsWord (kind_word kind)
-kind_is Fixed = is_word (codes "fixed") refl
-kind_is Growing = is_word (codes "growing") refl
-kind_is Wired = is_word (codes "wired") refl
-
-rights_are : (rights : Rights) → IsWord (rights_word rights)
-rights_are NoAccess = is_word (codes "none") refl
-rights_are Read = is_word (codes "read") refl
-rights_are Write = is_word (codes "write") refl
+-- ---- the words of a first line
 
 sizes_are : (one two three : Bool) → IsWord (sizes_word (record { one = one; two = two; three = three }))
 sizes_are false false false = is_word (codes "0") refl
@@ -74,48 +47,6 @@ sizes_are true true true = is_word (codes "0123") refl
 unnamed_or : (unnamed : Bool) (word : List ℕ) → IsWord word → AllByRecursion IsWord (if unnamed then [] else word ∷ [])
 unnamed_or true word is = tt
 unnamed_or false word is = (is, tt)
-
-call_words_are : (spaces : ℕ) (call : Call) → spaces ≤ 2 ^ 64 → IsCall spaces call → AllByRecursion IsWord (call_words call)
-call_words_are spaces (Map space page len kind rights) few is = (
-  is_word (codes "map") refl,
-  (
-    decimal_is space (omega arith),
-    (
-      decimal_is page (omega arith),
-      (decimal_is len (omega arith), (kind_is kind, (rights_are rights, tt))),
-    ),
-  ),
-)
-call_words_are spaces (Grow space page by) few is =
-    (is_word (codes "grow") refl, (decimal_is space (omega arith), (decimal_is page (omega arith), (decimal_is by (omega arith), tt))))
-call_words_are spaces (Unmap space page) few is =
-    (is_word (codes "unmap") refl, (decimal_is space (omega arith), (decimal_is page (omega arith), tt)))
-call_words_are spaces (Protect space page len rights) few is = (
-  is_word (codes "protect") refl,
-  (
-    decimal_is space (omega arith),
-    (decimal_is page (omega arith), (decimal_is len (omega arith), (rights_are rights, tt))),
-  ),
-)
-call_words_are spaces (Load space address) few is =
-    (is_word (codes "load") refl, (decimal_is space (omega arith), (decimal_is address (omega arith), tt)))
-call_words_are spaces (Store space address word) few is =
-    (is_word (codes "store") refl, (decimal_is space (omega arith), (decimal_is address (omega arith), (decimal_is word is.3, tt))))
-call_words_are spaces (Sync space page) few is =
-    (is_word (codes "sync") refl, (decimal_is space (omega arith), (decimal_is page (omega arith), tt)))
-call_words_are spaces (Evict space page) few is =
-    (is_word (codes "evict") refl, (decimal_is space (omega arith), (decimal_is page (omega arith), tt)))
-call_words_are spaces (Discard space page len) few is =
-    (is_word (codes "discard") refl, (decimal_is space (omega arith), (decimal_is page (omega arith), (decimal_is len (omega arith), tt))))
-call_words_are spaces (Wire space page) few is =
-    (is_word (codes "wire") refl, (decimal_is space (omega arith), (decimal_is page (omega arith), tt)))
-call_words_are spaces (Unwire space page) few is =
-    (is_word (codes "unwire") refl, (decimal_is space (omega arith), (decimal_is page (omega arith), tt)))
-
-pub line_words_are : (version processors spaces : ℕ) (line : Line) → processors ≤ 2 ^ 64 → spaces ≤ 2 ^ 64 → IsLine version processors spaces line
-    → AllByRecursion IsWord (line_words line)
-line_words_are version processors spaces line some few is =
-    (decimal_is line.processor (omega (arith, is.0)), call_words_are spaces line.call few is.1)
 
 pub first_words_are : (plan : Plan) → HasText plan → AllByRecursion IsWord
     (first_words plan.version plan.frames plan.processors plan.spaces plan.sizes)
@@ -136,22 +67,6 @@ first_words_are plan has =
     )
 
 -- ---- what was joined is cut again
-
--- a byte at most that of a space isn't in a word
-lacks : (byte : ℕ) (word : List ℕ) → byte ≤ 32 → IsWord word → AllByRecursion (λ b. eqb b byte ≡ false) word
-lacks byte [] low is = tt
-lacks byte (b ∷ word) low is = (ne_eqb b byte (λ e. omega (arith, is.0)), lacks byte word low is.1)
-
-pub lacks_all : (byte : ℕ) (word : List ℕ) → byte ≤ 32 → IsWord word → All (λ b. eqb b byte ≡ false) word
-lacks_all byte word low is = All-from_recursion _ word (lacks byte word low is)
-
--- the words of a line that was joined of some
-pub words_again : (word : List ℕ) (words : List (List ℕ)) → AllByRecursion IsWord (word ∷ words)
-    → words_of (join_with_byte 32 (word ∷ words)) ≡ word ∷ words
-words_again word [] are = slice_split_none (λ b. eqb b 32) word (lacks_all 32 word (lit≤ tt) are.0)
-words_again word (next ∷ words) are =
-    slice_split_at (λ b. eqb b 32) word 32 (join_with_byte 32 (next ∷ words)) (lacks_all 32 word (lit≤ tt) are.0) refl
-    ∙ ap (λ (x : List (List ℕ)). word ∷ x) (words_again next words are.1)
 
 abbrev IsNoFeed : ℕ → Type 0
 IsNoFeed b = eqb b 10 ≡ false
@@ -191,11 +106,6 @@ call_again version processors spaces call calls some few is =
     ap lines_of (calls_text-cons call calls) ∙ line_again (line_words call) (calls_text calls)
     (line_words_are version processors spaces call some few is)
 
-pub call_words_again : (version processors spaces : ℕ) (call : Line) → processors ≤ 2 ^ 64 → spaces ≤ 2 ^ 64 → IsLine version processors spaces call
-    → words_of (join_with_byte 32 (line_words call)) ≡ line_words call
-call_words_again version processors spaces call some few is = words_again (decimal call.processor) (call_words call.call)
-    (line_words_are version processors spaces call some few is)
-
 pub three_words : (call : Call) → 3 ≤ length (call_words call)
 three_words (Map space page len kind rights) = omega arith
 three_words (Grow space page by) = omega arith
@@ -221,17 +131,39 @@ call_is_not_end version processors spaces call some few is =
       | inr other ↦ other
     ]
 
+call_is_lawful : (version processors spaces : ℕ) (call : Line) → processors ≤ 2 ^ 64 → spaces ≤ 2 ^ 64 → IsLine version processors spaces call
+    → line_fault (call_forms version processors spaces) (words_of (join_with_byte 32 (line_words call))) ≡ None
+call_is_lawful version processors spaces call some few is =
+    rw (call_words_again version processors spaces call some few is) (line_is_lawful version processors spaces call some few is)
+
+-- a call before others, and before one call too many
+pub before_call : (version processors spaces number before : ℕ) (call : Line) (rest : List ℕ) → processors ≤ 2 ^ 64 → spaces ≤ 2 ^ 64
+    → IsLine version processors spaces call → before ≢ 262144
+    → calls_refusal (call_forms version processors spaces) number before (lines_of (call_line call ++ rest))
+    ≡ calls_refusal (call_forms version processors spaces) (number + 1) (before + 1) (lines_of rest)
+before_call version processors spaces number before call rest some few is less =
+    goes_on (call_forms version processors spaces) number before (call_line call ++ rest) (join_with_byte 32 (line_words call)) rest
+    (line_again (line_words call) rest (line_words_are version processors spaces call some few is))
+    (call_is_not_end version processors spaces call some few is)
+    (call_is_lawful version processors spaces call some few is) less
+
+pub call_too_many : (version processors spaces number before : ℕ) (call : Line) (rest : List ℕ) → processors ≤ 2 ^ 64 → spaces ≤ 2 ^ 64
+    → IsLine version processors spaces call → before ≡ 262144
+    → calls_refusal (call_forms version processors spaces) number before (lines_of (call_line call ++ rest)) ≡ Some TooManyCalls
+call_too_many version processors spaces number before call rest some few is many =
+    one_call_more (call_forms version processors spaces) number before (call_line call ++ rest) (join_with_byte 32 (line_words call)) rest
+    (line_again (line_words call) rest (line_words_are version processors spaces call some few is))
+    (call_is_not_end version processors spaces call some few is)
+    (call_is_lawful version processors spaces call some few is) many
+
 calls_are_lawful : (version processors spaces number before : ℕ) (calls : List Line) → processors ≤ 2 ^ 64 → spaces ≤ 2 ^ 64
     → AllByRecursion (IsLine version processors spaces) calls → before + length calls ≤ 262144
     → calls_refusal (call_forms version processors spaces) number before (lines_of (calls_text calls)) ≡ None
 calls_are_lawful version processors spaces number before [] some few are in' = refl
 calls_are_lawful version processors spaces number before (call ∷ calls) some few are in' =
-    let lawful : line_fault (call_forms version processors spaces) (words_of (join_with_byte 32 (line_words call))) ≡ None =
-    rw (call_words_again version processors spaces call some few are.0) (line_is_lawful version processors spaces call some few are.0) in
-    let next = goes_on (call_forms version processors spaces) number before (calls_text (call ∷ calls)) (join_with_byte 32 (line_words call))
-    (calls_text calls) (call_again version processors spaces call calls some few are.0)
-    (call_is_not_end version processors spaces call some few are.0) lawful (λ e. omega arith) in
-    next ∙ calls_are_lawful version processors spaces (number + 1) (before + 1) calls some few are.1 (omega arith)
+    ap (λ (text : List ℕ). calls_refusal (call_forms version processors spaces) number before (lines_of text)) (calls_text-cons call calls)
+    ∙ before_call version processors spaces number before call (calls_text calls) some few are.0 (λ e. omega arith)
+    ∙ calls_are_lawful version processors spaces (number + 1) (before + 1) calls some few are.1 (omega arith)
 
 -- ---- the second line
 

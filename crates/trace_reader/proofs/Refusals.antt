@@ -76,14 +76,13 @@ line_is text line rest words cut are =
     let whole : line ≡ join_with_byte 32 words = sym (join_with_byte-slice_split 32 line) ∙ ap (join_with_byte 32) are in
     cut ∙ ap (λ (x : List ℕ). x ++ 10 ∷ rest) whole ∙ sym (append_assoc (join_with_byte 32 words) (10 ∷ []) rest)
 
--- the lines so far, and one more that ends at a line feed
-pub parts_go_on : (text rest line after : List ℕ) (calls : List Call) (call : Call) → text ≡ flat_map call_line calls ++ rest
-    → rest ≡ line ++ 10 ∷ after → words_of line ≡ line_words call → text ≡ flat_map call_line (calls ++ call ∷ []) ++ after
-parts_go_on text rest line after calls call so_far cut words =
+-- the lines so far, and one more
+pub one_more_line : (text rest after : List ℕ) (calls : List Call) (call : Call) → text ≡ flat_map call_line calls ++ rest
+    → rest ≡ call_line call ++ after → text ≡ flat_map call_line (calls ++ call ∷ []) ++ after
+one_more_line text rest after calls call so_far next =
     let front : flat_map call_line (calls ++ call ∷ []) ≡ flat_map call_line calls ++ call_line call =
     flat_map-append call_line calls (call ∷ []) ∙ ap (λ (x : List ℕ). flat_map call_line calls ++ x)
     (flat_map-cons call_line call [] ∙ append-nil (call_line call)) in
-    let next : rest ≡ call_line call ++ after = line_is rest line after (line_words call) cut words in
     so_far ∙ ap (λ (x : List ℕ). flat_map call_line calls ++ x) next ∙ sym (append_assoc (flat_map call_line calls) (call_line call) after)
     ∙ ap (λ (x : List ℕ). x ++ after) (sym front)
 

@@ -20,7 +20,8 @@ use Rattle.pager_model.specs.TraceText.{kind_word, rights_word, sizes_word, call
 use Rattle.trace_lines.specs.Forms.{daemon_form, fits}
 use Rattle.trace_reader.specs.Refusals.{lines_of}
 use Rattle.trace_lines.specs.Words.{words_of}
-use Rattle.trace_reader.proofs.CutTexts.{behind_text, calls_text, call_again, call_words_again, call_is_no_daemons, call_is_not_end, daemon_again, daemon_words_again, first_again, first_words_again}
+use Rattle.trace_lines.proofs.CutWords.{call_words_again}
+use Rattle.trace_reader.proofs.CutTexts.{behind_text, calls_text, call_again, call_is_no_daemons, call_is_not_end, daemon_again, daemon_words_again, first_again, first_words_again}
 use Rattle.trace_lines.proofs.Numbers.{decimal_value}
 
 -- the number at a place, the kind and the rights

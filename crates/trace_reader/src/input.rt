@@ -11,7 +11,7 @@ use pager_model::Trace;
 use std::alloc::Global;
 
 /// How many bytes one read asks for.
-const PIECE: usize = 4096;
+const PIECE: usize = 65_536;
 
 /// Why the bytes of a source weren't read to their end.
 #[derive(Clone, Copy, Debug, PartialEq, Eq)]

@@ -1,5 +1,5 @@
 //! A trace's whole text.
-ghost use Rattle.std.specs.Prelude.{◌≡◌, ◌≤◌, ◌+◌, ◌∷◌, ◌++◌, [], All, List, Some, length, flat_map, codes, IfOk, IfErr, IsErrOf};
+ghost use Rattle.std.specs.Prelude.{◌≡◌, ◌<◌, ◌≤◌, ◌+◌, ◌^◌, ℕ, ◌∷◌, ◌++◌, [], All, List, Some, length, flat_map, codes, IfOk, IfErr, IfNone, IfSome, IsErrOf};
 ghost use Rattle.pager_model.specs.TraceText.{IsDaemon, IsLine, IsTextOf, call_line, daemon_line, line_of_words};
 ghost use Rattle.trace_lines.specs.Forms.{Place, call_forms};
 ghost use Rattle.trace_lines.specs.Heads.{IsInRange};
@@ -8,7 +8,7 @@ ghost use Rattle.trace_reader.specs.Refusals.{IsCause, IsOfReader, calls_refusal
 use crate::fault::TraceFault;
 use pager_model::{Daemon, Line, Trace};
 use std::alloc::Global;
-use trace_lines::{Head, LineCause, call, cut, daemon, daemon_numbers, first_line};
+use trace_lines::{Head, LineCause, call, cut, cut_call, daemon, daemon_numbers, first_line};
 
 /// The most bytes that a trace's text has.
 pub const MAX_BYTES: usize = 16_777_216;
@@ -44,6 +44,45 @@ pub fn first_call(daemon: Option<Daemon>) -> u64
     if daemon.is_some() { 3 } else { 2 }
 }
 
+/// The call of the first line of a text, which has this number, and the text behind that line; or none, where it is the line `end` and nothing
+/// stands behind it.
+fn next_call<'a>(
+    head: &Head,
+    number: u64,
+    text: &'a [u8],
+) -> Result<Option<(Line, &'a [u8])>, TraceFault>
+    requires number { number < 2 ^ 63 }
+    requires range { IsInRange head.now }
+    ensures line { IfOk result (λ next. IfSome next (λ parts. IsLine head.now.version head.now.processors head.now.spaces parts.0)) }
+    ensures text { IfOk result (λ next. IfSome next (λ parts. text.now ≡ call_line parts.0 ++ parts.1.now)) }
+    ensures end { IfOk result (λ next. IfNone next (text.now ≡ line_of_words (codes "end" ∷ []))) }
+    ensures refused { IfErr result (λ fault. (calls : ℕ) → IsCause
+        (calls_refusal (call_forms head.now.version head.now.processors head.now.spaces) number calls (lines_of text.now)) fault) }
+    ensures all_was_read { IsErrOf result TraceFault.ReadFault → ⊥ }
+    ensures own_fault { IfErr result IsOfReader }
+{
+    if let Some(parts) = cut_call(text, head) {
+        return Ok(Some(parts));
+    }
+    let Some((line, after)) = cut(text, b'\n') else {
+        return Err(TraceFault::NoEnd);
+    };
+    if line == END {
+        if after.is_empty() {
+            return Ok(None);
+        }
+        return Err(TraceFault::Line {
+            number: number + 1,
+            cause: LineCause::After,
+        });
+    }
+    let call = match call(line, head) {
+        Ok(call) => call,
+        Err(cause) => return Err(TraceFault::Line { number, cause }),
+    };
+    Ok(Some((call, after)))
+}
+
 /// The calls of the lines, of which the first has this number, up to the line `end`, behind which nothing may stand.
 fn calls(alloc: Global, head: &Head, first: u64, text: &[u8]) -> Result<Vec<Line>, TraceFault>
     requires first { first ≤ 3 }
@@ -61,21 +100,8 @@ fn calls(alloc: Global, head: &Head, first: u64, text: &[u8]) -> Result<Vec<Line
     let mut rest = text;
     'lines: loop {
         let number = first + calls.len() as u64;
-        let Some((line, after)) = cut(rest, b'\n') else {
-            return Err(TraceFault::NoEnd);
-        };
-        if line == END {
-            if after.is_empty() {
-                return Ok(calls);
-            }
-            return Err(TraceFault::Line {
-                number: number + 1,
-                cause: LineCause::After,
-            });
-        }
-        let call = match call(line, head) {
-            Ok(call) => call,
-            Err(cause) => return Err(TraceFault::Line { number, cause }),
+        let Some((call, after)) = next_call(head, number, rest)? else {
+            return Ok(calls);
         };
         if calls.len() == MAX_CALLS {
             return Err(TraceFault::TooManyCalls);

@@ -13,7 +13,8 @@ use Rattle.trace_lines.specs.Words.{words_of}
 use Rattle.trace_lines.proofs.Lines.{daemon_is_lawful, first_is_lawful, line_is_lawful}
 use Rattle.trace_lines.proofs.Splits.{some_piece}
 use Rattle.trace_reader.specs.Refusals.{first_call, lines_of}
-use Rattle.trace_reader.proofs.CutTexts.{behind_text, call_again, call_is_no_daemons, call_is_not_end, call_words_again, calls_text, daemon_again, daemon_words_again, first_words_again, first_words_are, head_of, line_again, text_is}
+use Rattle.trace_lines.proofs.CutWords.{call_words_again}
+use Rattle.trace_reader.proofs.CutTexts.{behind_text, call_again, call_is_no_daemons, call_is_not_end, calls_text, daemon_again, daemon_words_again, first_words_again, first_words_are, head_of, line_again, text_is}
 use Rattle.trace_stream.specs.Streams.{HasStream, daemon_refusal, forms_of, next_refusal, opening_refusal, opening_refusal_of, with_calls}
 use Rattle.trace_stream.proofs.NextLines.{unless_long-short}
 use Rattle.trace_stream.proofs.ShortLines.{call_short, daemon_short, first_short}

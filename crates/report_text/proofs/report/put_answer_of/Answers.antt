@@ -1,21 +1,16 @@
-use Rattle.std.proofs.Common.{◌≤◌, ◌∷◌, ◌++◌, List, ℕ, decimal, length, arith, ap, subst, sym, ◌∙◌}
+use Rattle.std.proofs.Common.{ap, sym, ◌∙◌}
 use Rattle.std.specs.List.{slice_get}
-use Rattle.std.proofs.lemmas.Fmt.{length-decimal-le}
-use Rattle.pager_model.specs.PrintedText.{answered_words}
-use Rattle.report_text.specs.Lines.{spaced}
+use Rattle.report_text.specs.Writing.{outgoing}
 use Rattle.report_text.proofs.EntryAnswers.{answers-at, line_of}
-use Rattle.report_text.proofs.Lines.{line-ended}
+use Rattle.report_text.proofs.SentBytes.{room_failed, room_put}
 use Rattle.report_text.proofs.report.put_answer_of.Goals as goal
 
-pub end_answer-requires : goal.end_answer-requires
-end_answer-requires g c =
-    let few = length-decimal-le 10 c.args.processor (omega arith) (omega (arith, c.ranges.processor.fits)) (omega (arith, c.ranges.processor.fits)) in
-    subst (λ (l : List ℕ). length l ≤ 20) (sym c.requires) (omega (arith, few))
+pub returns-in_err-make_room : goal.returns-in_err-make_room
+returns-in_err-make_room g c = room_failed c.from_residual.result _ _ _ c.from_residual.ensures.0 c.in_err-make_room.ensures.puts
 
-pub returns-clause-puts : goal.returns-clause-puts
-returns-clause-puts g c =
+pub returns : goal.returns
+returns g c =
     let by = c.args.processor in
-    let words = decimal c.in-Some.number ∷ answered_words c.in-Some.answered in
-    let line = line-ended (decimal by) words (ap (λ l. l ++ spaced words) c.requires) c.end_answer.ensures in
+    let first = outgoing (g.K.Sink.taken c.args.sink.now) (g.K.Sink.writes c.args.sink.now) (g.K.Sink.faults c.args.sink.now) c.args.room.now.bytes.items in
     rw (answers-at by (slice_get c.args.history.now.items c.args.place) ∙ ap (line_of by) (sym c.answer_by.ensures ∙ c.in-Some.is))
-    (rw line at c.put_line-put.ensures)
+    (room_put first _ _ _ _ _ _ c.in_ok-make_room.ensures.puts c.put_answer.ensures)

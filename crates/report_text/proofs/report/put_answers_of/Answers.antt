@@ -40,7 +40,7 @@ returns-in_err-put_answer_of g c =
     (next_failed (answer_of c.args.processor) history i _ [] (text_of c.args.processor history i first.within)
     c.from_residual.result [] c.from_residual.ensures.0
     (rw (up_to c.args.processor history c.loop-place.from i first.behind (omega (arith, first.within)) first.first) at c.loop-place.invariant.1)
-    c.in_err-put_answer_of.ensures.puts)
+    c.in_err-put_answer_of.ensures)
 
 pub loop-place-preserved : goal.loop-place-preserved
 loop-place-preserved g c =
@@ -50,8 +50,7 @@ loop-place-preserved g c =
       omega (arith, first.within),
       sent_next (answer_of c.args.processor) history i _ [] (text_of c.args.processor history i first.within)
           (rw (up_to c.args.processor history c.loop-place.from i first.behind (omega (arith, first.within)) first.first) at c.loop-place.invariant.1)
-          c.in_ok-put_answer_of.ensures.puts,
-      c.in_ok-put_answer_of.ensures.line,
+          c.in_ok-put_answer_of.ensures,
     )
 
 pub returns : goal.returns

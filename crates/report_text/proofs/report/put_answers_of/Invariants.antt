@@ -1,5 +1,4 @@
-use Rattle.std.proofs.Common.{◌≡◌, ◌-◌, ◌≤◌, decimal, length, take, flat_map}
-use Rattle.report_text.specs.Lines.{line_text}
+use Rattle.std.proofs.Common.{◌-◌, ◌≤◌, length, take, flat_map}
 use Rattle.report_text.specs.Writing.{Sent, outgoing}
 use Rattle.report_text.proofs.EntryAnswers.{answer_of}
 use Rattle.report_text.proofs.report.put_answers_of.Given as goal
@@ -13,4 +12,3 @@ invariant-loop-place g l =
     × Sent (outgoing (g.K.Sink.taken l.fn.sink) (g.K.Sink.writes l.fn.sink) (g.K.Sink.faults l.fn.sink) l.fn.room.bytes.items)
     (outgoing (g.K.Sink.taken l.sink) (g.K.Sink.writes l.sink) (g.K.Sink.faults l.sink) l.room.bytes.items)
     (flat_map (answer_of l.processor) (take l.from l.history.items))
-    × (line_text l.line ≡ decimal l.processor)

@@ -1,6 +1,6 @@
 use Rattle.std.proofs.Common.{◌≡◌, ◌<◌, ◌^◌, take}
 use Rattle.std.specs.Str.Parse.{digits_value}
-use Rattle.trace_lines.proofs.Numbers.{AreDigits}
+use Rattle.trace_lines.specs.Words.{AreDigits}
 use Rattle.trace_lines.proofs.word.decimal_of.Given as goal
 
 abbrev pub invariant-loop-byte : goal.invariant-loop-byte

@@ -1,10 +1,8 @@
-use Rattle.std.proofs.Common.{ℕ, ◌≡◌, ◌==◌, if◌then◌else◌, List, [], ◌∷◌, ◌++◌, codes, decimal, ap, sym, ◌∙◌, append_assoc}
-use Rattle.std.proofs.lemmas.Grind.{flat_map-append}
+use Rattle.std.proofs.Common.{ℕ, ◌≡◌, ◌==◌, if◌then◌else◌, [], ◌∷◌, ◌++◌, codes, decimal, ap, ◌∙◌}
 use Rattle.pager_model.specs.Plans.{Plan}
 use Rattle.pager_model.specs.SizeSets.{SizeSet}
 use Rattle.pager_model.specs.TraceText.{first_line, first_words, line_of_words, sizes_word}
-use Rattle.report_text.specs.Lines.{spaced}
-use Rattle.report_text.proofs.Lines.{line-ended}
+use Rattle.report_text.proofs.Lines.{line-gained, adds-more}
 use Rattle.trace_make.proofs.written.line_of_first.Goals as goal
 
 -- the first line of a trace by what it says
@@ -20,10 +18,7 @@ pub returns : goal.returns
 returns c =
     let told = decimal c.version-version.result ∷ decimal c.frames.result ∷ decimal c.processors.result ∷ decimal c.spaces.result ∷ [] in
     let more = if c.version-version.result == 1 then [] else sizes_word c.sizes.result ∷ [] in
-    let counts = c.add_counts.ensures.text ∙ ap (λ l. l ++ spaced told) c.named-line.ensures.text in
-    let text =
-    c.add_sizes.ensures.text ∙ ap (λ l. l ++ spaced more) counts
-    ∙ append_assoc (codes "trace") (spaced told) (spaced more)
-    ∙ ap (λ l. codes "trace" ++ l) (sym (flat_map-append (λ (word : List ℕ). 32 ∷ word) told more)) in
-    let ended = line-ended (codes "trace") (told ++ more) text c.end.ensures in
-    ended ∙ same c.args.trace.now _ _ _ _ _ c.version-version.ensures.version c.frames.ensures.frames c.processors.ensures.processors c.spaces.ensures.spaces c.sizes.ensures.sizes
+    let line = line-gained _ _ _ _ (codes "trace") (told ++ more) c.put_name.ensures
+    (adds-more _ _ _ told more c.add_counts.ensures.text c.add_sizes.ensures.text) c.end.ensures in
+    line ∙ ap (λ l. l ++ line_of_words (codes "trace" ∷ (told ++ more))) c.new-text.ensures
+    ∙ same c.args.trace.now _ _ _ _ _ c.version-version.ensures.version c.frames.ensures.frames c.processors.ensures.processors c.spaces.ensures.spaces c.sizes.ensures.sizes

@@ -1,8 +1,7 @@
 use Rattle.std.proofs.Common.{◌∷◌, [], ◌++◌, List, ℕ, Option, subst, codes, flat_map}
-use Rattle.std.proofs.lemmas.List.{append-nil}
 use Rattle.pager_model.specs.declared.trace.Daemon.{Daemon}
 use Rattle.pager_model.specs.TraceText.{call_line, daemon_line, first_line, line_of_words}
-use Rattle.report_text.specs.Writing.{Puts, Sent, SentPart, outgoing}
+use Rattle.report_text.specs.Writing.{Sent, SentPart, outgoing}
 use Rattle.report_text.proofs.SentBytes.{puts_failed, puts_then, sent_sent, sent_part}
 use Rattle.trace_make.proofs.written.put_trace.Goals as goal
 
@@ -42,45 +41,20 @@ returns-in_err-put_calls-clause-puts g c =
     (subst (λ (d : Option Daemon). Sent one two (daemon_line d)) c.daemon.ensures.daemon c.in_ok-put_daemon.ensures))
     (subst (λ (l : List _). SentPart two to (flat_map call_line l)) c.calls.ensures.calls c.in_err-put_calls.ensures))
 
-pub returns-in_err-put_line-2-clause-puts : goal.returns-in_err-put_line-2-clause-puts
-returns-in_err-put_line-2-clause-puts g c =
-    let trace = c.args.trace.now in
-    let from = outgoing (g.K.Sink.taken c.args.sink.now) (g.K.Sink.writes c.args.sink.now) (g.K.Sink.faults c.args.sink.now) c.args.room.now.bytes.items in
-    let one = outgoing (g.K.Sink.taken c.put_line.new.sink) (g.K.Sink.writes c.put_line.new.sink) (g.K.Sink.faults c.put_line.new.sink) c.put_line.new.self.bytes.items in
-    let two = outgoing (g.K.Sink.taken c.put_daemon.new.sink) (g.K.Sink.writes c.put_daemon.new.sink) (g.K.Sink.faults c.put_daemon.new.sink) c.put_daemon.new.room.bytes.items in
-    let three = outgoing (g.K.Sink.taken c.put_calls.new.sink) (g.K.Sink.writes c.put_calls.new.sink) (g.K.Sink.faults c.put_calls.new.sink) c.put_calls.new.room.bytes.items in
-    let to = outgoing (g.K.Sink.taken c.put_line-2.new.sink) (g.K.Sink.writes c.put_line-2.new.sink) (g.K.Sink.faults c.put_line-2.new.sink) c.put_line-2.new.self.bytes.items in
-    puts_failed c.from_residual-in_err-put_line-2.result
-    (((first_line trace ++ daemon_line trace.daemon) ++ flat_map call_line trace.calls) ++ line_of_words
-    (codes "end" ∷ [])) [] c.from_residual-in_err-put_line-2.ensures.0
-    (sent_part ((first_line trace ++ daemon_line trace.daemon) ++ flat_map call_line trace.calls) (line_of_words (codes "end" ∷ []))
-    (sent_sent (first_line trace ++ daemon_line trace.daemon) (flat_map call_line trace.calls)
-    (sent_sent (first_line trace) (daemon_line trace.daemon)
-    (subst (λ (l : List ℕ). Sent from one l) c.line_of_first.ensures c.in_ok-put_line.ensures)
-    (subst (λ (d : Option Daemon). Sent one two (daemon_line d)) c.daemon.ensures.daemon c.in_ok-put_daemon.ensures))
-    (subst (λ (l : List _). Sent two three (flat_map call_line l)) c.calls.ensures.calls c.in_ok-put_calls.ensures))
-    (subst (λ (l : List ℕ). SentPart three to l) c.line_of_end.ensures c.in_err-put_line-2.ensures))
-
 pub returns-clause-puts : goal.returns-clause-puts
 returns-clause-puts g c =
     let trace = c.args.trace.now in
     let daemon = daemon_line trace.daemon in
     let calls = flat_map call_line trace.calls in
-    let end = line_of_words (codes "end" ∷ []) in
     let from = outgoing (g.K.Sink.taken c.args.sink.now) (g.K.Sink.writes c.args.sink.now) (g.K.Sink.faults c.args.sink.now) c.args.room.now.bytes.items in
     let one = outgoing (g.K.Sink.taken c.put_line.new.sink) (g.K.Sink.writes c.put_line.new.sink) (g.K.Sink.faults c.put_line.new.sink) c.put_line.new.self.bytes.items in
     let two = outgoing (g.K.Sink.taken c.put_daemon.new.sink) (g.K.Sink.writes c.put_daemon.new.sink) (g.K.Sink.faults c.put_daemon.new.sink) c.put_daemon.new.room.bytes.items in
     let three = outgoing (g.K.Sink.taken c.put_calls.new.sink) (g.K.Sink.writes c.put_calls.new.sink) (g.K.Sink.faults c.put_calls.new.sink) c.put_calls.new.room.bytes.items in
-    let four = outgoing (g.K.Sink.taken c.put_line-2.new.sink) (g.K.Sink.writes c.put_line-2.new.sink) (g.K.Sink.faults c.put_line-2.new.sink) c.put_line-2.new.self.bytes.items in
-    let last = outgoing (g.K.Sink.taken c.send.new.sink) (g.K.Sink.writes c.send.new.sink) (g.K.Sink.faults c.send.new.sink) c.send.new.self.bytes.items in
-    let text : List ℕ = ((first_line trace ++ daemon) ++ calls) ++ end in
-    subst (λ (l : List ℕ). Puts c.send.result from last l) (append-nil text)
-    (puts_then c.send.result from four last text []
-    (sent_sent ((first_line trace ++ daemon) ++ calls) end
+    let last = outgoing (g.K.Sink.taken c.finish.new.sink) (g.K.Sink.writes c.finish.new.sink) (g.K.Sink.faults c.finish.new.sink) c.finish.new.self.bytes.items in
+    puts_then c.finish.result from three last ((first_line trace ++ daemon) ++ calls) (line_of_words (codes "end" ∷ []))
     (sent_sent (first_line trace ++ daemon) calls
     (sent_sent (first_line trace) daemon
     (subst (λ (l : List ℕ). Sent from one l) c.line_of_first.ensures c.in_ok-put_line.ensures)
     (subst (λ (d : Option Daemon). Sent one two (daemon_line d)) c.daemon.ensures.daemon c.in_ok-put_daemon.ensures))
     (subst (λ (l : List _). Sent two three (flat_map call_line l)) c.calls.ensures.calls c.in_ok-put_calls.ensures))
-    (subst (λ (l : List ℕ). Sent three four l) c.line_of_end.ensures c.in_ok-put_line-2.ensures))
-    c.send.ensures.puts)
+    c.finish.ensures.puts

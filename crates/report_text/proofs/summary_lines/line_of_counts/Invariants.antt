@@ -1,9 +1,0 @@
-use Rattle.std.proofs.Common.{◌≡◌, ◌+◌, ◌*◌, ◌≤◌, ◌++◌, decimal, length, map, take}
-use Rattle.report_text.specs.Lines.{line_text, spaced}
-use Rattle.report_text.proofs.summary_lines.line_of_counts.Given as goal
-
-abbrev pub invariant-loop-count : goal.invariant-loop-count
-invariant-loop-count l = record {
-  text : line_text l.line ≡ l.name ++ spaced (map decimal (take l.count-index l.counts));
-  short : length (line_text l.line) ≤ 20 + 21 * l.count-index;
-}
