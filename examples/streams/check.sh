@@ -37,5 +37,26 @@ compare at-once $? 0 '' each-call.text
 run "$made/more" told "$program" stream 262145
 compare more-calls $? 0 '' more-calls.text
 
+# The curves of a stream begin as those that `curve` prints, where it takes the trace.
+for trace in ../lesson/*.trace ../runs/*.trace; do
+    "$program" curve <"$trace" 2>"$made/refused" | sed '$d' >"$made/curves"
+    [ -s "$made/curves" ] || continue
+    run "$trace" told "$program" stream curve
+    status=$?
+    head -n 1024 "$made/output" >"$made/first"
+    mv "$made/first" "$made/output"
+    compare "$trace" "$status" 0 '' "$made/curves"
+done
+
+# And they go on behind them: of 1,500 pages that are loaded one after another, and then once more, a TLB of fewer entries has none left.
+{
+    printf 'trace 2 2048 1 1 0\n0 map 0 0 1500 fixed read\n'
+    for round in first second; do seq 0 8192 12279808 | sed 's/^/0 load 0 /'; done
+    echo end
+} >"$made/twice"
+{ seq 1 1499 | sed 's/$/ 3000 3000/'; seq 1500 4096 | sed 's/$/ 1500 1500/'; echo end; } >"$made/fallen"
+run "$made/twice" told "$program" stream curve
+compare twice $? 0 '' "$made/fallen"
+
 count ./check_streams.py
 end_of_check

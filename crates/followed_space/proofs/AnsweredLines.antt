@@ -16,7 +16,7 @@ use Rattle.pager_model.specs.declared.reply.Answered.{Answered}
 use Rattle.pager_model.specs.declared.reply.Reply.{Reply}
 use Rattle.pager_model.specs.declared.trace.Daemon.{Daemon}
 use Rattle.pager_model.specs.Entries.{entries_of, is_of}
-use Rattle.pager_model.specs.Legal.{IsLegal, MayFollow, progress_in}
+use Rattle.pager_model.specs.Legal.{IsLegal, progress_in}
 use Rattle.pager_model.specs.Order.{Doing, Idle, Looking, Claiming, Emptied, Unwritten, Holding, Filling, Unfilling, Progress, Purpose, ForAccess, ForTurn, after_answer, after_claim, after_clear, after_drop, after_failure, after_give, after_got, after_kept, after_out, after_pin, after_refusal, after_rest, after_take, after_unclaim, after_use, at_rest, leads, may_answer, progress_after, progress_from, progress_of}
 use Rattle.pager_model.specs.Plans.{Plan}
 use Rattle.pager_model.specs.Settings.{Given, mark_of}
@@ -234,6 +234,26 @@ answer_among P c before after e answer is own all =
     first_answer P e (entries_of c after) answer is
     (all_behind P (answers_in (entries_of c before)) (answers_in (e ∷ entries_of c after)) (subst (AllByRecursion P) split all))
 
+-- In a legal history with a trace's marks a daemon answers no call.
+pub processor-legal : (plan : Plan) (g : Given) (before after : List Entry) (e : Entry) → IsDaemon plan.daemon → g.marks ≡ marks_of plan
+    → IsLegal g (before ++ e ∷ after)
+    → (number : ℕ) (call : Call) (answered : Answered) → e.what ≡ Answer number call answered → e.processor < plan.processors
+processor-legal plan g before after e daemon marks legal number call answered is =
+    let may = (IsLegal-at g before after e legal).1 in
+    elim (cases_lt e.processor plan.processors) [
+      | inl below ↦ below
+      | inr past ↦
+          let mark = daemon_mark plan.processors plan.daemon e.processor daemon past
+          (subst (λ (ms : List ℕ). e.processor < length ms) marks may.processor) in
+          let is_mark : mark_of g e.processor ≡ suc mark.0 = ap (λ (ms : List ℕ). slice_index_or ms e.processor 0) marks ∙ mark.1 in
+          let last = progress_before (progress_in g e.processor (entries_of e.processor before)) e may.ordered.0 may.ordered.1 in
+          let led : progress_of (suc mark.0) (entries_of e.processor before) ≡ Some last.0 =
+          ap (λ m. progress_of m (entries_of e.processor before)) (sym is_mark) ∙ last.1 in
+          let turning = turn_steps (entries_of e.processor before) (at_rest (suc mark.0) 0) refl last.0 led in
+          absurd (turn_answer last.0 number call answered.reply may.ordered.0 turning
+          (ap (progress_after last.0 e.space) (sym is) ∙ last.2))
+    ]
+
 -- A legal history that shows a trace, with an entry between these.
 record ShowsTrace (plan : Plan) (g : Given) (before after : List Entry) (e : Entry) : Type 0 where
   text : HasText plan
@@ -242,30 +262,10 @@ record ShowsTrace (plan : Plan) (g : Given) (before after : List Entry) (e : Ent
   shows : Shows plan (before ++ e ∷ after)
 
 module _ (plan : Plan) (g : Given) (before after : List Entry) (e : Entry) (trace : ShowsTrace plan g before after e) where
-  may : MayFollow g before e
-  may = (IsLegal-at g before after e trace.legal).1
-
-  -- a daemon answers no call
-  among_processors : (number : ℕ) (call : Call) (answered : Answered) → e.what ≡ Answer number call answered → e.processor < plan.processors
-  among_processors number call answered is =
-      elim (cases_lt e.processor plan.processors) [
-        | inl below ↦ below
-        | inr past ↦
-            let mark =
-            daemon_mark plan.processors plan.daemon e.processor trace.text.daemon_in
-            past (subst (λ (ms : List ℕ). e.processor < length ms) trace.marks may.processor) in
-            let is_mark : mark_of g e.processor ≡ suc mark.0 = ap (λ (ms : List ℕ). slice_index_or ms e.processor 0) trace.marks ∙ mark.1 in
-            let last = progress_before (progress_in g e.processor (entries_of e.processor before)) e may.ordered.0 may.ordered.1 in
-            let led : progress_of (suc mark.0) (entries_of e.processor before) ≡ Some last.0 =
-            ap (λ m. progress_of m (entries_of e.processor before)) (sym is_mark) ∙ last.1 in
-            let turning = turn_steps (entries_of e.processor before) (at_rest (suc mark.0) 0) refl last.0 led in
-            absurd (turn_answer last.0 number call answered.reply may.ordered.0 turning
-            (ap (progress_after last.0 e.space) (sym is) ∙ last.2))
-      ]
-
   answers_line : (what : What) → e.what ≡ what → AnswersLine what
   answers_line (Answer number call answered) is =
-      let shown = (trace.shows.calls e.processor (among_processors number call answered is)).0 in
+      let own = processor-legal plan g before after e trace.text.daemon_in trace.marks trace.legal number call answered is in
+      let shown = (trace.shows.calls e.processor own).0 in
       let lines = lines_of plan.version plan.processors plan.spaces 0 e.processor plan.calls (recursion_from_All _ _ trace.text.lines) in (
         plan.spaces,
         answer_among (OfLine plan.spaces) e.processor before after e (number, call) (ap answer_in is)
@@ -290,9 +290,3 @@ pub AnswersLine-run : (plan : Plan) (g : Given) (before after : List Entry) (e :
     → IsLegal g (before ++ e ∷ after) → Shows plan (before ++ e ∷ after) → AnswersLine e.what
 AnswersLine-run plan g before after e text marks legal shows =
     answers_line plan g before after e (record { text = text; marks = marks; legal = legal; shows = shows }) e.what refl
-
-pub processor-run : (plan : Plan) (g : Given) (before after : List Entry) (e : Entry) → HasText plan → g.marks ≡ marks_of plan
-    → IsLegal g (before ++ e ∷ after) → Shows plan (before ++ e ∷ after)
-    → (number : ℕ) (call : Call) (answered : Answered) → e.what ≡ Answer number call answered → e.processor < plan.processors
-processor-run plan g before after e text marks legal shows =
-    among_processors plan g before after e (record { text = text; marks = marks; legal = legal; shows = shows })

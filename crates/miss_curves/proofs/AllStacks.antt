@@ -96,9 +96,9 @@ StandEach-none z g history e stacks none each = record {
 pub StandAfter-followed : (g : Given) (history : List Entry) (e : Entry) (s : ℕ) (rows : Rows) (tile page : Kept)
     → s < length rows.tiles → s < length rows.pages → e.space ≡ Some s
     → Follows g.sizes g history e s rows.tiles tile → Follows base_alone g history e s rows.pages page → StandAfter g rows history
-    → (entries : ℕ)
-    → StandAfter g (record { tiles = set rows.tiles s tile; pages = set rows.pages s page; entries = entries }) (history ++ e ∷ [])
-StandAfter-followed g history e s rows tile page within within_pages names tiles pages stands entries = record {
+    → (places entries : ℕ)
+    → StandAfter g (record { tiles = set rows.tiles s tile; pages = set rows.pages s page; places = places; entries = entries }) (history ++ e ∷ [])
+StandAfter-followed g history e s rows tile page within within_pages names tiles pages stands places entries = record {
   tiles = StandEach-followed g.sizes g history e s rows.tiles tile within names tiles stands.tiles;
   pages = StandEach-followed base_alone g history e s rows.pages page within_pages names pages stands.pages;
 }
@@ -111,40 +111,41 @@ StandAfter-none g history e rows none stands = record {
 }
 
 -- before any entry blank stacks stand
-pub StandEach-blank : (z : SizeSet) (g : Given) (stacks : List Kept) → length stacks ≡ length g.told → All (IsBlank 1024) stacks
+pub StandEach-blank : (z : SizeSet) (g : Given) (places : ℕ) (stacks : List Kept) → length stacks ≡ length g.told → All (IsBlank places) stacks
     → StandEach z g stacks []
-StandEach-blank z g stacks same blank = record {
+StandEach-blank z g places stacks same blank = record {
   spaces = same;
-  each = λ s d below. (All-get_or (IsBlank 1024) stacks s d below blank).stands z g.sizes (is_told g s) (faults_at_entry g s);
+  each = λ s d below. (All-get_or (IsBlank places) stacks s d below blank).stands z g.sizes (is_told g s) (faults_at_entry g s);
 }
 
 -- stacks of one entry more
-AreStacks-set : (n entries : ℕ) (stacks : List Kept) (i : ℕ) (d new : Kept) → i < length stacks
+AreStacks-set : (n places entries : ℕ) (stacks : List Kept) (i : ℕ) (d new : Kept) → i < length stacks
     → length new.places ≡ length (get_or stacks i d).places → new.uses ≤ (get_or stacks i d).uses + 1
-    → AreStacks n entries stacks → AreStacks n (entries + 1) (set stacks i new)
-AreStacks-set n entries stacks i d new within places uses are = record {
+    → AreStacks n places entries stacks → AreStacks n places (entries + 1) (set stacks i new)
+AreStacks-set n places entries stacks i d new within same uses are = record {
   spaces = length-set stacks i new ∙ are.spaces;
-  places = All-set (λ (k : Kept). length k.places ≡ 1024) stacks i new
-      (places ∙ All-get_or (λ (k : Kept). length k.places ≡ 1024) stacks i d within are.places) are.places;
+  places_are = All-set (λ (k : Kept). length k.places ≡ places) stacks i new
+      (same ∙ All-get_or (λ (k : Kept). length k.places ≡ places) stacks i d within are.places_are) are.places_are;
   uses = omega (arith, are.uses, sum_by-set (λ (k : Kept). k.uses) stacks i new d within);
 }
 
 -- stacks of no entry
-pub AreStacks-blank : (n : ℕ) (stacks : List Kept) → length stacks ≡ n → All (IsBlank 1024) stacks → AreStacks n 0 stacks
-AreStacks-blank n stacks same blank = record {
+pub AreStacks-blank : (n places : ℕ) (stacks : List Kept) → length stacks ≡ n → All (IsBlank places) stacks → AreStacks n places 0 stacks
+AreStacks-blank n places stacks same blank = record {
   spaces = same;
-  places = λ s d below. (blank s d below).places;
+  places_are = λ s d below. (blank s d below).places;
   uses = omega (arith, sum_by-le (λ (k : Kept). k.uses) 0 stacks (λ s d below. omega (arith, (blank s d below).unused)));
 }
 
 -- stacks of no more entries than another number
-pub AreStacks-more : (n most entries : ℕ) (stacks : List Kept) → entries ≤ most → AreStacks n entries stacks → AreStacks n most stacks
-AreStacks-more n most entries stacks few are = record { spaces = are.spaces; places = are.places; uses = omega (arith, are.uses) }
+pub AreStacks-more : (n places most entries : ℕ) (stacks : List Kept) → entries ≤ most → AreStacks n places entries stacks
+    → AreStacks n places most stacks
+AreStacks-more n places most entries stacks few are = record { spaces = are.spaces; places_are = are.places_are; uses = omega (arith, are.uses) }
 
 -- a stack of them has no more uses than there were entries
-pub uses-within : (n entries : ℕ) (stacks : List Kept) (i : ℕ) (stack : Kept) → i < length stacks → stack ≡ get_or stacks i stack
-    → AreStacks n entries stacks → stack.uses ≤ entries
-uses-within n entries stacks i stack within is are =
+pub uses-within : (n places entries : ℕ) (stacks : List Kept) (i : ℕ) (stack : Kept) → i < length stacks → stack ≡ get_or stacks i stack
+    → AreStacks n places entries stacks → stack.uses ≤ entries
+uses-within n places entries stacks i stack within is are =
     omega (arith, ap (λ (k : Kept). k.uses) is, sum_by_more_le (λ (k : Kept). k.uses) stacks i stack within, are.uses)
 
 -- a stack after another entry has as many places, and a use more at most
@@ -155,15 +156,15 @@ IsStackAfter old new = (length new.places ≡ length old.places) × (new.uses �
 pub AreRows-followed : (rows : Rows) (s : ℕ) (tile page new_tile new_page : Kept) → AreRows rows → rows.entries < 2 ^ 64 - 1
     → s < length rows.tiles → tile ≡ get_or rows.tiles s tile → page ≡ get_or rows.pages s page → IsStackAfter tile new_tile
     → IsStackAfter page new_page
-    → AreRows (record { tiles = set rows.tiles s new_tile; pages = set rows.pages s new_page; entries = rows.entries + 1 })
+    → AreRows (record { tiles = set rows.tiles s new_tile; pages = set rows.pages s new_page; places = rows.places; entries = rows.entries + 1 })
 AreRows-followed rows s tile page new_tile new_page are room within is_tile is_page tiles pages =
     let long = length-set rows.tiles s new_tile in
     record {
       counted = omega arith;
       few = rw long are.few;
-      tiles = rw long (AreStacks-set (length rows.tiles) rows.entries rows.tiles s tile new_tile within
+      tiles = rw long (AreStacks-set (length rows.tiles) rows.places rows.entries rows.tiles s tile new_tile within
           (tiles.0 ∙ ap (λ (k : Kept). length k.places) is_tile) (omega (arith, tiles.1, ap (λ (k : Kept). k.uses) is_tile)) are.tiles);
-      pages = rw long (AreStacks-set (length rows.tiles) rows.entries rows.pages s page new_page (omega (arith, within, are.pages.spaces))
+      pages = rw long (AreStacks-set (length rows.tiles) rows.places rows.entries rows.pages s page new_page (omega (arith, within, are.pages.spaces))
           (pages.0 ∙ ap (λ (k : Kept). length k.places) is_page) (omega (arith, pages.1, ap (λ (k : Kept). k.uses) is_page)) are.pages);
     }
 
@@ -194,16 +195,16 @@ missed-is : (z : SizeSet) (st : SpaceState) (kept : Kept) (followers : ℕ → F
     → missed_at k kept ≡ (followers (k + 1)).misses
 missed-is z st kept followers k within stands = omega (arith, (stands.images (k + 1) (omega arith)).misses)
 
-pub missed-all : (z : SizeSet) (g : Given) (history : List Entry) (stacks : List Kept) (k : ℕ) → k < 1024
-    → All (λ (s : Kept). length s.places ≡ 1024) stacks → StandEach z g stacks history
+pub missed-all : (z : SizeSet) (g : Given) (history : List Entry) (stacks : List Kept) (places k : ℕ) → k < places
+    → All (λ (s : Kept). length s.places ≡ places) stacks → StandEach z g stacks history
     → sum_by (missed_at k) stacks ≡ misses_by z g history (k + 1)
-missed-all z g history stacks k within places each =
+missed-all z g history stacks places k within are each =
     let d : Kept = record { places = []; found = []; uses = 0 } in
     let h : ℕ → ℕ = λ s. (followed z g s (space_part s history) (k + 1)).misses in
     let whole : sum_by (missed_at k) (take (length stacks) stacks) ≡ sum_by h (range_with_len 0 (length stacks)) =
     sum-so_far (missed_at k) h stacks d
     (λ s below. missed-is z (space_at g history s) (get_or stacks s d) (followed z g s (space_part s history)) k
-    (omega (arith, All-get_or (λ (x : Kept). length x.places ≡ 1024) stacks s d below places)) (each.each s d below))
+    (omega (arith, All-get_or (λ (x : Kept). length x.places ≡ places) stacks s d below are)) (each.each s d below))
     (length stacks) (omega arith) in
     ap (sum_by (missed_at k)) (sym (take_all (length stacks) stacks (omega arith))) ∙ whole
     ∙ ap (λ n. sum_by h (range_with_len 0 n)) each.spaces

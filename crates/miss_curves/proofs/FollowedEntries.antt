@@ -15,24 +15,24 @@ use Rattle.pager_model.specs.Legal.{IsLegal, entries_in, space_at}
 use Rattle.pager_model.specs.Options.{is_that}
 use Rattle.pager_model.specs.Plans.{Plan}
 use Rattle.pager_model.specs.Settings.{Given, is_told, faults_at_entry}
-use Rattle.pager_model.specs.Showing.{Shows}
+use Rattle.pager_model.specs.Showing.{Shows, marks_of}
 use Rattle.pager_model.specs.SizeSets.{SizeSet}
 use Rattle.pager_model.specs.SpaceStates.{SpaceState, WhatAllowed, pages_after, served_page, space_after, tile_at}
 use Rattle.pager_model.specs.Tiles.{cut_to, tile_in, tile_of}
-use Rattle.pager_model.specs.TraceText.{HasText}
+use Rattle.pager_model.specs.TraceText.{HasText, IsDaemon}
 use Rattle.pager_model.proofs.Histories.{IsLegal-push, space_at-named, space_at-other}
 use Rattle.pager_model.proofs.Options.{in_some}
 use Rattle.pager_laws.proofs.LegalPrefixes.{IsLegal-at}
 use Rattle.followed_space.specs.Follows.{Followed, Follows, IsNext}
-use Rattle.followed_space.proofs.AnsweredLines.{AnswersLine-run, processor-run}
+use Rattle.followed_space.proofs.AnsweredLines.{AnswersLine-run, processor-legal}
 use Rattle.followed_space.proofs.LegalEntries.{IsNext-legal}
 use Rattle.tiles.specs.Resident.{frames_in, mapping_at}
 use Rattle.tiles.proofs.CutTiles.{tile_in-cut}
-use Rattle.miss_curves.specs.declared.history.Uses.{Uses}
+use Rattle.miss_curves.specs.declared.entries.Uses.{Uses}
 use Rattle.lru_stack.specs.declared.stack.Use.{Use}
 use Rattle.lru_stack.specs.Followers.{page_used}
 use Rattle.miss_curves.specs.Curves.{AnswersAlone, base_alone, is_answer}
-use Rattle.miss_curves.specs.Histories.{Comes, EachComes, FollowEach, IsNew, IsRunOf, KeepsUp, Told, effect, use_of}
+use Rattle.miss_curves.specs.Histories.{Begins, Comes, Counting, EachComes, FollowEach, IsNew, IsRunOf, KeepsUp, StandsFor, Told, effect, use_of}
 use Rattle.miss_curves.specs.Rows.{Rows, StandAfter}
 use Rattle.lru_stack.specs.Stacks.{IsUse}
 use Rattle.miss_curves.proofs.Usual.{sizes-of}
@@ -181,15 +181,16 @@ FollowEach-new g spaces same new = record {
 }
 
 -- and so the stacks and the spaces of a run begin
-pub KeepsUp-new : (plan : Plan) (g : Given) (history : List Entry) (rows : Rows) (all : List Followed) → IsRunOf plan g history
-    → (length g.told ≡ plan.spaces → StandAfter g rows []) → length all ≡ plan.spaces → All (IsNew plan.frames) all
-    → KeepsUp plan.sizes g rows all []
-KeepsUp-new plan g history rows all run stands same new =
-    record {
-      sizes = run.sizes;
-      stands = stands run.spaces;
-      follow = FollowEach-new g all (same ∙ sym run.spaces) (subst (λ n. All (IsNew n) all) (sym run.frames) new);
-    }
+pub StandsFor-new : (plan : Plan) (g : Given) (c : Counting) → Begins plan g → c.sizes ≡ plan.sizes → StandAfter g c.rows []
+    → length c.spaces ≡ plan.spaces → All (IsNew plan.frames) c.spaces → StandsFor c g []
+StandsFor-new plan g c begins sizes stands same new = record {
+  legal = tt;
+  keeps = record {
+    sizes = begins.sizes ∙ sym sizes;
+    stands = stands;
+    follow = FollowEach-new g c.spaces (same ∙ sym begins.spaces) (subst (λ n. All (IsNew n) c.spaces) (sym begins.frames) new);
+  };
+}
 
 -- Whole histories.
 
@@ -219,18 +220,21 @@ EachComes-run plan g history text run = λ before after e is.
       line = AnswersLine-run plan g before after e text run.marks legal (subst (Shows plan) is run.shows);
     }
 
--- in a run of a trace of one processor this one alone answers
-answered_by : (plan : Plan) (g : Given) (before after : List Entry) (e : Entry) (what : What) → e.what ≡ what → HasText plan
-    → IsRunOf plan g (before ++ e ∷ after)
-    → is_answer what ≡ true → e.processor < plan.processors
-answered_by plan g before after e (Answer number call answered) is text run answers =
-    processor-run plan g before after e text run.marks run.legal run.shows number call answered is
-answered_by plan g before after e what is text run answers = cc
+-- with the marks of a trace of one processor this one alone answers
+answered_by : (plan : Plan) (g : Given) (before after : List Entry) (e : Entry) (what : What) → e.what ≡ what → IsDaemon plan.daemon
+    → g.marks ≡ marks_of plan → IsLegal g (before ++ e ∷ after) → is_answer what ≡ true → e.processor < plan.processors
+answered_by plan g before after e (Answer number call answered) is daemon marks legal answers =
+    processor-legal plan g before after e daemon marks legal number call answered is
+answered_by plan g before after e what is daemon marks legal answers = cc
 
-pub AnswersAlone-run : (plan : Plan) (g : Given) (history : List Entry) → HasText plan → plan.processors ≡ 1 → IsRunOf plan g history
-    → AnswersAlone history
-AnswersAlone-run plan g history text one run = λ i d known answers.
+pub AnswersAlone-legal : (plan : Plan) (g : Given) (history : List Entry) → IsDaemon plan.daemon → g.marks ≡ marks_of plan → IsLegal g history
+    → plan.processors ≡ 1 → AnswersAlone history
+AnswersAlone-legal plan g history daemon marks legal one = λ i d known answers.
     let e = get_or history i d in
-    let below = answered_by plan g (take i history) (drop (suc i) history) e e.what refl text
-    (subst (IsRunOf plan g) (split_at history i d known) run) answers in
+    let below = answered_by plan g (take i history) (drop (suc i) history) e e.what refl daemon marks
+    (subst (IsLegal g) (split_at history i d known) legal) answers in
     omega (arith, below, one)
+
+-- and it begins so
+pub Begins-run : (plan : Plan) (g : Given) (history : List Entry) → IsRunOf plan g history → Begins plan g
+Begins-run plan g history run = record { frames = run.frames; sizes = run.sizes; spaces = run.spaces }

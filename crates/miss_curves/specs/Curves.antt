@@ -39,10 +39,21 @@ is_answer what = false
 abbrev pub AnswersAlone : List Entry → Type 0
 AnswersAlone history = All (λ (e : Entry). is_answer e.what ≡ true → e.processor ≡ 0) history
 
--- These are the miss curves of a history, whose places stand for the capacities from 1 to 1,024: with the tiles of the run, and with base pages
--- alone. At capacity 128 the first is the history's own misses.
-pub record AreCurves (g : Given) (history : List Entry) (tiles pages : List ℕ) : Type 0 where
-  pub capacities : (length tiles ≡ 1024) × (length pages ≡ 1024)
-  pub by_tiles : (place : ℕ) → place < 1024 → slice_index tiles place ≡ misses g history (place + 1)
-  pub by_pages : (place : ℕ) → place < 1024 → slice_index pages place ≡ page_misses g history (place + 1)
+-- the largest capacity of the curves of a history that is kept, and of those of one that is followed as it is made
+abbrev pub history_capacities : ℕ
+history_capacities = 1024
+
+abbrev pub stream_capacities : ℕ
+stream_capacities = 4096
+
+-- two curves have a place for each capacity
+abbrev pub AreLong : ℕ → (tiles pages : List ℕ) → Type 0
+AreLong capacities tiles pages = (length tiles ≡ capacities) × (length pages ≡ capacities)
+
+-- These are the miss curves of a history, whose places stand for the capacities from 1 to the largest: with the tiles of the run, and with base
+-- pages alone. At capacity 128 the first is the history's own misses.
+pub record AreCurves (capacities : ℕ) (g : Given) (history : List Entry) (tiles pages : List ℕ) : Type 0 where
+  pub long : AreLong capacities tiles pages
+  pub by_tiles : (place : ℕ) → place < capacities → slice_index tiles place ≡ misses g history (place + 1)
+  pub by_pages : (place : ℕ) → place < capacities → slice_index pages place ≡ page_misses g history (place + 1)
   pub usual : slice_index tiles 127 ≡ (counts g history).misses

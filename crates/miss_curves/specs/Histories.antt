@@ -9,7 +9,7 @@ use Rattle.pager_model.specs.Settings.{Given}
 use Rattle.pager_model.specs.Showing.{Shows, marks_of}
 use Rattle.pager_model.specs.SizeSets.{SizeSet}
 use Rattle.pager_model.specs.SpaceStates.{SpaceState, empty_state, pages_of, pages_after}
-use Rattle.miss_curves.specs.declared.history.Uses.{Uses}
+use Rattle.miss_curves.specs.declared.entries.Uses.{Uses}
 use Rattle.lru_stack.specs.declared.stack.Use.{Use}
 use Rattle.lru_stack.specs.Followers.{page_used}
 use Rattle.miss_curves.specs.Curves.{base_alone}
@@ -77,3 +77,20 @@ pub record IsRunOf (plan : Plan) (g : Given) (history : List Entry) : Type 0 whe
   pub marks : g.marks ≡ marks_of plan
   pub legal : IsLegal g history
   pub shows : Shows plan history
+
+-- A count of misses in progress: by these sizes, with these rows and these spaces.
+pub record Counting : Type 0 where
+  pub sizes : SizeSet
+  pub rows : Rows
+  pub spaces : List Followed
+
+-- it counts the misses of this history
+pub record StandsFor (c : Counting) (g : Given) (history : List Entry) : Type 0 where
+  pub legal : IsLegal g history
+  pub keeps : KeepsUp c.sizes g c.rows c.spaces history
+
+-- the setting of a run of the trace, as far as the misses go by it
+pub record Begins (plan : Plan) (g : Given) : Type 0 where
+  pub frames : g.frames ≡ plan.frames
+  pub sizes : g.sizes ≡ plan.sizes
+  pub spaces : length g.told ≡ plan.spaces

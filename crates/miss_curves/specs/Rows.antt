@@ -10,27 +10,28 @@ use Rattle.pager_model.specs.SizeSets.{SizeSet}
 use Rattle.miss_curves.specs.Curves.{base_alone, followed}
 use Rattle.lru_stack.specs.Stacks.{Kept, Stands}
 
--- of each space the stack of its tiles, and that of its base pages; and how many entries that name a space were followed
+-- of each space the stack of its tiles, and that of its base pages; how many places each has; and how many entries that name a space were followed
 pub record Rows : Type 0 where
   pub tiles : List Kept
   pub pages : List Kept
+  pub places : ℕ
   pub entries : ℕ
 
 -- all uses of some stacks
 abbrev pub uses_in : List Kept → ℕ
 uses_in stacks = sum_by (λ (k : Kept). k.uses) stacks
 
--- Stacks of so many spaces, each with a place for each capacity, and of no more uses than there were entries.
-pub record AreStacks (n entries : ℕ) (stacks : List Kept) : Type 0 where
+-- Stacks of so many spaces, each with so many places, and of no more uses than there were entries.
+pub record AreStacks (n places entries : ℕ) (stacks : List Kept) : Type 0 where
   pub spaces : length stacks ≡ n
-  pub places : All (λ (k : Kept). length k.places ≡ 1024) stacks
+  pub places_are : All (λ (k : Kept). length k.places ≡ places) stacks
   pub uses : uses_in stacks ≤ entries
 
 pub record AreRows (rows : Rows) : Type 0 where
   pub counted : rows.entries ≤ 2 ^ 64 - 1
   pub few : length rows.tiles ≤ most_spaces
-  pub tiles : AreStacks (length rows.tiles) rows.entries rows.tiles
-  pub pages : AreStacks (length rows.tiles) rows.entries rows.pages
+  pub tiles : AreStacks (length rows.tiles) rows.places rows.entries rows.tiles
+  pub pages : AreStacks (length rows.tiles) rows.places rows.entries rows.pages
 
 -- after a history each stack stands for what the entries of its space lead to, with tiles by sizes z
 pub record StandEach (z : SizeSet) (g : Given) (stacks : List Kept) (history : List Entry) : Type 0 where

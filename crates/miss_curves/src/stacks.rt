@@ -3,13 +3,12 @@
 ghost use Rattle.std.specs.Prelude.{◌≡◌, ℕ, ◌+◌, ◌-◌, ◌<◌, ◌≤◌, ◌^◌, [], ◌∷◌, ◌++◌, List, Some, length, slice_index, IfOk, IfSome};
 ghost use Rattle.std.specs.Fn.{FnReturnsAt};
 ghost use Rattle.std.specs.List.{All};
-ghost use Rattle.pager_model.specs.Bounds.{most_spaces};
+ghost use Rattle.pager_model.specs.Bounds.{most_spaces, space_pages};
 ghost use Rattle.pager_model.specs.declared.entry.Entry.{Entry as Item};
-ghost use Rattle.pager_model.specs.Counts.{counts};
 ghost use Rattle.pager_model.specs.Legal.{IsLegal, space_at};
 ghost use Rattle.pager_model.specs.Settings.{Given};
 ghost use Rattle.pager_model.specs.SizeSets.{SizeSet};
-ghost use Rattle.miss_curves.specs.Curves.{AnswersAlone, base_alone, misses_by, misses, page_misses};
+ghost use Rattle.miss_curves.specs.Curves.{AnswersAlone, AreCurves, AreLong, base_alone, misses_by};
 ghost use Rattle.miss_curves.specs.Rows.{AreStacks, StandEach, StandAfter};
 ghost use Rattle.lru_stack.specs.Stacks.{IsBlank, Tells, TellsSame};
 
@@ -18,8 +17,11 @@ use pager_model::{Entry, NoMemory, Tile};
 use std::alloc::Global;
 use std::marker::Model;
 
-/// The largest capacity: how many places a row has.
-pub const CAPACITIES: usize = 1024;
+/// The largest capacity of the curves of a history that is kept.
+pub const HISTORY_CAPACITIES: usize = 1024;
+
+/// The largest capacity of the curves of one that is followed as it is made.
+pub const STREAM_CAPACITIES: usize = 4096;
 
 /// The misses at each capacity, the first at capacity 1: with the tiles of the run, and with base pages alone.
 #[derive(Drop)]
@@ -28,11 +30,24 @@ pub struct Curves {
     pub pages: Vec<u64>,
 }
 
-/// Of each space the stack of its tiles, and that of its base pages.
+impl Curves {
+    /// The memory of curves up to this largest capacity.
+    pub fn create(alloc: Global, capacities: usize) -> Result<Curves, NoMemory>
+        ensures long { IfOk result (λ c. AreLong capacities c.tiles.items c.pages.items) }
+    {
+        Ok(Curves {
+            tiles: vec![in alloc; 0; capacities]?,
+            pages: vec![in alloc; 0; capacities]?,
+        })
+    }
+}
+
+/// Of each space the stack of its tiles, and that of its base pages. Each stack has as many places as the largest capacity.
 #[derive(Drop)]
 pub struct Stacks {
     tiles: Vec<Stack>,
     pages: Vec<Stack>,
+    places: usize,
     entries: u64,
 }
 
@@ -41,22 +56,25 @@ impl Model for Stacks {
 
     ghost Value = { Rows };
 
-    ghost view = { λ s. record { tiles = s.tiles.items; pages = s.pages.items; entries = s.entries } };
+    ghost view = { λ s. record { tiles = s.tiles.items; pages = s.pages.items; places = s.places; entries = s.entries } };
 
-    ghost invariant = { λ s. AreRows (record { tiles = s.tiles.items; pages = s.pages.items; entries = s.entries }) };
+    ghost invariant = { λ s. AreRows (record { tiles = s.tiles.items; pages = s.pages.items; places = s.places; entries = s.entries }) };
 }
 
 impl Stacks {
-    /// The stacks of so many spaces before any entry.
-    pub fn create(alloc: Global, spaces: usize) -> Result<Stacks, NoMemory>
-        requires { spaces ≤ most_spaces }
+    /// The stacks of so many spaces before any entry, each with so many places.
+    pub fn create(alloc: Global, spaces: usize, places: usize) -> Result<Stacks, NoMemory>
+        requires spaces { spaces ≤ most_spaces }
+        requires places { places ≤ space_pages }
         ensures spaces { IfOk result (λ s. length s.tiles ≡ spaces) }
+        ensures places { IfOk result (λ s. s.places ≡ places) }
         ensures unused { IfOk result (λ s. s.entries ≡ 0) }
         ensures stands { IfOk result (λ s. (g : Given) → length g.told ≡ spaces → StandAfter g s []) }
     {
         Ok(Stacks {
-            tiles: blank_stacks(alloc, spaces)?,
-            pages: blank_stacks(alloc, spaces)?,
+            tiles: blank_stacks(alloc, spaces, places)?,
+            pages: blank_stacks(alloc, spaces, places)?,
+            places,
             entries: 0,
         })
     }
@@ -76,6 +94,7 @@ impl Stacks {
         requires known { IfSome entry.now.space (λ s. s < length self.old.tiles) }
         requires room { self.old.entries < 2 ^ 64 - 1 }
         ensures spaces { length self.new.tiles ≡ length self.old.tiles }
+        ensures places { self.new.places ≡ self.old.places }
         ensures entries { self.new.entries ≤ self.old.entries + 1 }
         ensures stands { (g : Given) (history : List Item)
             → IfSome entry.now.space (λ s. Tells (FnReturnsAt F.Fn is_tile.now) g.sizes (space_at g history s) entry.now used
@@ -95,6 +114,7 @@ impl Stacks {
         requires known { IfSome entry.now.space (λ s. s < length self.old.tiles) }
         requires room { self.old.entries < 2 ^ 64 - 1 }
         ensures spaces { length self.new.tiles ≡ length self.old.tiles }
+        ensures places { self.new.places ≡ self.old.places }
         ensures entries { self.new.entries ≤ self.old.entries + 1 }
         ensures stands { (g : Given) (history : List Item)
             → IfSome entry.now.space (λ s. TellsSame g.sizes (space_at g history s) entry.now used
@@ -109,45 +129,46 @@ impl Stacks {
         }
     }
 
-    /// The misses at each capacity.
-    pub fn curves(&self, alloc: Global) -> Result<Curves, NoMemory>
-        ensures capacities { IfOk result (λ c. (length c.tiles.items ≡ 1024) × (length c.pages.items ≡ 1024)) }
-        ensures tiles { IfOk result (λ c. (g : Given) (history : List Item) → StandAfter g self.now history
-            → (k : ℕ) → k < 1024 → slice_index c.tiles.items k ≡ misses g history (k + 1)) }
-        ensures pages { IfOk result (λ c. (g : Given) (history : List Item) → StandAfter g self.now history
-            → (k : ℕ) → k < 1024 → slice_index c.pages.items k ≡ page_misses g history (k + 1)) }
-        ensures usual { IfOk result (λ c. (g : Given) (history : List Item) → StandAfter g self.now history → IsLegal g history → AnswersAlone history
-            → slice_index c.tiles.items 127 ≡ (counts g history).misses) }
+    /// The misses at each capacity, in memory of as many places as a stack has.
+    pub fn curves(&self, memory: Curves) -> Curves
+        requires long { AreLong self.now.places memory.tiles.items memory.pages.items }
+        requires usual { 128 ≤ self.now.places }
+        ensures long { AreLong self.now.places result.tiles.items result.pages.items }
+        ensures curves { (g : Given) (history : List Item) → StandAfter g self.now history → IsLegal g history → AnswersAlone history
+            → AreCurves self.now.places g history result.tiles.items result.pages.items }
     {
-        let tiles = curve_of(alloc, &self.tiles)?;
-        let pages = curve_of(alloc, &self.pages)?;
-        Ok(Curves { tiles, pages })
+        Curves {
+            tiles: curve_of(memory.tiles, &self.tiles),
+            pages: curve_of(memory.pages, &self.pages),
+        }
     }
 }
 
-/// So many stacks of holes.
-fn blank_stacks(alloc: Global, spaces: usize) -> Result<Vec<Stack>, NoMemory>
-    requires { spaces ≤ most_spaces }
+/// So many stacks of so many holes.
+fn blank_stacks(alloc: Global, spaces: usize, places: usize) -> Result<Vec<Stack>, NoMemory>
+    requires spaces { spaces ≤ most_spaces }
+    requires places { places ≤ space_pages }
     ensures spaces { IfOk result (λ stacks. length stacks.items ≡ spaces) }
-    ensures blank { IfOk result (λ stacks. All (λ s. IsBlank 1024 s) stacks.items) }
+    ensures blank { IfOk result (λ stacks. All (λ s. IsBlank places s) stacks.items) }
 {
     let mut stacks = Vec::with_capacity(alloc, spaces)?;
     for _ in 0..spaces {
-        stacks.push(Stack::create(alloc, CAPACITIES)?)?;
+        stacks.push(Stack::create(alloc, places)?)?;
     }
     Ok(stacks)
 }
 
-/// The misses of some stacks at each capacity.
-fn curve_of(alloc: Global, stacks: &[Stack]) -> Result<Vec<u64>, NoMemory>
-    requires stacks { AreStacks (length stacks.now) (2 ^ 64 - 1) stacks.now }
-    ensures capacities { IfOk result (λ curve. length curve.items ≡ 1024) }
-    ensures misses { IfOk result (λ curve. (z : SizeSet) (g : Given) (history : List Item) → StandEach z g stacks.now history
-        → (k : ℕ) → k < 1024 → slice_index curve.items k ≡ misses_by z g history (k + 1)) }
+/// The misses of some stacks at each capacity, in memory of as many places as each has.
+fn curve_of(memory: Vec<u64>, stacks: &[Stack]) -> Vec<u64>
+    requires stacks { AreStacks (length stacks.now) (length memory.items) (2 ^ 64 - 1) stacks.now }
+    ensures capacities { length result.items ≡ length memory.items }
+    ensures misses { (z : SizeSet) (g : Given) (history : List Item) → StandEach z g stacks.now history
+        → (k : ℕ) → k < length memory.items → slice_index result.items k ≡ misses_by z g history (k + 1) }
 {
-    let mut curve = vec![in alloc; 0; CAPACITIES]?;
+    let mut curve = memory;
+    curve.fill(0);
     for stack in stacks {
         stack.add_to(&mut curve);
     }
-    Ok(curve)
+    curve
 }

@@ -1,5 +1,5 @@
 -- A history that is checked: how the program ends then.
-use Rattle.std.proofs.Common.{◌≡◌, ◌≢◌, ℕ, ◌⊎◌, inl, inr, List, [], Option, Some, None, IfSome, IsSome, IsSomeAnd, MatchOption, refl, sym, ap, subst, ◌∙◌, arith}
+use Rattle.std.proofs.Common.{◌≡◌, ◌≢◌, ℕ, ◌⊎◌, inl, inr, List, Option, Some, None, IfSome, IsSome, IsSomeAnd, MatchOption, refl, sym, ap, subst, ◌∙◌, arith}
 use Rattle.history_check.specs.declared.verdict.Verdict.{Verdict}
 use Rattle.history_check.specs.Texts.{AreCause, AreRefused, IsFailure, IsJudgeable}
 use Rattle.io_core.specs.Faults.{one_more, Rose}
@@ -7,7 +7,7 @@ use Rattle.io_core.proofs.FaultCounts.{rose_by_one}
 use Rattle.trace_reader.specs.declared.fault.TraceFault.{TraceFault}
 use Rattle.trace_reader.specs.declared.fault.TraceFault.TheVariants.{ReadFault, TooLong, Line, LongLine, NoEnd, TooManyCalls, TooFewStores, OneProcessor, HistoryLine, HistoryNoEnd, NoMemory}
 use Rattle.pager_command.specs.declared.outcome.Outcome.{Outcome}
-use Rattle.pager_command.specs.declared.status.TheConstants.{DONE, USAGE, REFUSED, READ_FAULT, MEMORY, WRITE_FAULT}
+use Rattle.pager_command.specs.declared.status.TheConstants.{USAGE, REFUSED, READ_FAULT, MEMORY}
 use Rattle.pager_command.specs.Checks.{Checks, IsUnjudged, Judged, JudgedNone}
 use Rattle.pager_command.specs.Runs.{IsStatus, IsTold, status_of}
 use Rattle.pager_command.specs.Views.{Ends, Views}

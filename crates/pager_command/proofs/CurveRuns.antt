@@ -2,7 +2,7 @@
 use Rattle.std.proofs.Common.{◌≡◌, ◌≢◌, ℕ, ◌⊎◌, inl, inr, List, Option, take, refl, ◌∙◌}
 use Rattle.std.proofs.lemmas.List.{length-map, length-take-le}
 use Rattle.io_core.specs.Faults.{one_more}
-use Rattle.miss_curves.specs.Curves.{AreCurves}
+use Rattle.miss_curves.specs.Curves.{AreCurves, history_capacities}
 use Rattle.miss_curves.specs.Histories.{IsRunOf}
 use Rattle.pager_model.specs.declared.summary.Summary.{Summary}
 use Rattle.pager_model.specs.Legal.{entries_in}
@@ -35,10 +35,10 @@ pub EndsRun-curves : {K : Type 0} (taken : K → Option (List ℕ)) (faults : K 
     → (status ≡ DONE) ⊎ ((status ≡ WRITE_FAULT) ⊎ (status ≡ MEMORY))
     → (status ≡ MEMORY → after ≡ before)
     → (status ≡ DONE → (g : Given) → IsRunOf run.plan g (entries_in run.history)
-    → (tiles : List ℕ) × (pages : List ℕ) × AreCurves g (entries_in run.history) tiles pages
+    → (tiles : List ℕ) × (pages : List ℕ) × AreCurves history_capacities g (entries_in run.history) tiles pages
     × WroteAll (curves_text tiles pages) (taken before) (taken after))
     → (status ≡ WRITE_FAULT → (g : Given) → IsRunOf run.plan g (entries_in run.history)
-    → (tiles : List ℕ) × (pages : List ℕ) × AreCurves g (entries_in run.history) tiles pages
+    → (tiles : List ℕ) × (pages : List ℕ) × AreCurves history_capacities g (entries_in run.history) tiles pages
     × WrotePart (curves_text tiles pages) (taken before) (taken after))
     → (status ≡ WRITE_FAULT → faults after ≡ one_more (faults before))
     → (status ≢ WRITE_FAULT → faults after ≡ faults before)

@@ -1,10 +1,10 @@
 -- Words are of one command: what they ask for is read off them.
-use Rattle.std.proofs.Common.{◌≡◌, ℕ, ◌==◌, ◌||◌, ◌<◌, ◌≤◌, ◌^◌, if◌then◌else◌, Bool, false, List, [], ◌∷◌, codes, decimal, drop, get_or, length, Option, None, Some, IfSome, sym, ap, subst, refl, ◌∙◌, arith}
+use Rattle.std.proofs.Common.{◌≡◌, ℕ, ◌==◌, ◌||◌, ◌<◌, ◌≤◌, ◌^◌, if◌then◌else◌, Bool, false, List, [], ◌∷◌, codes, decimal, drop, get_or, length, None, Some, IfSome, sym, ap, subst, refl, ◌∙◌, arith}
 use Rattle.std.proofs.lemmas.Bool.{false≢true}
 use Rattle.std.proofs.lemmas.Fmt.{decimal_injective, decimal_is_IsNumeral}
 use Rattle.std.proofs.lemmas.Option.{none-some, same_Some}
 use Rattle.std.specs.Borrow.{Bor}
-use Rattle.std.specs.Str.Parse.{digits_value}
+use Rattle.std.specs.Str.Parse.{IsNumeral, digits_value}
 use Rattle.report_text.specs.declared.report.Parts.{Parts}
 use Rattle.report_text.specs.declared.report.Parts.TheVariants.{Answers, AnswersAndHistory}
 use Rattle.pager_command.specs.declared.form.Command.{Command}
@@ -17,6 +17,9 @@ use Rattle.pager_command.specs.declared.form.Report.{Report}
 use Rattle.pager_command.specs.declared.form.Report.TheVariants.{Answers as Answered, Plan as Planned, Curves}
 use Rattle.pager_command.specs.declared.form.Turns.TheVariants.{Lines, Drawn}
 use Rattle.pager_command.specs.Forms.{AreCheckWords, AreLargeWords, AreMakingWords, AreOfCommand, AreStreamWords, AreWords, IsSeedInRange, IsSizeInRange, Spell, are_of, large_words, making_words, parts_words, words_of}
+use Rattle.stream_run.specs.declared.report.StreamReport.{StreamReport}
+use Rattle.stream_run.specs.declared.report.StreamReport.TheVariants.{Counts as StreamCounts, Curves as StreamCurves}
+use Rattle.stream_run.specs.Reports.{every_in}
 use Rattle.trace_make.specs.Made.{CanMake}
 
 abbrev asked : Order → Report → Form
@@ -184,42 +187,63 @@ check_is_not_large words is number seed large =
 
 -- the words of a stream
 
-stream_letter : (words : List (Bor (List ℕ))) (every : Option ℕ) → AreStreamWords words every → letter (are_of words) ≡ 115
-stream_letter words None is = ap letter is
-stream_letter words (Some every) is = ap letter is.0
+stream_letter : (words : List (Bor (List ℕ))) (report : StreamReport) → AreStreamWords words report → letter (are_of words) ≡ 115
+stream_letter words (StreamCounts None) is = ap letter is
+stream_letter words (StreamCounts (Some every)) is = ap letter is.0
+stream_letter words StreamCurves is = ap letter is
 
-stream_is_no_form : (words : List (Bor (List ℕ))) (every : Option ℕ) → AreStreamWords words every → (form : Form) → AreWords words form → ⊥
-stream_is_no_form words every is form spelled =
-    false≢true (sym (begins form.order form.report (are_of words) spelled.are) ∙ ap is_others (stream_letter words every is))
+stream_is_no_form : (words : List (Bor (List ℕ))) (report : StreamReport) → AreStreamWords words report → (form : Form) → AreWords words form → ⊥
+stream_is_no_form words report is form spelled =
+    false≢true (sym (begins form.order form.report (are_of words) spelled.are) ∙ ap is_others (stream_letter words report is))
 
-stream_is_not_making : (words : List (Bor (List ℕ))) (every : Option ℕ) → AreStreamWords words every → (m : Making) → AreMakingWords words m → ⊥
-stream_is_not_making words every is m making =
-    let same : 115 ≡ 109 = sym (stream_letter words every is) ∙ ap letter making.are in
+stream_is_not_making : (words : List (Bor (List ℕ))) (report : StreamReport) → AreStreamWords words report → (m : Making) → AreMakingWords words m → ⊥
+stream_is_not_making words report is m making =
+    let same : 115 ≡ 109 = sym (stream_letter words report is) ∙ ap letter making.are in
     omega (arith, same)
 
-stream_is_not_large : (words : List (Bor (List ℕ))) (every : Option ℕ) → AreStreamWords words every → (number seed : ℕ)
+stream_is_not_large : (words : List (Bor (List ℕ))) (report : StreamReport) → AreStreamWords words report → (number seed : ℕ)
     → AreLargeWords words number seed → ⊥
-stream_is_not_large words every is number seed large =
-    let same : 115 ≡ 108 = sym (stream_letter words every is) ∙ ap letter large.are in
+stream_is_not_large words report is number seed large =
+    let same : 115 ≡ 108 = sym (stream_letter words report is) ∙ ap letter large.are in
     omega (arith, same)
 
-stream_is_not_check : (words : List (Bor (List ℕ))) (every : Option ℕ) → AreStreamWords words every → AreCheckWords words → ⊥
-stream_is_not_check words every is check =
-    let same : 115 ≡ 99 = sym (stream_letter words every is) ∙ ap letter check in
+stream_is_not_check : (words : List (Bor (List ℕ))) (report : StreamReport) → AreStreamWords words report → AreCheckWords words → ⊥
+stream_is_not_check words report is check =
+    let same : 115 ≡ 99 = sym (stream_letter words report is) ∙ ap letter check in
     omega (arith, same)
 
--- the same words ask for the counts so far after as many calls
-one_stream : (words : List (Bor (List ℕ))) (a b : Option ℕ) → AreStreamWords words a → AreStreamWords words b → a ≡ b
-one_stream words None None is also = refl
-one_stream words None (Some b) is also = absurd (let same : 1 ≡ 2 = ap length (sym is ∙ also.0) in omega (arith, same))
-one_stream words (Some a) None is also = absurd (let same : 2 ≡ 1 = ap length (sym is.0 ∙ also) in omega (arith, same))
-one_stream words (Some a) (Some b) is also =
-    ap Some (one_number a b is.2 also.2 (ap (λ (ws : List (List ℕ)). get_or ws 1 []) (sym is.0 ∙ also.0)))
+-- the second of them
+second_word : (words : List (Bor (List ℕ))) (a b : List ℕ) → are_of words ≡ codes "stream" ∷ a ∷ [] → are_of words ≡ codes "stream" ∷ b ∷ [] → a ≡ b
+second_word words a b is also = ap (λ (ws : List (List ℕ)). get_or ws 1 []) (sym is ∙ also)
 
--- words that ask for them do so after one call at least
-pub stream_some : (words : List (Bor (List ℕ))) (every : Option ℕ) → AreStreamWords words every → IfSome every (λ n. 1 ≤ n)
-stream_some words None is = tt
-stream_some words (Some every) is = is.1
+-- which isn't there beside one that is
+no_second : (words : List (Bor (List ℕ))) (a : List ℕ) → are_of words ≡ codes "stream" ∷ [] → are_of words ≡ codes "stream" ∷ a ∷ [] → ⊥
+no_second words a is also = (let same : 1 ≡ 2 = ap length (sym is ∙ also) in omega (arith, same))
+
+-- no number has this word
+no_curve : (every : ℕ) → every < 2 ^ 32 → decimal every ≡ codes "curve" → ⊥
+no_curve every few is = (let digits = subst (IsNumeral 10) is (decimal_is_IsNumeral every (omega (arith, few))).0 in omega (arith, digits.1.0))
+
+-- the same words ask for the same of a stream
+one_stream : (words : List (Bor (List ℕ))) (a b : StreamReport) → AreStreamWords words a → AreStreamWords words b → a ≡ b
+one_stream words (StreamCounts None) (StreamCounts None) is also = refl
+one_stream words (StreamCounts None) (StreamCounts (Some b)) is also = absurd (no_second words (decimal b) is also.0)
+one_stream words (StreamCounts None) StreamCurves is also = absurd (no_second words (codes "curve") is also)
+one_stream words (StreamCounts (Some a)) (StreamCounts None) is also = absurd (no_second words (decimal a) also is.0)
+one_stream words (StreamCounts (Some a)) (StreamCounts (Some b)) is also =
+    ap (λ n. StreamCounts (Some n)) (one_number a b is.2 also.2 (second_word words (decimal a) (decimal b) is.0 also.0))
+one_stream words (StreamCounts (Some a)) StreamCurves is also =
+    absurd (no_curve a is.2 (second_word words (decimal a) (codes "curve") is.0 also))
+one_stream words StreamCurves (StreamCounts None) is also = absurd (no_second words (codes "curve") also is)
+one_stream words StreamCurves (StreamCounts (Some b)) is also =
+    absurd (no_curve b also.2 (second_word words (decimal b) (codes "curve") also.0 is))
+one_stream words StreamCurves StreamCurves is also = refl
+
+-- words that ask for the counts so far do so after one call at least
+pub stream_some : (words : List (Bor (List ℕ))) (report : StreamReport) → AreStreamWords words report → IfSome (every_in report) (λ n. 1 ≤ n)
+stream_some words (StreamCounts None) is = tt
+stream_some words (StreamCounts (Some every)) is = is.1
+stream_some words StreamCurves is = tt
 
 -- words are of one command
 pub one_command : (words : List (Bor (List ℕ))) (a b : Command) → AreOfCommand words a → AreOfCommand words b → a ≡ b

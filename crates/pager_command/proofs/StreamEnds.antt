@@ -1,5 +1,6 @@
 -- A stream that was run: how the program ends then.
-use Rattle.std.proofs.Common.{◌≡◌, ◌≢◌, ℕ, Bool, List, Option, None, Some, IfSome, IsSome, inl, inr, refl, sym, subst, ◌∙◌, arith}
+use Rattle.std.proofs.Common.{◌≢◌, Bool, List, None, inl, inr, refl, sym, subst, ◌∙◌, arith}
+use Rattle.stream_run.specs.declared.report.StreamReport.{StreamReport}
 use Rattle.stream_run.specs.declared.run.Ending.{Ending}
 use Rattle.stream_run.specs.declared.run.Ending.TheVariants.{Done, Stopped, WriteFault, NoMemory}
 use Rattle.pager_command.specs.declared.outcome.Outcome.{Outcome}
@@ -31,8 +32,8 @@ is_no_usage (Stopped fault) is = (let which = status_told fault in omega (arith,
 is_no_usage WriteFault is = omega (arith, is)
 is_no_usage NoMemory is = omega (arith, is)
 
-module _ {T K P : Type 0} (seen : Views T K P) (lasts : Bool) (every : Option ℕ) (from to : Ends T K) (stores : List P) (outcome : Outcome P)
-    (streams : Streams seen lasts every from to stores outcome) where
+module _ {T K P : Type 0} (seen : Views T K P) (lasts : Bool) (report : StreamReport) (from to : Ends T K) (stores : List P) (outcome : Outcome P)
+    (streams : Streams seen lasts report from to stores outcome) where
   pub Streams-status : IsStatus outcome.status
   Streams-status = subst IsStatus (sym streams.status) (is_status streams.ending)
 

@@ -6,6 +6,7 @@ use Rattle.std.specs.Str.{bytes_eq}
 use Rattle.std.specs.Cmp.Lexicographic.{bytes_decides}
 use Rattle.std.proofs.lemmas.List.{get_or-map, take_all}
 use Rattle.std.proofs.lemmas.Option.{none-some, same_Some}
+use Rattle.stream_run.specs.declared.report.StreamReport.{StreamReport}
 use Rattle.pager_command.specs.declared.form.Making.{Making}
 use Rattle.pager_command.specs.declared.form.Form.{Form}
 use Rattle.pager_command.specs.declared.form.Order.{Order}
@@ -13,7 +14,7 @@ use Rattle.pager_command.specs.declared.form.Order.TheVariants.{InTurns, Threads
 use Rattle.pager_command.specs.declared.form.Report.{Report}
 use Rattle.pager_command.specs.declared.form.Report.TheVariants.{Answers as Answered, Plan as Planned, Curves}
 use Rattle.pager_command.specs.declared.form.Turns.TheVariants.{Lines, Drawn}
-use Rattle.pager_command.specs.Forms.{AreBehind, AreWords, IsForm, Spell, are_of, making_words, parts_words, words_of}
+use Rattle.pager_command.specs.Forms.{AreBehind, AreStreamWords, AreWords, IsForm, Spell, are_of, making_words, parts_words, words_of}
 
 -- a list of one word is this word exactly where the word's bytes are equal
 pub one_word : (words : List (Bor (List ℕ))) (d : Bor (List ℕ)) (text : List ℕ) (b : Bool)
@@ -132,3 +133,10 @@ none_of_five words d some not_order not_turns not_replay not_plan not_curve form
     none (InTurns Lines) (Planned n) are = not_plan (first (codes "plan" ∷ decimal n ∷ []) are)
     none (InTurns Lines) Curves are = not_curve (first (codes "curve" ∷ []) are)
     none order report are = absurd (none-some (are_of words) are)
+
+-- what the word behind `stream` asks for, the words do
+pub report_behind : (o : Option StreamReport) (words : List (Bor (List ℕ))) (word : List ℕ) → are_of words ≡ codes "stream" ∷ word ∷ []
+    → IfSome o (λ report. (all : List (Bor (List ℕ))) → are_of all ≡ codes "stream" ∷ word ∷ [] → AreStreamWords all report)
+    → IfSome o (AreStreamWords words)
+report_behind None words word are is = tt
+report_behind (Some report) words word are is = is words are

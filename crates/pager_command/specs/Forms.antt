@@ -16,6 +16,8 @@ use Rattle.pager_command.specs.declared.form.Order.TheVariants.{InTurns, Threads
 use Rattle.pager_command.specs.declared.form.Report.{Report}
 use Rattle.pager_command.specs.declared.form.Report.TheVariants.{Answers as Answered, Counts, Plan as Planned, Curves}
 use Rattle.pager_command.specs.declared.form.Turns.TheVariants.{Lines, Drawn}
+use Rattle.stream_run.specs.declared.report.StreamReport.{StreamReport}
+use Rattle.stream_run.specs.declared.report.StreamReport.TheVariants.{Counts as StreamCounts, Curves as StreamCurves}
 use Rattle.trace_make.specs.Made.{CanMake}
 
 -- the words that ask for the parts of a report, behind those of an order
@@ -116,13 +118,14 @@ IsLarge words = (number : ℕ) × (seed : ℕ) × AreLargeWords words number see
 abbrev pub AreCheckWords : List (Bor (List ℕ)) → Type 0
 AreCheckWords words = are_of words ≡ codes "check" ∷ []
 
--- the words ask for a trace to be run as it is read, and for the counts so far after each so many calls, or not
-abbrev pub AreStreamWords : List (Bor (List ℕ)) → (every : Option ℕ) → Type 0
-AreStreamWords words None = are_of words ≡ codes "stream" ∷ []
-AreStreamWords words (Some every) = (are_of words ≡ codes "stream" ∷ decimal every ∷ []) × (1 ≤ every) × (every < 2 ^ 32)
+-- the words ask for a trace to be run as it is read, and for its counts, with those so far after each so many calls or without, or for its curves
+abbrev pub AreStreamWords : List (Bor (List ℕ)) → StreamReport → Type 0
+AreStreamWords words (StreamCounts None) = are_of words ≡ codes "stream" ∷ []
+AreStreamWords words (StreamCounts (Some every)) = (are_of words ≡ codes "stream" ∷ decimal every ∷ []) × (1 ≤ every) × (every < 2 ^ 32)
+AreStreamWords words StreamCurves = are_of words ≡ codes "stream" ∷ codes "curve" ∷ []
 
 abbrev pub IsStream : List (Bor (List ℕ)) → Type 0
-IsStream words = (every : Option ℕ) × AreStreamWords words every
+IsStream words = (report : StreamReport) × AreStreamWords words report
 
 -- the words are of this command
 abbrev pub AreOfCommand : List (Bor (List ℕ)) → Command → Type 0
@@ -130,7 +133,7 @@ AreOfCommand words (Run form) = AreWords words form
 AreOfCommand words (Make m) = AreMakingWords words m
 AreOfCommand words (Large number seed) = AreLargeWords words number seed
 AreOfCommand words Check = AreCheckWords words
-AreOfCommand words (Stream every) = AreStreamWords words every
+AreOfCommand words (Stream report) = AreStreamWords words report
 
 -- the words are of some command
 abbrev pub IsCommand : List (Bor (List ℕ)) → Type 0

@@ -3,7 +3,7 @@ use Rattle.std.specs.Prelude.{ℕ, ◌≡◌, ◌≢◌, ◌<◌, ◌≤◌, ◌
 use Rattle.contiguity_plan.specs.declared.plan.Plan.{Plan as Emptying}
 use Rattle.contiguity_plan.specs.Emptying.{IsPlanned}
 use Rattle.io_core.specs.Faults.{one_more, Rose}
-use Rattle.miss_curves.specs.Curves.{AreCurves}
+use Rattle.miss_curves.specs.Curves.{AreCurves, history_capacities}
 use Rattle.pager_model.specs.declared.summary.Summary.{Summary}
 use Rattle.pager_model.specs.Counts.{counts}
 use Rattle.pager_model.specs.Legal.{IsLegal, entries_in, frames_at}
@@ -127,7 +127,7 @@ Prints (Planned size) run text =
     (planned : Option Emptying) × IsPlanned (frames_at (setting_of run) (entries_in run.history)) run.plan.frames size planned
     × (text ≡ plan_text planned)
 Prints Curves run text =
-    (tiles : List ℕ) × (pages : List ℕ) × AreCurves (setting_of run) (entries_in run.history) tiles pages × (text ≡ curves_text tiles pages)
+    (tiles : List ℕ) × (pages : List ℕ) × AreCurves history_capacities (setting_of run) (entries_in run.history) tiles pages × (text ≡ curves_text tiles pages)
 
 -- where the sink tells its bytes, it has gained what the report prints
 abbrev pub PrintedAll : Report → Replayed → Option (List ℕ) → Option (List ℕ) → Type 0

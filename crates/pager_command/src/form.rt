@@ -1,6 +1,7 @@
 //! The program's words, and what they ask for.
 
-ghost use Rattle.std.specs.Prelude.{◌≡◌, ◌≢◌, ℕ, ◌^◌, ◌<◌, ◌≤◌, [], ◌∷◌, ◌↔◌, IsTrue, IfSome, IfNone, codes, decimal};
+ghost use Rattle.std.specs.Prelude.{◌≡◌, ◌≢◌, ℕ, ◌^◌, ◌<◌, ◌≤◌, [], ◌∷◌, ◌↔◌, IsTrue, IfSome, IfNone, List, codes, decimal};
+ghost use Rattle.std.specs.Borrow.{Bor};
 ghost use Rattle.report_text.specs.declared.report.Parts.{Parts as Printed};
 ghost use Rattle.pager_command.specs.declared.form.Form.{Form as Asked};
 ghost use Rattle.pager_command.specs.Forms.{AreBehind, AreCheckWords, AreLargeWords, AreMakingWords, AreOfCommand, AreStreamWords, AreWords, IsCommand, IsForm, IsForOneProcessor, IsLarge, IsMaking, IsStream, are_of, parts_words};
@@ -9,6 +10,7 @@ ghost use Rattle.trace_make.specs.Made.{CanMake};
 use itoa::Buffer;
 use pager_model::{MOST_CALLS, MOST_FRAMES, MOST_PROCESSORS, MOST_SPACES, Size};
 use report_text::Parts;
+use stream_run::StreamReport;
 
 /// What the program is asked to do.
 #[derive(Clone, Copy)]
@@ -21,8 +23,8 @@ pub enum Command {
     Large { number: u64, seed: u64 },
     /// To read a trace and a history of it, and say whether the history is legal and shows the trace.
     Check,
-    /// To run a trace as it is read, and print the counts; before them, where it is asked for, the counts so far after each so many calls.
-    Stream { every: Option<u32> },
+    /// To run a trace as it is read, and print the counts, with those so far after each so many calls or without, or the miss curves.
+    Stream { report: StreamReport },
 }
 
 /// In which order a trace that is read is run, and what is printed of the run.
@@ -109,8 +111,8 @@ pub fn command_of(words: &[&str]) -> Option<Command>
     if is_check(words) {
         return Some(Command::Check);
     }
-    if let Some(every) = stream_of(words) {
-        return Some(Command::Stream { every });
+    if let Some(report) = stream_of(words) {
+        return Some(Command::Stream { report });
     }
     let (number, seed) = large_of(words)?;
     Some(Command::Large { number, seed })
@@ -167,16 +169,29 @@ fn is_check(words: &[&str]) -> bool
     }
 }
 
-/// After how many calls each the words ask for the counts so far, or that they don't, where they ask for a stream.
-fn stream_of(words: &[&str]) -> Option<Option<u32>>
+/// What the words ask for of a stream, where they ask for one.
+fn stream_of(words: &[&str]) -> Option<StreamReport>
     ensures some { IfSome result (AreStreamWords words.now) }
     ensures none { IfNone result (IsStream words.now → ⊥) }
 {
     match words {
-        [word] if *word == "stream" => Some(None),
-        [word, every] if *word == "stream" => Some(Some(every_of(every)?)),
+        [word] if *word == "stream" => Some(StreamReport::Counts { every: None }),
+        [word, report] if *word == "stream" => stream_report_of(report),
         _ => None,
     }
+}
+
+/// What the word after `stream` asks for, where it asks for something.
+fn stream_report_of(word: &str) -> Option<StreamReport>
+    ensures some { IfSome result (λ report. (words : List (Bor (List ℕ))) → are_of words ≡ codes "stream" ∷ word.now ∷ []
+        → AreStreamWords words report) }
+    ensures none { IfNone result ((words : List (Bor (List ℕ))) → are_of words ≡ codes "stream" ∷ word.now ∷ [] → IsStream words → ⊥) }
+{
+    if word == "curve" {
+        return Some(StreamReport::Curves);
+    }
+    let every = every_of(word)?;
+    Some(StreamReport::Counts { every: Some(every) })
 }
 
 /// The number of calls that a word names, where it is one at least.

@@ -4,7 +4,7 @@ ghost use Rattle.std.specs.Prelude.{ℕ, ◌≡◌, ◌≢◌, ◌≤◌, ◌⊎
 ghost use Rattle.contiguity_plan.specs.declared.plan.Plan.{Plan as Emptying};
 ghost use Rattle.contiguity_plan.specs.Emptying.{IsOver, IsPlanned};
 ghost use Rattle.io_core.specs.Faults.{one_more};
-ghost use Rattle.miss_curves.specs.Curves.{AreCurves};
+ghost use Rattle.miss_curves.specs.Curves.{AreCurves, history_capacities};
 ghost use Rattle.miss_curves.specs.Histories.{IsRunOf};
 ghost use Rattle.pager_model.specs.Legal.{entries_in, frames_at};
 ghost use Rattle.pager_model.specs.PrintedText.{out_text, summary_text};
@@ -157,10 +157,10 @@ fn write_curves_of<K: Sink>(alloc: Global, sink: &mut K, trace: &Trace, history:
     ensures statuses { (result ≡ DONE) ⊎ ((result ≡ WRITE_FAULT) ⊎ (result ≡ MEMORY)) }
     ensures unwritten { result ≡ MEMORY → sink.new ≡ sink.old }
     ensures wrote { result ≡ DONE → (g : Given) → IsRunOf trace.now g (entries_in history.now.items)
-        → (tiles : List ℕ) × (pages : List ℕ) × AreCurves g (entries_in history.now.items) tiles pages
+        → (tiles : List ℕ) × (pages : List ℕ) × AreCurves history_capacities g (entries_in history.now.items) tiles pages
         × WroteAll (curves_text tiles pages) (K.taken sink.old) (K.taken sink.new) }
     ensures part { result ≡ WRITE_FAULT → (g : Given) → IsRunOf trace.now g (entries_in history.now.items)
-        → (tiles : List ℕ) × (pages : List ℕ) × AreCurves g (entries_in history.now.items) tiles pages
+        → (tiles : List ℕ) × (pages : List ℕ) × AreCurves history_capacities g (entries_in history.now.items) tiles pages
         × WrotePart (curves_text tiles pages) (K.taken sink.old) (K.taken sink.new) }
     ensures write_fault { result ≡ WRITE_FAULT → K.faults sink.new ≡ one_more (K.faults sink.old) }
     ensures no_write_fault { result ≢ WRITE_FAULT → K.faults sink.new ≡ K.faults sink.old }

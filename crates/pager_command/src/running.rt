@@ -7,6 +7,7 @@ ghost use Rattle.pager_model.specs.Legal.{entries_in};
 ghost use Rattle.replay_core.specs.Replays.{IsReplay, AreItsCounts};
 ghost use Rattle.pager_command.specs.declared.form.Form.{Form as Asked};
 ghost use Rattle.pager_command.specs.declared.form.Making.{Making as ToMake};
+ghost use Rattle.stream_run.specs.declared.report.StreamReport.{StreamReport as Told};
 ghost use Rattle.pager_command.specs.Checks.{Checks};
 ghost use Rattle.pager_command.specs.Forms.{Admits, AreCheckWords, AreLargeWords, AreMakingWords, AreStreamWords, AreWords, ComesBy, IsCommand};
 ghost use Rattle.pager_command.specs.MadeRuns.{MakesText, RunsLarge};
@@ -33,7 +34,7 @@ use trace_reader::{TraceFault, read_trace};
 /// Runs the program with these words over these backing stores, of which each space uses the one of its number. By words of a form it reads a
 /// trace to the end of the source, runs it in the form's order, and writes the form's report to the sink. By words that read nothing it makes a trace from a
 /// number and writes its text, or runs the large one and writes the counts. By `check` it reads a trace and a history, and writes whether the history is a
-/// legal one of the trace. By `stream` it runs a trace as it is read, a line at a time, and writes the counts.
+/// legal one of the trace. By `stream` it runs a trace as it is read, a line at a time, and writes the counts or the miss curves.
 ///
 /// The handle is for the order of threads alone, which starts threads and waits for locks: nothing is proved of when such a run returns. A
 /// run in turns is made by a function that takes no handle, and so is proved to return.
@@ -83,7 +84,7 @@ pub fn run<T: Source, K: Sink, S: Store + Send + Drop, R: Threads + Wait + Sync>
     ensures verdict { IsSome result.verdict → AreCheckWords words.now }
 
     // A trace that is run as it is read, and not kept.
-    ensures streams { (every : Option ℕ) → AreStreamWords words.now every → Streams (views T.left T.faults K.taken K.faults S.seen) S.lasts every
+    ensures streams { (report : Told) → AreStreamWords words.now report → Streams (views T.left T.faults K.taken K.faults S.seen) S.lasts report
         (ends source.old sink.old) (ends source.new sink.new) stores.items result }
 
     // Over stores that keep every page of a space for good no call of a run was answered for want of memory.
@@ -97,7 +98,7 @@ pub fn run<T: Source, K: Sink, S: Store + Send + Drop, R: Threads + Wait + Sync>
         Command::Make(making) => write_made(alloc, making, sink, stores),
         Command::Large { number, seed } => run_large(alloc, number, seed, sink, stores),
         Command::Check => check_history(alloc, source, sink, stores),
-        Command::Stream { every } => stream_text(alloc, every, source, sink, stores),
+        Command::Stream { report } => stream_text(alloc, report, source, sink, stores),
     }
 }
 

@@ -1,8 +1,12 @@
 -- A call with the turn before it, and the two ends of a stream.
-use Rattle.std.proofs.Common.{◌≡◌, ◌≢◌, ℕ, ◌+◌, ◌≤◌, min, Bool, List, [], ◌∷◌, ◌++◌, length, drop, Some, ap, sym, subst, ◌∙◌, inl, inr, arith}
+use Rattle.std.proofs.Common.{◌≡◌, ◌≢◌, ℕ, ◌+◌, ◌≤◌, min, Bool, List, [], ◌∷◌, ◌++◌, length, drop, Option, Some, None, refl, ap, sym, subst, ◌∙◌, inl, inr, arith}
 use Rattle.std.proofs.Math.Nat.{min-eq_left, min-eq_right, min-le_right}
 use Rattle.std.proofs.lemmas.Bool.{cases_lt}
-use Rattle.std.proofs.lemmas.List.{append_assoc, length_push}
+use Rattle.std.proofs.lemmas.List.{append-nil, append_assoc, length_push}
+use Rattle.std.specs.Option.{IfSome}
+use Rattle.miss_curves.specs.declared.stacks.Curves.{Curves}
+use Rattle.miss_curves.specs.Curves.{AnswersAlone, AreCurves, stream_capacities}
+use Rattle.miss_curves.proofs.FollowedEntries.{AnswersAlone-legal}
 use Rattle.pager_model.specs.declared.call.Line.{Line}
 use Rattle.pager_model.specs.declared.entry.Entry.{Entry}
 use Rattle.pager_model.specs.declared.entry.Numbered.{Numbered}
@@ -21,7 +25,7 @@ use Rattle.flight_core.specs.Steps.{reply_said}
 use Rattle.replay_core.specs.Replays.{IsReplay}
 use Rattle.step_log.proofs.Lists.{all-append}
 use Rattle.replay_core.proofs.RunLemmas.{IsReplay-numbered, told-over}
-use Rattle.stream_core.specs.Streaming.{IsAfter, IsAt, IsCalled, IsDue, IsMade, IsRunTo, IsRunWhole, Streaming, TookTurns, turns_in, with_calls}
+use Rattle.stream_core.specs.Streaming.{IsAfter, IsAt, IsCalled, IsDue, IsMade, IsMadeAlone, IsRunTo, IsRunWhole, Streaming, TookTurns, turns_in, with_calls}
 use Rattle.stream_core.proofs.Fronts.{FilesBy-part, part_is_front, part_is_whole, part_of, setting_of_part}
 
 -- Turns before calls.
@@ -52,7 +56,7 @@ few_before plan stores calls h s s' after took =
 
 pub IsMade-then : (lasts : Bool) (plan : Plan) (stores : List Stored) (calls : List Line) (h : List Entry) (line : Line) (s s' s'' : Streaming)
     → IsAfter plan stores calls h s → (took : TookTurns plan stores calls h s.turns 1 s')
-    → IsCalled lasts plan stores (calls ++ line ∷ []) (h ++ took.piece) s'.turns s'' → IsMade lasts plan stores (calls ++ line ∷ []) h s''
+    → IsCalled lasts plan stores calls line (h ++ took.piece) s'.turns s'' → IsMade lasts plan stores (calls ++ line ∷ []) h s''
 IsMade-then lasts plan stores calls h line s s' s'' after took called =
     record {
       piece = took.piece ++ called.piece;
@@ -62,6 +66,21 @@ IsMade-then lasts plan stores calls h line s s' s'' after took called =
             ∙ ap (min (turns_in plan.daemon)) (sym (length_push calls line));
       };
       lasting = λ is. all-append (λ (e : Entry). reply_said e.what ≢ Some NoMemory) took.piece called.piece took.lacks (called.lasting is);
+    }
+
+-- without a daemon nothing but the call
+pub IsMadeAlone-then : (lasts : Bool) (plan : Plan) (stores : List Stored) (calls : List Line) (h : List Entry) (line : Line) (s s' s'' : Streaming)
+    → IsAfter plan stores calls h s → plan.daemon ≡ None → (took : TookTurns plan stores calls h s.turns 1 s')
+    → IsCalled lasts plan stores calls line (h ++ took.piece) s'.turns s'' → IsMadeAlone plan stores calls line h s''
+IsMadeAlone-then lasts plan stores calls h line s s' s'' after alone took called =
+    record {
+      piece = called.piece;
+      after = record {
+        at = subst (λ l. IsAt plan stores (calls ++ line ∷ []) (l ++ called.piece) s'') (ap (λ l. h ++ l) (took.none alone) ∙ append-nil h) called.at;
+        turns = called.turns ∙ turns_then (turns_in plan.daemon) s.turns (length calls) s'.turns after.turns took.turns
+            ∙ ap (min (turns_in plan.daemon)) (sym (length_push calls line));
+      };
+      sequence = called.sequence;
     }
 
 -- one more after some
@@ -75,6 +94,7 @@ TookTurns-more plan stores calls h before more s s' took one =
       turns = turns_then (turns_in plan.daemon) s.turns (before + more) s'.turns took.turns one.turns
           ∙ ap (min (turns_in plan.daemon)) (let e : before + more + 1 ≡ before + (more + 1) = omega arith in e);
       lacks = all-append (λ (e : Entry). reply_said e.what ≢ Some NoMemory) took.piece one.piece took.lacks one.lacks;
+      none = λ alone. ap (λ l. l ++ one.piece) (took.none alone) ∙ one.none alone;
     }
 
 -- as many as were left are all
@@ -87,6 +107,7 @@ TookTurns-whole plan stores calls h before more s enough took =
       at = took.at;
       turns = took.turns ∙ min-eq_left enough ∙ sym (min-eq_left (omega arith));
       lacks = took.lacks;
+      none = took.none;
     }
 
 -- the next one still may come
@@ -142,11 +163,14 @@ module _ (plan : Plan) (stores : List Stored) (calls : List Line) (h : List Entr
 
 -- with all turns made
 pub IsRunWhole-took : (lasts : Bool) (plan : Plan) (stores : List Stored) (calls : List Line) (h : List Entry) (before : ℕ) (s : Streaming)
-    (after : List Stored) (summary : Summary) (took : TookTurns plan stores calls h before (turns_in plan.daemon) s)
+    (after : List Stored) (summary : Summary) (curves : Option Curves) (took : TookTurns plan stores calls h before (turns_in plan.daemon) s)
     → ((given : Given) (history : List Numbered) (pool : FrameState) → AreAtRest given (entries_in history) s.spaces pool
     → StoresEnd given history after) → drop (length s.spaces) after ≡ s.unused
-    → summary ≡ counts (setting_over plan stores) (h ++ took.piece) → IsRunWhole lasts plan stores calls h summary after
-IsRunWhole-took lasts plan stores calls h before s after summary took ends unused are =
+    → summary ≡ counts (setting_over plan stores) (h ++ took.piece)
+    → (AnswersAlone (h ++ took.piece)
+    → IfSome curves (λ c. AreCurves stream_capacities (setting_over plan stores) (h ++ took.piece) c.tiles.items c.pages.items))
+    → IsRunWhole lasts plan stores calls h summary curves after
+IsRunWhole-took lasts plan stores calls h before s after summary curves took ends unused are curved =
     let all : s.turns ≡ turns_in plan.daemon = took.turns ∙ min-eq_left (omega arith) in
     let run = replay plan stores calls (h ++ took.piece) s took.at after ends unused in
     record {
@@ -156,5 +180,7 @@ IsRunWhole-took lasts plan stores calls h before s after summary took ends unuse
       run = run_whole plan stores calls (h ++ took.piece) s took.at after ends unused all;
       filed = filed_whole plan stores calls (h ++ took.piece) s took.at after ends unused all;
       counts_are = are;
+      curves_are = λ one. curved (AnswersAlone-legal plan (setting_over plan stores) (h ++ took.piece) took.at.opening.has.daemon_in refl
+          took.at.legal one);
       lasting = λ is. took.lacks;
     }

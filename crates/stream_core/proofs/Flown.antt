@@ -3,6 +3,7 @@ use Rattle.std.proofs.Common.{◌≡◌, ◌≢◌, ℕ, ◌+◌, ◌<◌, ◌�
 use Rattle.std.proofs.Math.ListN.{set}
 use Rattle.std.proofs.Math.Nat.{min-eq_left, min-eq_right}
 use Rattle.std.proofs.lemmas.List.{append-nil}
+use Rattle.std.proofs.lemmas.Option.{none-some}
 use Rattle.pager_model.specs.declared.call.Line.{Line}
 use Rattle.pager_model.specs.declared.entry.Entry.{Entry}
 use Rattle.pager_model.specs.declared.trace.Daemon.{Daemon}
@@ -17,41 +18,40 @@ use Rattle.space_core.specs.Standing.{Kept}
 use Rattle.flight_core.specs.declared.flight.Flight.{Flight}
 use Rattle.flight_core.specs.Lacking.{NeverLacks}
 use Rattle.flight_core.specs.Rows.{has_ended, new_flight, new_turn, row_of}
-use Rattle.step_log.specs.Counting.{IsCounted}
 use Rattle.step_log.specs.Whole.{AreAt, CanGoOn, WentOn}
-use Rattle.step_log.specs.declared.counted.Counted.{Counted}
 use Rattle.pager_core.specs.Running.{flight_for}
 use Rattle.pager_core.proofs.StartMachines.{length-calls}
 use Rattle.stream_core.specs.Streaming.{IsAt, IsCalled, IsDue, IsNext, Streaming, TookTurns, turns_in}
-use Rattle.stream_core.proofs.MadeJobs.{IsNextJob, at_start, counted_for, lacks_none, lasting}
-use Rattle.stream_core.proofs.Streams.{IsAt-call, IsAt-turn, next_call, next_turn, so_far, standing}
+use Rattle.stream_core.specs.Tallies.{IsTallied, Tallied}
+use Rattle.stream_core.proofs.MadeJobs.{IsNextJob, at_start, lacks_none, lasting}
+use Rattle.stream_core.proofs.Streams.{IsAt-call, IsAt-turn, next_call, next_turn, sequence, so_far, standing}
 
 -- all steps of a flight were done
-abbrev pub Flown : Counted → List Kept → FrameState → Flight → Counted → Flight → List Kept → FrameState → Type 0
-Flown counted spaces pool f counted' f' spaces' pool' =
-    (g : Given) (h : List Entry) (before : ℕ) → IsCounted counted h → AreAt g h before spaces pool f
-    → WentOn counted_for g h before counted' f f' spaces' pool'
+abbrev pub Flown : Tallied → List Kept → FrameState → Flight → Tallied → Flight → List Kept → FrameState → Type 0
+Flown tally spaces pool f tally' f' spaces' pool' =
+    (g : Given) (h : List Entry) (before : ℕ) → IsTallied tally g h → AreAt g h before spaces pool f
+    → WentOn IsTallied g h before tally' f f' spaces' pool'
 
 module _ (plan : Plan) (stores : List Stored) (calls : List Line) (h : List Entry) (s : Streaming) (at : IsAt plan stores calls h s) where
   -- a flight of a job that can be next
   module _ (c n : ℕ) (job : Job) (next : IsNextJob (setting_over plan stores) h c n job) (f : Flight) (f_is : f ≡ flight_for c n job) where
     begins : AreAt (setting_over plan stores) h 0 s.spaces s.pool f
     begins = subst (AreAt (setting_over plan stores) h 0 s.spaces s.pool) (sym f_is)
-        (at_start (setting_over plan stores) h s.counted s.spaces s.pool c n job (standing plan stores calls h s at) next)
+        (at_start (setting_over plan stores) h s.tally s.spaces s.pool c n job (standing plan stores calls h s at) next)
 
-    can_go : CanGoOn counted_for s.counted s.spaces s.pool f
-    can_go = record { setting = setting_over plan stores; history = h; before = 0; stands_for = at.counted; at = begins }
+    can_go : CanGoOn IsTallied s.tally s.spaces s.pool f
+    can_go = record { setting = setting_over plan stores; history = h; before = 0; stands_for = at.tallied; at = begins }
 
-    went_on : (counted' : Counted) (f' : Flight) (spaces' : List Kept) (pool' : FrameState)
-        → Flown s.counted s.spaces s.pool f counted' f' spaces' pool'
-        → WentOn counted_for (setting_over plan stores) h 0 counted' (flight_for c n job) f' spaces' pool'
-    went_on counted' f' spaces' pool' flown =
-        subst (λ (x : Flight). WentOn counted_for (setting_over plan stores) h 0 counted' x f' spaces' pool') f_is
-        (flown (setting_over plan stores) h 0 at.counted begins)
+    went_on : (tally' : Tallied) (f' : Flight) (spaces' : List Kept) (pool' : FrameState)
+        → Flown s.tally s.spaces s.pool f tally' f' spaces' pool'
+        → WentOn IsTallied (setting_over plan stores) h 0 tally' (flight_for c n job) f' spaces' pool'
+    went_on tally' f' spaces' pool' flown =
+        subst (λ (x : Flight). WentOn IsTallied (setting_over plan stores) h 0 tally' x f' spaces' pool') f_is
+        (flown (setting_over plan stores) h 0 at.tallied begins)
 
-    spaces_same : (counted' : Counted) (f' : Flight) (spaces' : List Kept) (pool' : FrameState)
-        → Flown s.counted s.spaces s.pool f counted' f' spaces' pool' → length spaces' ≡ length s.spaces
-    spaces_same counted' f' spaces' pool' flown = (went_on counted' f' spaces' pool' flown).at.count ∙ sym at.rest.count
+    spaces_same : (tally' : Tallied) (f' : Flight) (spaces' : List Kept) (pool' : FrameState)
+        → Flown s.tally s.spaces s.pool f tally' f' spaces' pool' → length spaces' ≡ length s.spaces
+    spaces_same tally' f' spaces' pool' flown = (went_on tally' f' spaces' pool' flown).at.count ∙ sym at.rest.count
 
   -- A turn.
   module _ (due : IsDue plan calls s.turns) (d : Daemon) (is : s.daemon ≡ Some d) (other : s.turns ≢ d.turns) (f : Flight)
@@ -74,29 +74,30 @@ module _ (plan : Plan) (stores : List Stored) (calls : List Line) (h : List Entr
     next : IsNextJob (setting_over plan stores) h plan.processors s.turns (Turn d.low)
     next = next_turn plan stores calls h s at d has left many
 
-    pub can_turn : CanGoOn counted_for s.counted s.spaces s.pool f
+    pub can_turn : CanGoOn IsTallied s.tally s.spaces s.pool f
     can_turn = can_go plan.processors s.turns (Turn d.low) next f flight_is
 
-    pub turn_count : (counted' : Counted) (f' : Flight) (spaces' : List Kept) (pool' : FrameState)
-        → Flown s.counted s.spaces s.pool f counted' f' spaces' pool' → length spaces' ≡ length s.spaces
+    pub turn_count : (tally' : Tallied) (f' : Flight) (spaces' : List Kept) (pool' : FrameState)
+        → Flown s.tally s.spaces s.pool f tally' f' spaces' pool' → length spaces' ≡ length s.spaces
     turn_count = spaces_same plan.processors s.turns (Turn d.low) next f flight_is
 
-    pub TookTurns-flown : (counted' : Counted) (f' : Flight) (spaces' : List Kept) (pool' : FrameState)
-        → Flown s.counted s.spaces s.pool f counted' f' spaces' pool' → has_ended (row_of f').outcome ≡ true
-        → TookTurns plan stores calls h s.turns 1 (record s { turns = s.turns + 1; counted = counted'; spaces = spaces'; pool = pool' })
-    TookTurns-flown counted' f' spaces' pool' flown ended =
-        let went = went_on plan.processors s.turns (Turn d.low) next f flight_is counted' f' spaces' pool' flown in
+    pub TookTurns-flown : (tally' : Tallied) (f' : Flight) (spaces' : List Kept) (pool' : FrameState)
+        → Flown s.tally s.spaces s.pool f tally' f' spaces' pool' → has_ended (row_of f').outcome ≡ true
+        → TookTurns plan stores calls h s.turns 1 (record s { turns = s.turns + 1; tally = tally'; spaces = spaces'; pool = pool' })
+    TookTurns-flown tally' f' spaces' pool' flown ended =
+        let went = went_on plan.processors s.turns (Turn d.low) next f flight_is tally' f' spaces' pool' flown in
         record {
           piece = went.piece;
-          at = IsAt-turn plan stores calls h s at d has left many counted' f' spaces' pool' went ended;
+          at = IsAt-turn plan stores calls h s at d has left many tally' f' spaces' pool' went ended;
           turns = sym (min-eq_right (let below = left in let most = all in omega (arith, below, most)));
-          lacks = lacks_none (setting_over plan stores) h counted' spaces' pool' plan.processors s.turns d.low f' went;
+          lacks = lacks_none (setting_over plan stores) h tally' spaces' pool' plan.processors s.turns d.low f' went;
+          none = λ alone. absurd (none-some d (sym alone ∙ has));
         }
 
   -- no turn, where none is left
   pub TookTurns-none : (more : ℕ) → s.turns ≡ min (turns_in plan.daemon) (s.turns + more) → TookTurns plan stores calls h s.turns more s
   TookTurns-none more same =
-      record { piece = []; at = subst (λ l. IsAt plan stores calls l s) (sym (append-nil h)) at; turns = same; lacks = tt }
+      record { piece = []; at = subst (λ l. IsAt plan stores calls l s) (sym (append-nil h)) at; turns = same; lacks = tt; none = λ alone. refl }
 
   pub TookTurns-all : turns_in s.daemon ≤ s.turns → TookTurns plan stores calls h s.turns 1 s
   TookTurns-all most =
@@ -111,11 +112,11 @@ module _ (plan : Plan) (stores : List Stored) (calls : List Line) (h : List Entr
     next_one : IsNextJob (setting_over plan stores) h line.processor (slice_index_or s.numbers line.processor 0) (MakesCall line.call)
     next_one = next_call plan stores calls h s at line ready (slice_index_or s.numbers line.processor 0) refl turns
 
-    pub can_call : CanGoOn counted_for s.counted s.spaces s.pool f
+    pub can_call : CanGoOn IsTallied s.tally s.spaces s.pool f
     can_call = can_go line.processor (slice_index_or s.numbers line.processor 0) (MakesCall line.call) next_one f f_is
 
-    pub call_count : (counted' : Counted) (f' : Flight) (spaces' : List Kept) (pool' : FrameState)
-        → Flown s.counted s.spaces s.pool f counted' f' spaces' pool' → length spaces' ≡ length s.spaces
+    pub call_count : (tally' : Tallied) (f' : Flight) (spaces' : List Kept) (pool' : FrameState)
+        → Flown s.tally s.spaces s.pool f tally' f' spaces' pool' → length spaces' ≡ length s.spaces
     call_count = spaces_same line.processor (slice_index_or s.numbers line.processor 0) (MakesCall line.call) next_one f f_is
 
     -- its processor's number and that of all calls still have 32 bits
@@ -129,23 +130,24 @@ module _ (plan : Plan) (stores : List Stored) (calls : List Line) (h : List Entr
     pub calls_small : s.calls + 1 < 4294967296
     calls_small = (let all = at.calls_are in let few = ready.few in omega (arith, all, few))
 
-    pub IsCalled-flown : (lasts : Bool) (counted' : Counted) (f' : Flight) (spaces' : List Kept) (pool' : FrameState)
-        → Flown s.counted s.spaces s.pool f counted' f' spaces' pool' → has_ended (row_of f').outcome ≡ true
+    pub IsCalled-flown : (lasts : Bool) (tally' : Tallied) (f' : Flight) (spaces' : List Kept) (pool' : FrameState)
+        → Flown s.tally s.spaces s.pool f tally' f' spaces' pool' → has_ended (row_of f').outcome ≡ true
         → (lasts ≡ true → NeverLacks f.phase f'.phase)
-        → IsCalled lasts plan stores (calls ++ line ∷ []) h s.turns (record s {
+        → IsCalled lasts plan stores calls line h s.turns (record s {
           numbers = set s.numbers line.processor (slice_index_or s.numbers line.processor 0 + 1);
           calls = s.calls + 1;
-          counted = counted';
+          tally = tally';
           spaces = spaces';
           pool = pool';
         })
-    IsCalled-flown lasts counted' f' spaces' pool' flown ended never =
+    IsCalled-flown lasts tally' f' spaces' pool' flown ended never =
         let n : ℕ = slice_index_or s.numbers line.processor 0 in
-        let went = went_on line.processor n (MakesCall line.call) next_one f f_is counted' f' spaces' pool' flown in
+        let went = went_on line.processor n (MakesCall line.call) next_one f f_is tally' f' spaces' pool' flown in
         record {
           piece = went.piece;
-          at = IsAt-call plan stores calls h s at line ready n refl turns counted' f' spaces' pool' went ended;
+          at = IsAt-call plan stores calls h s at line ready n refl turns tally' f' spaces' pool' went ended;
+          sequence = sequence plan stores calls h s at line ready n refl turns tally' f' spaces' pool' went ended;
           turns = refl;
-          lasting = λ lasts_is. lasting (setting_over plan stores) h counted' spaces' pool' line.processor n line.call f' went ended
+          lasting = λ lasts_is. lasting (setting_over plan stores) h tally' spaces' pool' line.processor n line.call f' went ended
               (subst (λ (x : Flight). NeverLacks x.phase f'.phase) f_is (never lasts_is));
         }

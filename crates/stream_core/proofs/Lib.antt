@@ -3,3 +3,4 @@ pub mod Fronts
 pub mod Streams
 pub mod Flown
 pub mod Ends
+mod Tallies

@@ -26,17 +26,17 @@ use Rattle.flight_core.specs.Lacking.{NeverLacks, NoneLacked, is_lacking, is_no_
 use Rattle.flight_core.specs.Rows.{Outcome, Going, TurnEnded, Answered, has_ended, is_of_call, reply_in, row_of}
 use Rattle.flight_core.specs.Steps.{answer_made, reply_said}
 use Rattle.flight_core.proofs.NextFlights.{ended_by, of_calls, turn_goes_on}
-use Rattle.step_log.specs.Counting.{IsCounted, most_in_history}
+use Rattle.step_log.specs.Counting.{most_in_history}
 use Rattle.step_log.specs.Flying.{IsSpaceIn}
 use Rattle.step_log.specs.Logged.{replies_in}
 use Rattle.step_log.specs.Whole.{AreAt, WentOn}
-use Rattle.step_log.specs.declared.counted.Counted.{Counted}
 use Rattle.step_log.proofs.Later.{later_none}
 use Rattle.pager_core.specs.Machines.{CanDo}
 use Rattle.pager_core.specs.RunParts.{AreAtRest}
 use Rattle.pager_core.specs.Running.{FitsMark, entries_of_job, flight_for, job_in}
 use Rattle.pager_core.proofs.Lands.{Fits-for, Starts, Starts-for, ended_keeps, ended_progress, job_kept, mark_of_job, own-for, under-for}
 use Rattle.replay_core.proofs.FiledLemmas.{entries_on}
+use Rattle.stream_core.specs.Tallies.{IsTallied, Tallied}
 
 -- Replies of a piece of a history.
 
@@ -59,14 +59,10 @@ turn_answers_none : (purpose : Purpose) (r : Reply) → is_of_call purpose ≡ f
 turn_answers_none (OfCall call claimed) r kind for = false≢true (sym kind)
 turn_answers_none (OfTurn mark evictions) r kind for = for
 
--- a log of counts, as what it stands for
-abbrev pub counted_for : Counted → Given → List Entry → Type 0
-counted_for c g h = IsCounted c h
-
--- What is where nothing is in progress: a legal history, its counts, and the spaces and frames after it.
-pub record StandAfter (g : Given) (h : List Entry) (counted : Counted) (spaces : List Kept) (pool : FrameState) : Type 0 where
+-- What is where nothing is in progress: a legal history, what was counted of it, and the spaces and frames after it.
+pub record StandAfter (g : Given) (h : List Entry) (tally : Tallied) (spaces : List Kept) (pool : FrameState) : Type 0 where
   pub legal : IsLegal g h
-  pub counted_is : IsCounted counted h
+  pub tallied : IsTallied tally g h
   pub rest : AreAtRest g h spaces pool
   pub number : (s : ℕ) (kept : Kept) → slice_get spaces s ≡ Some kept → kept.number ≡ s
   pub space : (s : ℕ) (kept : Kept) → slice_get spaces s ≡ Some kept → IsSpaceIn g kept
@@ -79,8 +75,8 @@ pub record IsNextJob (g : Given) (h : List Entry) (c n : ℕ) (job : Job) : Type
   pub can : CanDo (length g.told) job
   pub few : length h + entries_of_job job ≤ most_in_history
 
-module _ (g : Given) (h : List Entry) (counted : Counted) (spaces : List Kept) (pool : FrameState) (c n : ℕ) (job : Job)
-    (stand : StandAfter g h counted spaces pool) (next : IsNextJob g h c n job) where
+module _ (g : Given) (h : List Entry) (tally : Tallied) (spaces : List Kept) (pool : FrameState) (c n : ℕ) (job : Job)
+    (stand : StandAfter g h tally spaces pool) (next : IsNextJob g h c n job) where
   flight : Flight
   flight = flight_for c n job
 
@@ -114,23 +110,23 @@ module _ (g : Given) (h : List Entry) (counted : Counted) (spaces : List Kept) (
   pub goes : has_ended (row_of (flight_for c n job)).outcome ≡ false
   goes = ap has_ended starts.going
 
-  pub has_room : (row_of (flight_for c n job)).entries ≤ counted.left
-  has_room = (let entries = starts.entries in let all = stand.counted_is.left in let few = next.few in omega (arith, entries, all, few))
+  pub has_room : (row_of (flight_for c n job)).entries ≤ tally.counted.left
+  has_room = (let entries = starts.entries in let all = stand.tallied.counted.left in let few = next.few in omega (arith, entries, all, few))
 
   -- once it was done
-  module _ (counted' : Counted) (f' : Flight) (spaces' : List Kept) (pool' : FrameState)
-      (went : WentOn counted_for g h 0 counted' (flight_for c n job) f' spaces' pool') (ended : has_ended (row_of f').outcome ≡ true) where
+  module _ (tally' : Tallied) (f' : Flight) (spaces' : List Kept) (pool' : FrameState)
+      (went : WentOn IsTallied g h 0 tally' (flight_for c n job) f' spaces' pool') (ended : has_ended (row_of f').outcome ≡ true) where
     job_is : job_in f'.purpose ≡ job
     job_is = job_kept went.added.same_work ∙ starts.job_is
 
     marked : FitsMark (mark_of g c) (job_in f'.purpose)
     marked = subst (FitsMark (mark_of g c)) (sym job_is) next.marked
 
-    pub stand_then : StandAfter g went.history counted' spaces' pool'
+    pub stand_then : StandAfter g went.history tally' spaces' pool'
     stand_then =
         record {
           legal = went.at.legal;
-          counted_is = went.stands_for;
+          tallied = went.stands_for;
           rest = record {
             count = went.at.count;
             spaces_rest = λ s kept got. went.at.rest s kept got (λ is. none-some s (sym (ended_keeps f' ended) ∙ is));
@@ -161,8 +157,8 @@ module _ (g : Given) (h : List Entry) (counted : Counted) (spaces : List Kept) (
         ∙ ap (λ l. progress_at g l c) (sym went.grown) ∙ made_then
 
 -- A call was answered.
-module _ (g : Given) (h : List Entry) (counted' : Counted) (spaces' : List Kept) (pool' : FrameState) (c n : ℕ) (call : Call) (f' : Flight)
-    (went : WentOn counted_for g h 0 counted' (flight_for c n (MakesCall call)) f' spaces' pool') (ended : has_ended (row_of f').outcome ≡ true) where
+module _ (g : Given) (h : List Entry) (tally' : Tallied) (spaces' : List Kept) (pool' : FrameState) (c n : ℕ) (call : Call) (f' : Flight)
+    (went : WentOn IsTallied g h 0 tally' (flight_for c n (MakesCall call)) f' spaces' pool') (ended : has_ended (row_of f').outcome ≡ true) where
   answered : (r : Reply) × ((row_of f').outcome ≡ Answered r)
   answered = by (row_of f').outcome refl
     where
@@ -183,8 +179,8 @@ module _ (g : Given) (h : List Entry) (counted' : Counted) (spaces' : List Kept)
       (sym (went.added.replies ∙ ap (λ o. option_to_list (reply_in o)) answered.1)) (reply, tt))
 
 -- A turn ended.
-module _ (g : Given) (h : List Entry) (counted' : Counted) (spaces' : List Kept) (pool' : FrameState) (c n low : ℕ) (f' : Flight)
-    (went : WentOn counted_for g h 0 counted' (flight_for c n (Turn low)) f' spaces' pool') where
+module _ (g : Given) (h : List Entry) (tally' : Tallied) (spaces' : List Kept) (pool' : FrameState) (c n low : ℕ) (f' : Flight)
+    (went : WentOn IsTallied g h 0 tally' (flight_for c n (Turn low)) f' spaces' pool') where
   none_told : reply_in (row_of f').outcome ≡ None
   none_told = by (row_of f').outcome refl
     where

@@ -26,9 +26,7 @@ use Rattle.pager_model.proofs.Histories.{progress_from-append}
 use Rattle.space_core.specs.Standing.{Kept}
 use Rattle.flight_core.specs.declared.flight.Flight.{Flight}
 use Rattle.flight_core.specs.Rows.{has_ended, row_of}
-use Rattle.step_log.specs.Counting.{IsCounted}
 use Rattle.step_log.specs.Whole.{WentOn}
-use Rattle.step_log.specs.declared.counted.Counted.{Counted}
 use Rattle.pager_core.specs.RunParts.{AreNewSpaces}
 use Rattle.pager_core.specs.Running.{flight_for}
 use Rattle.pager_core.proofs.Lists.{enumerate-push}
@@ -36,8 +34,9 @@ use Rattle.pager_core.proofs.StartMachines.{call_on}
 use Rattle.replay_core.proofs.FiledLemmas.{FilesLines-line, FilesLines-turn, calls_of-append, calls_of-other, calls_of-own, entries_on}
 use Rattle.replay_core.proofs.RunLemmas.{told-over}
 use Rattle.stream_core.specs.Streaming.{IsAfter, IsAt, IsNext, IsOpening, Streaming, low_in, turns_in}
+use Rattle.stream_core.specs.Tallies.{IsTallied, Tallied}
 use Rattle.stream_core.proofs.Fronts.{MakesTurns-part, turns_few, turns_of_part}
-use Rattle.stream_core.proofs.MadeJobs.{IsNextJob, StandAfter, answer, counted_for, few_more, leads, own, stand_then}
+use Rattle.stream_core.proofs.MadeJobs.{IsNextJob, StandAfter, answer, few_more, leads, own, stand_then}
 
 -- Other processors' entries.
 
@@ -56,9 +55,9 @@ others_on c d other h piece all =
 -- The start.
 
 pub IsAfter-start : (plan : Plan) → IsOpening plan → (stores : List Stored) → plan.spaces ≤ length stores → AreCapped plan.spaces stores
-    → (numbers : List ℕ) (daemon : Option Daemon) (processors : ℕ) (counted : Counted) (spaces : List Kept) (pool : FrameState) (unused : List Stored)
+    → (numbers : List ℕ) (daemon : Option Daemon) (processors : ℕ) (tally : Tallied) (spaces : List Kept) (pool : FrameState) (unused : List Stored)
     → daemon ≡ plan.daemon → processors ≡ plan.processors → AreNewSpaces (setting_over plan stores) spaces
-    → pool ≡ start_frames plan.sizes plan.frames (actors plan) → IsCounted counted [] → length numbers ≡ 16
+    → pool ≡ start_frames plan.sizes plan.frames (actors plan) → IsTallied tally (setting_over plan stores) [] → length numbers ≡ 16
     → ((c : ℕ) → c < 16 → slice_index_or numbers c 0 ≡ 0) → unused ≡ drop plan.spaces stores
     → IsAfter plan stores [] [] (record {
       numbers = numbers;
@@ -66,12 +65,12 @@ pub IsAfter-start : (plan : Plan) → IsOpening plan → (stores : List Stored) 
       daemon = daemon;
       processors = processors;
       turns = 0;
-      counted = counted;
+      tally = tally;
       spaces = spaces;
       pool = pool;
       unused = unused;
     })
-IsAfter-start plan opening stores enough capped numbers daemon processors counted spaces pool unused daemon_is behind new pool_is none sixteen zeros
+IsAfter-start plan opening stores enough capped numbers daemon processors tally spaces pool unused daemon_is behind new pool_is none sixteen zeros
     unused_is =
     record {
       at = record {
@@ -89,7 +88,7 @@ IsAfter-start plan opening stores enough capped numbers daemon processors counte
         };
         made = λ c known. refl;
         short = omega arith;
-        counted = none;
+        tallied = none;
         rest = record {
           count = new.count;
           spaces_rest = λ s kept at. record { resting = (new.new s kept at).resting; stands = (new.new s kept at).stands; next = refl };
@@ -117,8 +116,8 @@ IsAfter-start plan opening stores enough capped numbers daemon processors counte
 
 module _ (plan : Plan) (stores : List Stored) (calls : List Line) (h : List Entry) (s : Streaming) (at : IsAt plan stores calls h s) where
   -- nothing is in progress
-  pub standing : StandAfter (setting_over plan stores) h s.counted s.spaces s.pool
-  standing = record { legal = at.legal; counted_is = at.counted; rest = at.rest; number = at.number; space = at.space }
+  pub standing : StandAfter (setting_over plan stores) h s.tally s.spaces s.pool
+  standing = record { legal = at.legal; tallied = at.tallied; rest = at.rest; number = at.number; space = at.space }
 
   -- the daemon has made its turns so far
   turned : (d : Daemon) → plan.daemon ≡ Some d → progress_of d.low (entries_of plan.processors h) ≡ Some (at_rest d.low s.turns)
@@ -150,17 +149,17 @@ module _ (plan : Plan) (stores : List Stored) (calls : List Line) (h : List Entr
               omega (arith, short, few, left, most, low);
         }
 
-    module _ (counted' : Counted) (f' : Flight) (spaces' : List Kept) (pool' : FrameState)
-        (went : WentOn counted_for (setting_over plan stores) h 0 counted' (flight_for plan.processors s.turns (Turn d.low)) f' spaces' pool')
+    module _ (tally' : Tallied) (f' : Flight) (spaces' : List Kept) (pool' : FrameState)
+        (went : WentOn IsTallied (setting_over plan stores) h 0 tally' (flight_for plan.processors s.turns (Turn d.low)) f' spaces' pool')
         (ended : has_ended (row_of f').outcome ≡ true) where
       entries_own : AllByRecursion (λ (e : Entry). e.processor ≡ plan.processors) went.piece
-      entries_own = own (setting_over plan stores) h s.counted s.spaces s.pool plan.processors s.turns (Turn d.low) standing next_turn
-          counted' f' spaces' pool' went ended
+      entries_own = own (setting_over plan stores) h s.tally s.spaces s.pool plan.processors s.turns (Turn d.low) standing next_turn
+          tally' f' spaces' pool' went ended
 
       led : progress_from (Some (at_rest d.low s.turns)) went.piece ≡ Some (at_rest d.low (s.turns + 1))
       led = subst (λ m. progress_from (Some (at_rest m s.turns)) went.piece ≡ Some (at_rest m (s.turns + 1))) mark_is
-          (leads (setting_over plan stores) h s.counted s.spaces s.pool plan.processors s.turns (Turn d.low) standing next_turn
-          counted' f' spaces' pool' went ended)
+          (leads (setting_over plan stores) h s.tally s.spaces s.pool plan.processors s.turns (Turn d.low) standing next_turn
+          tally' f' spaces' pool' went ended)
 
       turn : IsTurn plan.processors (low_in plan.daemon) went.piece
       turn = subst (λ m. IsTurn plan.processors m went.piece) (sym (ap low_in is)) (record { own = entries_own; made = s.turns; leads = led })
@@ -177,16 +176,16 @@ module _ (plan : Plan) (stores : List Stored) (calls : List Line) (h : List Entr
       same : (c : ℕ) → c < plan.processors → entries_of c (h ++ went.piece) ≡ entries_of c h
       same c known = others_on plan.processors c (λ e. omega (arith, known, e)) h went.piece entries_own
 
-      stand : StandAfter (setting_over plan stores) (h ++ went.piece) counted' spaces' pool'
-      stand = subst (λ l. StandAfter (setting_over plan stores) l counted' spaces' pool') went.grown
-          (stand_then (setting_over plan stores) h s.counted s.spaces s.pool plan.processors s.turns (Turn d.low) standing next_turn
-          counted' f' spaces' pool' went ended)
+      stand : StandAfter (setting_over plan stores) (h ++ went.piece) tally' spaces' pool'
+      stand = subst (λ l. StandAfter (setting_over plan stores) l tally' spaces' pool') went.grown
+          (stand_then (setting_over plan stores) h s.tally s.spaces s.pool plan.processors s.turns (Turn d.low) standing next_turn
+          tally' f' spaces' pool' went ended)
 
       within : s.turns + 1 ≤ turns_in plan.daemon
       within = (let all = ap turns_in is in omega (arith, all, left))
 
       pub IsAt-turn : IsAt plan stores calls (h ++ went.piece)
-          (record s { turns = s.turns + 1; counted = counted'; spaces = spaces'; pool = pool' })
+          (record s { turns = s.turns + 1; tally = tally'; spaces = spaces'; pool = pool' })
       IsAt-turn =
           record {
             opening = at.opening;
@@ -209,10 +208,10 @@ module _ (plan : Plan) (stores : List Stored) (calls : List Line) (h : List Entr
                 let long = length-append h went.piece in
                 let short = at.short in
                 let low = daemon_in.0.1 in
-                let few = few_more (setting_over plan stores) h s.counted s.spaces s.pool plan.processors s.turns (Turn d.low) standing next_turn
-                counted' f' spaces' pool' went ended in
+                let few = few_more (setting_over plan stores) h s.tally s.spaces s.pool plan.processors s.turns (Turn d.low) standing next_turn
+                tally' f' spaces' pool' went ended in
                 omega (arith, long, short, low, few);
-            counted = stand.counted_is;
+            tallied = stand.tallied;
             rest = stand.rest;
             number = stand.number;
             space = stand.space;
@@ -256,28 +255,28 @@ module _ (plan : Plan) (stores : List Stored) (calls : List Line) (h : List Entr
           few = (let short = at.short in let few = next.few in let most = few_turns in omega (arith, short, few, most));
         }
 
-    module _ (counted' : Counted) (f' : Flight) (spaces' : List Kept) (pool' : FrameState)
-        (went : WentOn counted_for (setting_over plan stores) h 0 counted' (flight_for line.processor n (MakesCall line.call)) f' spaces' pool')
+    module _ (tally' : Tallied) (f' : Flight) (spaces' : List Kept) (pool' : FrameState)
+        (went : WentOn IsTallied (setting_over plan stores) h 0 tally' (flight_for line.processor n (MakesCall line.call)) f' spaces' pool')
         (ended : has_ended (row_of f').outcome ≡ true) where
       call_own : AllByRecursion (λ (e : Entry). e.processor ≡ line.processor) went.piece
-      call_own = own (setting_over plan stores) h s.counted s.spaces s.pool line.processor n (MakesCall line.call) standing next_call
-          counted' f' spaces' pool' went ended
+      call_own = own (setting_over plan stores) h s.tally s.spaces s.pool line.processor n (MakesCall line.call) standing next_call
+          tally' f' spaces' pool' went ended
 
       call_led : progress_from (Some (at_rest 0 n)) went.piece ≡ Some (at_rest 0 (n + 1))
       call_led = subst (λ m. progress_from (Some (at_rest m n)) went.piece ≡ Some (at_rest m (n + 1))) unmarked
-          (leads (setting_over plan stores) h s.counted s.spaces s.pool line.processor n (MakesCall line.call) standing next_call
-          counted' f' spaces' pool' went ended)
+          (leads (setting_over plan stores) h s.tally s.spaces s.pool line.processor n (MakesCall line.call) standing next_call
+          tally' f' spaces' pool' went ended)
 
       answered : answers_in went.piece ≡ (n, line.call) ∷ []
-      answered = answer (setting_over plan stores) h counted' spaces' pool' line.processor n line.call f' went ended
+      answered = answer (setting_over plan stores) h tally' spaces' pool' line.processor n line.call f' went ended
 
-      sequence : IsSequence line went.piece
+      pub sequence : IsSequence line went.piece
       sequence = record { own = call_own; made = n; leads = call_led; answer = answered }
 
-      call_stand : StandAfter (setting_over plan stores) (h ++ went.piece) counted' spaces' pool'
-      call_stand = subst (λ l. StandAfter (setting_over plan stores) l counted' spaces' pool') went.grown
-          (stand_then (setting_over plan stores) h s.counted s.spaces s.pool line.processor n (MakesCall line.call) standing next_call
-          counted' f' spaces' pool' went ended)
+      call_stand : StandAfter (setting_over plan stores) (h ++ went.piece) tally' spaces' pool'
+      call_stand = subst (λ l. StandAfter (setting_over plan stores) l tally' spaces' pool') went.grown
+          (stand_then (setting_over plan stores) h s.tally s.spaces s.pool line.processor n (MakesCall line.call) standing next_call
+          tally' f' spaces' pool' went ended)
 
       -- the calls and the entries of the line's processor, and of others
       calls_own : calls_of line.processor (calls ++ line ∷ []) ≡ calls_of line.processor calls ++ line.call ∷ []
@@ -349,7 +348,7 @@ module _ (plan : Plan) (stores : List Stored) (calls : List Line) (h : List Entr
           (record s {
             numbers = set s.numbers line.processor (n + 1);
             calls = s.calls + 1;
-            counted = counted';
+            tally = tally';
             spaces = spaces';
             pool = pool';
           })
@@ -372,10 +371,10 @@ module _ (plan : Plan) (stores : List Stored) (calls : List Line) (h : List Entr
             short =
                 let long = length-append h went.piece in
                 let short = at.short in
-                let few = few_more (setting_over plan stores) h s.counted s.spaces s.pool line.processor n (MakesCall line.call) standing next_call
-                counted' f' spaces' pool' went ended in
+                let few = few_more (setting_over plan stores) h s.tally s.spaces s.pool line.processor n (MakesCall line.call) standing next_call
+                tally' f' spaces' pool' went ended in
                 omega (arith, long, short, few, longer);
-            counted = call_stand.counted_is;
+            tallied = call_stand.tallied;
             rest = call_stand.rest;
             number = call_stand.number;
             space = call_stand.space;

@@ -1,5 +1,7 @@
 -- A run by the order of the lines of whose history nothing is kept: which histories it stands for, and what a call and its end make of them.
-use Rattle.std.specs.Prelude.{ℕ, ◌≡◌, ◌+◌, ◌*◌, ◌<◌, ◌≤◌, ◌⊎◌, min, Bool, true, List, ◌++◌, [], All, drop, length, slice_get, slice_index_or, Option, Some, None}
+use Rattle.std.specs.Prelude.{ℕ, ◌≡◌, ◌+◌, ◌*◌, ◌<◌, ◌≤◌, ◌⊎◌, min, Bool, true, List, ◌++◌, [], ◌∷◌, All, drop, length, slice_get, slice_index_or, Option, Some, None, IfSome}
+use Rattle.miss_curves.specs.declared.stacks.Curves.{Curves}
+use Rattle.miss_curves.specs.Curves.{AreCurves, stream_capacities}
 use Rattle.pager_model.specs.declared.call.Line.{Line}
 use Rattle.pager_model.specs.declared.entry.Entry.{Entry}
 use Rattle.pager_model.specs.declared.entry.Numbered.{Numbered}
@@ -11,17 +13,16 @@ use Rattle.pager_model.specs.FrameStates.{FrameState}
 use Rattle.pager_model.specs.Legal.{IsLegal, entries_in}
 use Rattle.pager_model.specs.Order.{at_rest, progress_of}
 use Rattle.pager_model.specs.Plans.{Plan}
-use Rattle.pager_model.specs.Showing.{FilesLines, IsFiled, Shows, calls_of}
+use Rattle.pager_model.specs.Showing.{FilesLines, IsFiled, IsSequence, Shows, calls_of}
 use Rattle.pager_model.specs.Stored.{Stored}
 use Rattle.pager_model.specs.Stores.{AreCapped, setting_over}
 use Rattle.pager_model.specs.TraceText.{HasText, IsLine}
 use Rattle.flight_core.specs.Lacking.{NoneLacked}
 use Rattle.space_core.specs.Standing.{Kept}
-use Rattle.step_log.specs.declared.counted.Counted.{Counted}
-use Rattle.step_log.specs.Counting.{IsCounted}
 use Rattle.step_log.specs.Flying.{IsSpaceIn}
 use Rattle.pager_core.specs.RunParts.{AreAtRest}
 use Rattle.replay_core.specs.Replays.{IsReplay}
+use Rattle.stream_core.specs.Tallies.{IsTallied, Tallied}
 
 -- A stream as contracts see it.
 pub record Streaming : Type 0 where
@@ -32,7 +33,7 @@ pub record Streaming : Type 0 where
   pub daemon : Option Daemon
   pub processors : ℕ
   pub turns : ℕ
-  pub counted : Counted
+  pub tally : Tallied
   pub spaces : List Kept
   pub pool : FrameState
   -- the stores that no space uses
@@ -87,7 +88,7 @@ pub record IsAt (plan : Plan) (stores : List Stored) (calls : List Line) (h : Li
   pub shows : Shows (record plan { calls = calls; daemon = daemon_before plan.daemon s.turns }) h
   pub made : (c : ℕ) → c < plan.processors → progress_of 0 (entries_of c h) ≡ Some (at_rest 0 (length (calls_of c calls)))
   pub short : length h ≤ 8 * length calls + 257 * s.turns
-  pub counted : IsCounted s.counted h
+  pub tallied : IsTallied s.tally (setting_over plan stores) h
   pub rest : AreAtRest (setting_over plan stores) h s.spaces s.pool
   pub number : (n : ℕ) (kept : Kept) → slice_get s.spaces n ≡ Some kept → kept.number ≡ n
   pub space : (n : ℕ) (kept : Kept) → slice_get s.spaces n ≡ Some kept → IsSpaceIn (setting_over plan stores) kept
@@ -134,12 +135,13 @@ pub record CanTurn (s : Streaming) : Type 0 where
   pub at : IsAt plan stores calls history s
   pub due : IsDue plan calls s.turns
 
--- The history went on by this many turns after so many, or by all that were left, of which none answers a call.
+-- The history went on by this many turns after so many, or by all that were left, of which none answers a call; without a daemon by nothing.
 pub record TookTurns (plan : Plan) (stores : List Stored) (calls : List Line) (h : List Entry) (before more : ℕ) (s : Streaming) : Type 0 where
   pub piece : List Entry
   pub at : IsAt plan stores calls (h ++ piece) s
   pub turns : s.turns ≡ min (turns_in plan.daemon) (before + more)
   pub lacks : NoneLacked piece
+  pub none : plan.daemon ≡ None → piece ≡ []
 
 -- Calls.
 
@@ -167,11 +169,12 @@ pub record CanCall (s : Streaming) (line : Line) : Type 0 where
   pub next : IsNext plan calls line
   pub turns : s.turns ≤ length calls + 1
 
--- The history went on by a call, to one of these calls and of as many turns as before.
-pub record IsCalled (lasts : Bool) (plan : Plan) (stores : List Stored) (calls : List Line) (h : List Entry) (before : ℕ)
+-- The history went on by the sequence of a line's call, to one of as many turns as before.
+pub record IsCalled (lasts : Bool) (plan : Plan) (stores : List Stored) (calls : List Line) (line : Line) (h : List Entry) (before : ℕ)
     (s : Streaming) : Type 0 where
   pub piece : List Entry
-  pub at : IsAt plan stores calls (h ++ piece) s
+  pub at : IsAt plan stores (calls ++ line ∷ []) (h ++ piece) s
+  pub sequence : IsSequence line piece
   pub turns : s.turns ≡ before
   pub lasting : lasts ≡ true → NoneLacked piece
 
@@ -180,6 +183,12 @@ pub record IsMade (lasts : Bool) (plan : Plan) (stores : List Stored) (calls : L
   pub piece : List Entry
   pub after : IsAfter plan stores calls (h ++ piece) s
   pub lasting : lasts ≡ true → NoneLacked piece
+
+-- The history went on by the sequence of a line's call, and by nothing else.
+pub record IsMadeAlone (plan : Plan) (stores : List Stored) (calls : List Line) (line : Line) (h : List Entry) (s : Streaming) : Type 0 where
+  pub piece : List Entry
+  pub after : IsAfter plan stores (calls ++ line ∷ []) (h ++ piece) s
+  pub sequence : IsSequence line piece
 
 -- Ends.
 
@@ -190,13 +199,16 @@ pub record IsRunTo (plan : Plan) (stores : List Stored) (calls : List Line) (h :
   pub run : IsReplay (front_of plan calls) stores history stores'
   pub filed : IsFiled (front_of plan calls) h
 
--- Ended with all of the daemon's turns: the history went on, to that of a run of the whole trace that has these calls, and these are its counts.
+-- Ended with all of the daemon's turns: the history went on, to that of a run of the whole trace that has these calls, and these are its counts, and
+-- the curves of it where it is one of one processor.
 pub record IsRunWhole (lasts : Bool) (plan : Plan) (stores : List Stored) (calls : List Line) (h : List Entry) (summary : Summary)
-    (stores' : List Stored) : Type 0 where
+    (curves : Option Curves) (stores' : List Stored) : Type 0 where
   pub piece : List Entry
   pub history : List Numbered
   pub entries : entries_in history ≡ h ++ piece
   pub run : IsReplay (with_calls plan calls) stores history stores'
   pub filed : IsFiled (with_calls plan calls) (h ++ piece)
   pub counts_are : summary ≡ counts (setting_over plan stores) (h ++ piece)
+  pub curves_are : plan.processors ≡ 1
+      → IfSome curves (λ c. AreCurves stream_capacities (setting_over plan stores) (h ++ piece) c.tiles.items c.pages.items)
   pub lasting : lasts ≡ true → NoneLacked piece

@@ -6,5 +6,6 @@
 #![tactic(auto)]
 
 mod stream;
+mod tally;
 
 pub use stream::{Finished, Stream};

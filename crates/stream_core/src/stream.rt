@@ -1,18 +1,24 @@
 //! The stream: its start, a call, its counts, and its two ends.
 
-ghost use Rattle.std.specs.Prelude.{◌≡◌, ℕ, ◌+◌, ◌≤◌, [], ◌∷◌, ◌++◌, List, IfErr, IfOk, length, map};
+ghost use Rattle.std.specs.Prelude.{◌≡◌, ℕ, ◌+◌, ◌<◌, ◌≤◌, [], ◌∷◌, ◌++◌, List, IfErr, IfOk, IfSome, None, is_some, length, map};
+ghost use Rattle.miss_curves.specs.Curves.{AreLong, stream_capacities};
 ghost use Rattle.pager_model.specs.declared.call.Line.{Line as CallLine};
 ghost use Rattle.pager_model.specs.declared.entry.Entry.{Entry};
+ghost use Rattle.pager_model.specs.Bounds.{most_spaces, space_pages};
 ghost use Rattle.pager_model.specs.Counts.{counts};
+ghost use Rattle.pager_model.specs.FrameStates.{frame_of};
 ghost use Rattle.pager_model.specs.Plans.{Plan};
 ghost use Rattle.pager_model.specs.Stored.{Stored};
 ghost use Rattle.pager_model.specs.Stores.{setting_over};
-ghost use Rattle.stream_core.specs.Streaming.{CanCall, CanMake, CanStand, CanTurn, IsAfter, IsAt, IsCalled, IsDue, IsNext, IsMade, IsRunTo, IsRunWhole, IsStanding, TookTurns, turns_in};
+ghost use Rattle.stream_core.specs.Streaming.{CanCall, CanMake, CanStand, CanTurn, IsAfter, IsAt, IsCalled, IsDue, IsNext, IsMade, IsMadeAlone, IsRunTo, IsRunWhole, IsStanding, TookTurns, turns_in};
+ghost use Rattle.stream_core.specs.Tallies.{has_curves};
 
+use crate::tally::Tally;
 use flight_core::Flight;
 use frame_pool::Pool;
+use miss_curves::Curves;
 use pager_core::{RunRoom, counts_of, stores_of};
-use pager_model::{Daemon, Line, Summary, Trace};
+use pager_model::{Answered, Daemon, Line, Summary, Trace};
 use space_core::Space;
 use std::alloc::Global;
 use std::marker::Model;
@@ -29,7 +35,7 @@ pub struct Stream<S: Store + Send + Drop> {
     daemon: Option<Daemon>,
     processors: u32,
     turns: u32,
-    counted: Counted,
+    tally: Tally,
     spaces: Vec<Space<S>>,
     pool: Pool,
     // the stores that no space uses, last first, with room for those of the spaces
@@ -48,7 +54,7 @@ impl<S: Store + Send + Drop> Model for Stream<S> {
       daemon = s.daemon;
       processors = s.processors;
       turns = s.turns;
-      counted = s.counted;
+      tally = s.tally;
       spaces = s.spaces.items;
       pool = s.pool;
       unused = map S.seen (reverse s.stores.items);
@@ -61,20 +67,32 @@ impl<S: Store + Send + Drop> Model for Stream<S> {
 #[derive(Drop)]
 pub struct Finished<S: Store + Send + Drop> {
     pub summary: Summary,
+    /// The misses at each capacity, where they were asked for.
+    pub curves: Option<Curves>,
     /// The stores that were handed in, in their order.
     pub stores: Vec<S>,
 }
 
 impl<S: Store + Send + Drop> Stream<S> {
     /// A stream at the start of a trace of whose calls none is known, whose spaces use the stores of their numbers; there are at least as many
-    /// stores as spaces. All the memory that a run takes, but for that of the stores' writes, is taken here, and for want of it the stores come back.
-    pub fn create(alloc: Global, opening: &Trace, stores: Vec<S>) -> Result<Stream<S>, Vec<S>>
+    /// stores as spaces. Where its miss curves are asked for, they are counted too. All the memory that a run takes, but for that of the stores'
+    /// writes, is taken here, and for want of it the stores come back.
+    pub fn create(
+        alloc: Global,
+        opening: &Trace,
+        stores: Vec<S>,
+        curves: bool,
+    ) -> Result<Stream<S>, Vec<S>>
         requires none { opening.now.calls ≡ [] }
         requires enough { opening.now.spaces ≤ length stores.items }
         ensures starts { IfOk result (λ s. IsAfter opening.now (map S.seen stores.items) [] [] s) }
+        ensures asked { IfOk result (λ s. has_curves s.tally ≡ curves) }
         ensures back { IfErr result (λ back. map S.seen back.items ≡ map S.seen stores.items) }
     {
         let Ok(room) = RunRoom::of(alloc, opening, stores.as_slice()) else {
+            return Err(stores);
+        };
+        let Ok(tally) = Tally::create(alloc, opening, curves) else {
             return Err(stores);
         };
         let (spaces, stores) = room.spaces.over(stores);
@@ -84,7 +102,7 @@ impl<S: Store + Send + Drop> Stream<S> {
             daemon: opening.daemon(),
             processors: opening.processors(),
             turns: 0,
-            counted: Counted::new(),
+            tally,
             spaces,
             pool: room.pool,
             stores,
@@ -96,6 +114,9 @@ impl<S: Store + Send + Drop> Stream<S> {
         requires can { CanMake self.old line }
         ensures made { (plan : Plan) (stores : List Stored) (calls : List CallLine) (h : List Entry) → IsAfter plan stores calls h self.old
             → IsNext plan calls line → IsMade S.lasts plan stores (calls ++ line ∷ []) h self.new }
+        ensures alone { (plan : Plan) (stores : List Stored) (calls : List CallLine) (h : List Entry) → IsAfter plan stores calls h self.old
+            → IsNext plan calls line → plan.daemon ≡ None → IsMadeAlone plan stores calls line h self.new }
+        ensures asked { has_curves self.new.tally ≡ has_curves self.old.tally }
     {
         self.take_turn();
         self.make_call(line);
@@ -108,11 +129,41 @@ impl<S: Store + Send + Drop> Stream<S> {
         self.calls
     }
 
+    /// The number behind those of the processors that make calls.
+    pub fn processors(&self) -> u32
+        ensures { result ≡ self.now.processors }
+    {
+        self.processors
+    }
+
+    /// How many spaces there are.
+    pub fn spaces(&self) -> usize
+        ensures { result ≡ length self.now.spaces }
+    {
+        self.spaces.len()
+    }
+
+    /// What the last call was answered, where one was made.
+    pub fn last(&self) -> Option<Answered>
+        ensures { result ≡ self.now.tally.last }
+    {
+        self.tally.last()
+    }
+
+    /// The frame of a page, where it has one.
+    pub fn frame_of(&self, space: u32, page: u32) -> Option<u32>
+        requires few { space < most_spaces }
+        requires page { page < space_pages }
+        ensures { result ≡ frame_of self.now.pool space page }
+    {
+        self.pool.frame_of(space, page)
+    }
+
     /// What was counted of the entries so far.
     pub fn counted(&self) -> Counted
-        ensures { result ≡ self.now.counted }
+        ensures { result ≡ self.now.tally.counted }
     {
-        self.counted
+        self.tally.counted()
     }
 
     /// The counts so far.
@@ -133,17 +184,21 @@ impl<S: Store + Send + Drop> Stream<S> {
         stores_of(self.spaces, self.stores)
     }
 
-    /// Makes the turns that the daemon has left, and ends the run: the counts of the whole of it, and the stores, in their order.
+    /// Makes the turns that the daemon has left, and ends the run: the counts of the whole of it, its curves where they are asked for, and the
+    /// stores, in their order.
     pub fn finish(self) -> Finished<S>
         requires { CanStand self }
-        ensures { (plan : Plan) (stores : List Stored) (calls : List CallLine) (h : List Entry) → IsAfter plan stores calls h self
-            → IsRunWhole S.lasts plan stores calls h result.summary (map S.seen result.stores.items) }
+        ensures asked { is_some result.curves ≡ has_curves self.tally }
+        ensures long { IfSome result.curves (λ c. AreLong stream_capacities c.tiles.items c.pages.items) }
+        ensures whole { (plan : Plan) (stores : List Stored) (calls : List CallLine) (h : List Entry) → IsAfter plan stores calls h self
+            → IsRunWhole S.lasts plan stores calls h result.summary result.curves (map S.seen result.stores.items) }
     {
         let mut stream = self;
         take_turns(&mut stream);
         let summary = stream.counts();
         Finished {
             summary,
+            curves: stream.tally.into_curves(),
             stores: stores_of(stream.spaces, stream.stores),
         }
     }
@@ -153,6 +208,7 @@ impl<S: Store + Send + Drop> Stream<S> {
         requires can { CanTurn self.old }
         ensures took { (plan : Plan) (stores : List Stored) (calls : List CallLine) (h : List Entry) → IsAt plan stores calls h self.old
             → IsDue plan calls self.old.turns → TookTurns plan stores calls h self.old.turns 1 self.new }
+        ensures asked { has_curves self.new.tally ≡ has_curves self.old.tally }
     {
         let Some(daemon) = self.daemon else {
             return;
@@ -162,7 +218,7 @@ impl<S: Store + Send + Drop> Stream<S> {
         }
         let mut flight = Flight::of_turn(self.processors, self.turns, daemon.low);
         fly(
-            &mut self.counted,
+            &mut self.tally,
             &mut self.spaces,
             &mut self.pool,
             &mut flight,
@@ -175,13 +231,14 @@ impl<S: Store + Send + Drop> Stream<S> {
         requires can { CanCall self.old line }
         ensures made { (plan : Plan) (stores : List Stored) (calls : List CallLine) (h : List Entry) → IsAt plan stores calls h self.old
             → IsNext plan calls line → self.old.turns ≤ length calls + 1
-            → IsCalled S.lasts plan stores (calls ++ line ∷ []) h self.old.turns self.new }
+            → IsCalled S.lasts plan stores calls line h self.old.turns self.new }
+        ensures asked { has_curves self.new.tally ≡ has_curves self.old.tally }
     {
         let place = line.processor as usize;
         let number = self.numbers[place];
         let mut flight = Flight::of_call(line.processor, number, line.call);
         fly(
-            &mut self.counted,
+            &mut self.tally,
             &mut self.spaces,
             &mut self.pool,
             &mut flight,
@@ -207,11 +264,12 @@ impl<S: Store + Send + Drop> Stream<S> {
         ensures { (plan : Plan) (stores : List Stored) (calls : List CallLine) (h : List Entry) → IsAt plan stores calls h self.now
             → result ≡ counts (setting_over plan stores) h }
     {
+        let counted = self.tally.counted();
         counts_of(
             self.spaces.as_slice(),
             &self.pool,
-            self.counted.hits,
-            self.counted.misses,
+            counted.hits,
+            counted.misses,
         )
     }
 }
@@ -222,6 +280,7 @@ fn take_turns<S: Store + Send + Drop>(stream: &mut Stream<S>)
     ensures took { (plan : Plan) (stores : List Stored) (calls : List CallLine) (h : List Entry) → IsAt plan stores calls h stream.old
         → IsDue plan calls stream.old.turns
         → TookTurns plan stores calls h stream.old.turns (turns_in plan.daemon) stream.new }
+    ensures asked { has_curves stream.new.tally ≡ has_curves stream.old.tally }
 {
     for _ in 0..stream.turns_left() {
         stream.take_turn();

@@ -1,22 +1,29 @@
 -- From the end of the calls to the end of the run.
-use Rattle.std.proofs.Common.{◌≡◌, ℕ, Bool, List, ◌++◌, Option, IfSome, inl, inr, refl, ap, sym, subst, ◌∙◌}
+use Rattle.std.proofs.Common.{◌≡◌, ℕ, Bool, true, List, ◌++◌, Option, Some, None, is_some, IfSome, inl, inr, refl, ap, sym, subst, ◌∙◌}
+use Rattle.std.proofs.lemmas.Bool.{true≢false}
 use Rattle.io_core.specs.Faults.{one_more}
+use Rattle.miss_curves.specs.declared.stacks.Curves.{Curves}
+use Rattle.miss_curves.specs.Curves.{AreCurves, stream_capacities}
 use Rattle.pager_model.specs.declared.entry.Entry.{Entry}
+use Rattle.pager_model.specs.declared.summary.Summary.{Summary}
 use Rattle.pager_model.specs.Counts.{counts}
 use Rattle.pager_model.specs.Legal.{entries_in}
 use Rattle.pager_model.specs.Plans.{Plan}
 use Rattle.pager_model.specs.PrintedText.{summary_text}
+use Rattle.pager_model.specs.Settings.{Given}
 use Rattle.pager_model.specs.Showing.{IsFiled}
 use Rattle.pager_model.specs.Stored.{Stored}
 use Rattle.pager_model.specs.Stores.{setting_over}
 use Rattle.flight_core.specs.Lacking.{NoneLacked}
 use Rattle.step_log.proofs.Lists.{all-append}
-use Rattle.report_text.specs.Written.{WroteAll, WrotePart}
 use Rattle.stream_core.specs.Streaming.{IsRunTo, Streaming, front_of, with_calls}
 use Rattle.trace_stream.specs.Streams.{Opens}
+use Rattle.stream_run.specs.declared.report.StreamReport.{StreamReport}
+use Rattle.stream_run.specs.declared.report.StreamReport.TheVariants.{Counts, Curves as Asked}
 use Rattle.stream_run.specs.declared.run.Ending.{Ending}
 use Rattle.stream_run.specs.declared.run.Ending.TheVariants.{Done, Stopped, WriteFault, NoMemory}
-use Rattle.stream_run.specs.Steps.{CallsEnd, CallsEndSo, RanWhole, WritesCounts}
+use Rattle.stream_run.specs.Steps.{CallsEnd, CallsEndSo, RanWhole, WritesEnd, end_text}
+use Rattle.stream_run.specs.Reports.{Admits, IsEndText, every_in, is_of_curves}
 use Rattle.stream_run.specs.Streams.{AreToldBy, EndsSo, Ports, RanSome, TellsRead, ports, told_text}
 use Rattle.stream_run.proofs.ToldCounts.{AreToldBy-longer, wrote_more, wrote_part}
 
@@ -24,20 +31,30 @@ use Rattle.stream_run.proofs.ToldCounts.{AreToldBy-longer, wrote_more, wrote_par
 pub none_lacked : (h piece : List Entry) → NoneLacked h → NoneLacked piece → NoneLacked (h ++ piece)
 none_lacked h piece front back = all-append _ h piece front back
 
-module _ (lasts : Bool) (every : Option ℕ) (plan : Plan) (stores : List Stored) (s : Streaming) (before mid : Ports)
-    (opens : IfSome before.left (λ bytes. (rest : List ℕ) × Opens bytes plan rest)) where
+-- what is written at the end, where the curves are there just if they were asked for
+pub IsEndText-of : (report : StreamReport) (g : Given) (h : List Entry) (summary : Summary) (curves : Option Curves)
+    → is_some curves ≡ is_of_curves report → summary ≡ counts g h
+    → (is_of_curves report ≡ true → IfSome curves (λ c. AreCurves stream_capacities g h c.tiles.items c.pages.items))
+    → IsEndText report g h (end_text summary curves)
+IsEndText-of (Counts every) g h summary None asked counted curved = ap summary_text counted
+IsEndText-of (Counts every) g h summary (Some c) asked counted curved = absurd (true≢false asked)
+IsEndText-of Asked g h summary None asked counted curved = absurd (true≢false (sym asked))
+IsEndText-of Asked g h summary (Some c) asked counted curved = (c.tiles.items, c.pages.items, curved refl, refl)
+
+module _ (lasts : Bool) (report : StreamReport) (plan : Plan) (stores : List Stored) (s : Streaming) (before mid : Ports)
+    (opens : IfSome before.left (λ bytes. (rest : List ℕ) × Opens bytes plan rest)) (admitted : Admits report plan) where
   -- Ended where its calls end.
 
-  module _ (ending : Ending) (end : CallsEnd lasts every plan stores s before mid ending) (stores' : List Stored)
+  module _ (ending : Ending) (end : CallsEnd lasts (every_in report) plan stores s before mid ending) (stores' : List Stored)
       (run : IsRunTo plan stores end.calls end.history stores') where
     front_ends : (e : Ending) → (e ≡ Done → ⊥) → CallsEndSo plan end.calls end.told before mid e
-        → EndsSo (setting_over plan stores) plan end.calls end.told (front_of plan end.calls) (entries_in run.history) before mid e
+        → EndsSo report (setting_over plan stores) plan end.calls end.told (front_of plan end.calls) (entries_in run.history) before mid e
     front_ends Done other ends = absurd (other refl)
     front_ends (Stopped fault) other ends = (refl, ends.0, ends.1, ends.2)
     front_ends WriteFault other ends = inr (refl, ends.0, ends.1)
     front_ends NoMemory other ends = absurd ends
 
-    pub RanSome-front : (ending ≡ Done → ⊥) → RanSome lasts every before mid stores stores' ending
+    pub RanSome-front : (ending ≡ Done → ⊥) → RanSome lasts report before mid stores stores' ending
     RanSome-front other =
         let at = end.after_calls.at in
         record {
@@ -48,13 +65,14 @@ module _ (lasts : Bool) (every : Option ℕ) (plan : Plan) (stores : List Stored
           told = end.told;
           opening = at.opening;
           opens = opens;
+          admitted = admitted;
           enough = at.enough;
           lines = at.lines;
           few = at.few_calls;
           ran = run.run;
           filed = subst (IsFiled (front_of plan end.calls)) (sym run.entries) run.filed;
           lasting = λ lasting. subst NoneLacked (sym run.entries) (end.lasting lasting);
-          told_are = subst (λ h. AreToldBy (setting_over plan stores) plan end.calls h every end.told) (sym run.entries) end.told_are;
+          told_are = subst (λ h. AreToldBy (setting_over plan stores) plan end.calls h (every_in report) end.told) (sym run.entries) end.told_are;
           ends = front_ends ending other end.ends;
           read_fault = end.read_fault;
           write_fault = end.write_fault;
@@ -63,30 +81,36 @@ module _ (lasts : Bool) (every : Option ℕ) (plan : Plan) (stores : List Stored
 
   -- Ended whole.
 
-  module _ (end : CallsEnd lasts every plan stores s before mid Done) (stores' : List Stored) (taken' : Option (List ℕ)) (faults' : ℕ)
-      (ending : Ending) (whole : RanWhole lasts plan stores end.calls end.history stores' ending mid.taken taken' mid.write_faults faults') where
-    whole_ends : (e : Ending) → WritesCounts whole.summary e mid.taken taken' mid.write_faults faults'
-        → EndsSo (setting_over plan stores) plan end.calls end.told (with_calls plan end.calls) (end.history ++ whole.run.piece) before
+  module _ (end : CallsEnd lasts (every_in report) plan stores s before mid Done) (stores' : List Stored) (taken' : Option (List ℕ)) (faults' : ℕ)
+      (ending : Ending) (whole : RanWhole lasts report plan stores end.calls end.history stores' ending mid.taken taken' mid.write_faults faults') where
+    whole_ends : (e : Ending) → WritesEnd (end_text whole.summary whole.curves) e mid.taken taken' mid.write_faults faults'
+        → EndsSo report (setting_over plan stores) plan end.calls end.told (with_calls plan end.calls) (end.history ++ whole.run.piece) before
         (ports mid.left mid.read_faults taken' faults') e
     whole_ends Done writes = (
       refl,
       end.ends.0,
-      subst (λ c. WroteAll (told_text end.told ++ summary_text c) before.taken taken') whole.run.counts_are
-          (wrote_more (told_text end.told) (summary_text whole.summary) before.taken mid.taken taken' end.ends.1 writes.0),
+      (
+        end_text whole.summary whole.curves,
+        whole.text_is,
+        wrote_more (told_text end.told) (end_text whole.summary whole.curves) before.taken mid.taken taken' end.ends.1 writes.0,
+      ),
     )
     whole_ends (Stopped fault) writes = absurd writes
     whole_ends WriteFault writes = inl (
       refl,
       end.ends.0,
-      wrote_part (told_text end.told) (summary_text (counts (setting_over plan stores) (end.history ++ whole.run.piece))) before.taken mid.taken taken'
-          end.ends.1 (subst (λ c. WrotePart (summary_text c) mid.taken taken') whole.run.counts_are writes.0),
+      (
+        end_text whole.summary whole.curves,
+        whole.text_is,
+        wrote_part (told_text end.told) (end_text whole.summary whole.curves) before.taken mid.taken taken' end.ends.1 writes.0,
+      ),
     )
     whole_ends NoMemory writes = absurd writes
 
     same_writes : mid.write_faults ≡ before.write_faults
     same_writes = end.no_write_fault (λ is. cc)
 
-    whole_faults : (e : Ending) → WritesCounts whole.summary e mid.taken taken' mid.write_faults faults'
+    whole_faults : (e : Ending) → WritesEnd (end_text whole.summary whole.curves) e mid.taken taken' mid.write_faults faults'
         → TellsRead e before.read_faults mid.read_faults
         × (e ≡ WriteFault → faults' ≡ one_more before.write_faults) × ((e ≡ WriteFault → ⊥) → faults' ≡ before.write_faults)
     whole_faults Done writes = (end.read_fault, λ is. cc, λ other. writes.1 ∙ same_writes)
@@ -94,7 +118,7 @@ module _ (lasts : Bool) (every : Option ℕ) (plan : Plan) (stores : List Stored
     whole_faults WriteFault writes = (end.read_fault, λ is. writes.1 ∙ ap one_more same_writes, λ other. absurd (other refl))
     whole_faults NoMemory writes = absurd writes
 
-    pub RanSome-whole : RanSome lasts every before (ports mid.left mid.read_faults taken' faults') stores stores' ending
+    pub RanSome-whole : RanSome lasts report before (ports mid.left mid.read_faults taken' faults') stores stores' ending
     RanSome-whole =
         let at = end.after_calls.at in
         let run = whole.run in
@@ -107,6 +131,7 @@ module _ (lasts : Bool) (every : Option ℕ) (plan : Plan) (stores : List Stored
           told = end.told;
           opening = at.opening;
           opens = opens;
+          admitted = admitted;
           enough = at.enough;
           lines = at.lines;
           few = at.few_calls;
@@ -114,10 +139,10 @@ module _ (lasts : Bool) (every : Option ℕ) (plan : Plan) (stores : List Stored
           filed = subst (IsFiled (with_calls plan end.calls)) (sym run.entries) run.filed;
           lasting = λ lasting.
               subst NoneLacked (sym run.entries) (none_lacked end.history run.piece (end.lasting lasting) (run.lasting lasting));
-          told_are = subst (λ h. AreToldBy (setting_over plan stores) plan end.calls h every end.told) (sym run.entries)
-              (AreToldBy-longer (setting_over plan stores) plan end.calls end.history run.piece every end.told end.told_are);
+          told_are = subst (λ h. AreToldBy (setting_over plan stores) plan end.calls h (every_in report) end.told) (sym run.entries)
+              (AreToldBy-longer (setting_over plan stores) plan end.calls end.history run.piece (every_in report) end.told end.told_are);
           ends = subst
-              (λ h. EndsSo (setting_over plan stores) plan end.calls end.told (with_calls plan end.calls) h before
+              (λ h. EndsSo report (setting_over plan stores) plan end.calls end.told (with_calls plan end.calls) h before
               (ports mid.left mid.read_faults taken' faults') ending)
               (sym run.entries) (whole_ends ending whole.writes);
           read_fault = faults.0;

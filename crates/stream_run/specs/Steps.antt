@@ -1,6 +1,7 @@
 -- What the steps of running a stream promise: where its run stands between two calls, and where its calls end.
 use Rattle.std.specs.Prelude.{ℕ, ◌≡◌, ◌+◌, ◌*◌, ◌≤◌, Bool, true, false, List, [], ◌∷◌, ◌++◌, length, slice_get, Option, Some, None, IfSome}
 use Rattle.io_core.specs.Faults.{one_more}
+use Rattle.miss_curves.specs.declared.stacks.Curves.{Curves}
 use Rattle.pager_model.specs.declared.call.Line.{Line}
 use Rattle.pager_model.specs.declared.entry.Entry.{Entry}
 use Rattle.pager_model.specs.declared.summary.Summary.{Summary}
@@ -11,12 +12,15 @@ use Rattle.pager_model.specs.Stored.{Stored}
 use Rattle.pager_model.specs.Stores.{setting_over}
 use Rattle.flight_core.specs.Lacking.{NoneLacked}
 use Rattle.report_text.specs.declared.so_far_line.SoFar.{SoFar}
+use Rattle.report_text.specs.CurveText.{curves_text}
 use Rattle.report_text.specs.SoFarText.{so_far_text}
 use Rattle.report_text.specs.Written.{WroteAll, WrotePart}
 use Rattle.stream_core.specs.Streaming.{IsAfter, IsRunWhole, Streaming}
 use Rattle.trace_stream.specs.Streams.{IsOfStream}
+use Rattle.stream_run.specs.declared.report.StreamReport.{StreamReport}
 use Rattle.stream_run.specs.declared.run.Ending.{Ending}
 use Rattle.stream_run.specs.declared.run.Ending.TheVariants.{Done, Stopped, WriteFault, NoMemory}
+use Rattle.stream_run.specs.Reports.{IsEndText}
 use Rattle.stream_run.specs.Streams.{AreToldBy, Behind, IsSoFar, Ports, TellsRead, WasAhead, WasStopped, WasWhole, WrotePartBehind, told_text}
 
 -- Between two calls.
@@ -110,15 +114,22 @@ pub record CallsEnd (lasts : Bool) (every : Option ℕ) (plan : Plan) (stores : 
 
 -- The end of the run.
 
--- the counts were written, or a write failed
-abbrev pub WritesCounts : Summary → Ending → (before after : Option (List ℕ)) → (faults faults' : ℕ) → Type 0
-WritesCounts summary Done before after faults faults' = WroteAll (summary_text summary) before after × (faults' ≡ faults)
-WritesCounts summary WriteFault before after faults faults' = WrotePart (summary_text summary) before after × (faults' ≡ one_more faults)
-WritesCounts summary ending before after faults faults' = ⊥
+-- the text of the counts, or of the curves where there are some
+abbrev pub end_text : Summary → Option Curves → List ℕ
+end_text summary None = summary_text summary
+end_text summary (Some c) = curves_text c.tiles.items c.pages.items
 
--- the run is whole, and its counts were written or a part of them
-pub record RanWhole (lasts : Bool) (plan : Plan) (stores : List Stored) (calls : List Line) (h : List Entry) (stores' : List Stored)
-    (ending : Ending) (before after : Option (List ℕ)) (faults faults' : ℕ) : Type 0 where
+-- the text was written, or a write failed
+abbrev pub WritesEnd : List ℕ → Ending → (before after : Option (List ℕ)) → (faults faults' : ℕ) → Type 0
+WritesEnd text Done before after faults faults' = WroteAll text before after × (faults' ≡ faults)
+WritesEnd text WriteFault before after faults faults' = WrotePart text before after × (faults' ≡ one_more faults)
+WritesEnd text ending before after faults faults' = ⊥
+
+-- the run is whole, and what is written at its end was, or a part of it
+pub record RanWhole (lasts : Bool) (report : StreamReport) (plan : Plan) (stores : List Stored) (calls : List Line) (h : List Entry)
+    (stores' : List Stored) (ending : Ending) (before after : Option (List ℕ)) (faults faults' : ℕ) : Type 0 where
   pub summary : Summary
-  pub run : IsRunWhole lasts plan stores calls h summary stores'
-  pub writes : WritesCounts summary ending before after faults faults'
+  pub curves : Option Curves
+  pub run : IsRunWhole lasts plan stores calls h summary curves stores'
+  pub text_is : IsEndText report (setting_over plan stores) (h ++ run.piece) (end_text summary curves)
+  pub writes : WritesEnd (end_text summary curves) ending before after faults faults'

@@ -7,7 +7,6 @@ use Rattle.pager_model.specs.declared.entry.Numbered.{Numbered}
 use Rattle.pager_model.specs.Counts.{counts}
 use Rattle.pager_model.specs.Legal.{entries_in}
 use Rattle.pager_model.specs.Plans.{Plan}
-use Rattle.pager_model.specs.PrintedText.{summary_text}
 use Rattle.pager_model.specs.Settings.{Given}
 use Rattle.pager_model.specs.Showing.{IsFiled}
 use Rattle.pager_model.specs.Stored.{Stored}
@@ -21,11 +20,14 @@ use Rattle.report_text.specs.Written.{WroteAll}
 use Rattle.step_log.specs.Counting.{evictions_in, unserved_in}
 use Rattle.stream_core.specs.Streaming.{IsOpening, front_of, most_calls_made, with_calls}
 use Rattle.trace_reader.specs.declared.fault.TraceFault.{TraceFault}
-use Rattle.trace_reader.specs.declared.fault.TraceFault.TheVariants.{ReadFault, TooFewStores}
+use Rattle.trace_reader.specs.declared.fault.TraceFault.TheVariants.{ReadFault, OneProcessor, TooFewStores}
 use Rattle.trace_reader.specs.Refusals.{IsCause, first_call}
 use Rattle.trace_stream.specs.Streams.{IsOfStream, IsPart, IsStreamOf, IsUnopened, Opens, end_line, forms_of, next_refusal, opening_refusal, opening_text}
+use Rattle.stream_run.specs.declared.report.StreamReport.{StreamReport}
+use Rattle.stream_run.specs.declared.report.StreamReport.TheVariants.{Curves}
 use Rattle.stream_run.specs.declared.run.Ending.{Ending}
 use Rattle.stream_run.specs.declared.run.Ending.TheVariants.{Done, Stopped, WriteFault, NoMemory}
+use Rattle.stream_run.specs.Reports.{Admits, IsEndText, every_in}
 
 -- What a source and a sink tell: the bytes that the one has left and the other has taken, where they tell them, and how often each has failed.
 pub record Ports : Type 0 where
@@ -79,15 +81,19 @@ pub record WasOpened (bytes : List ℕ) (plan : Plan) (left' : Option (List ℕ)
   pub few : length ahead ≤ 4096
   pub left_is : left' ≡ Some rest
 
--- The lines before the calls were refused, or there are more spaces than stores; or a read failed before they were read; or there was no memory.
-abbrev pub IsUnrun : (left left' : Option (List ℕ)) → (stores : ℕ) → Ending → Type 0
-IsUnrun left left' stores (Stopped ReadFault) = IfSome left (λ bytes. IsUnopened bytes left')
-IsUnrun left left' stores (Stopped (TooFewStores told spaces)) =
+-- The lines before the calls were refused, or the report isn't for so many processors, or there are more spaces than stores; or a read failed before
+-- they were read; or there was no memory.
+abbrev pub IsUnrun : StreamReport → (left left' : Option (List ℕ)) → (stores : ℕ) → Ending → Type 0
+IsUnrun report left left' stores (Stopped ReadFault) = IfSome left (λ bytes. IsUnopened bytes left')
+IsUnrun report left left' stores (Stopped (OneProcessor processors)) =
+    (report ≡ Curves) × (1 < processors) × IfSome left (λ bytes. (plan : Plan) × WasOpened bytes plan left' × (processors ≡ plan.processors))
+IsUnrun report left left' stores (Stopped (TooFewStores told spaces)) =
     (told ≡ stores) × (stores < spaces)
-    × IfSome left (λ bytes. (plan : Plan) × WasOpened bytes plan left' × (spaces ≡ plan.spaces))
-IsUnrun left left' stores (Stopped fault) = IsOfStream fault × IfSome left (λ bytes. IsCause (opening_refusal bytes) fault)
-IsUnrun left left' stores NoMemory = IfSome left (λ bytes. (plan : Plan) × WasOpened bytes plan left' × (plan.spaces ≤ stores))
-IsUnrun left left' stores ending = ⊥
+    × IfSome left (λ bytes. (plan : Plan) × WasOpened bytes plan left' × (Admits report plan × (spaces ≡ plan.spaces)))
+IsUnrun report left left' stores (Stopped fault) = IsOfStream fault × IfSome left (λ bytes. IsCause (opening_refusal bytes) fault)
+IsUnrun report left left' stores NoMemory =
+    IfSome left (λ bytes. (plan : Plan) × WasOpened bytes plan left' × (Admits report plan × (plan.spaces ≤ stores)))
+IsUnrun report left left' stores ending = ⊥
 
 -- a failed read is told, and nothing else is one
 abbrev pub TellsRead : Ending → ℕ → ℕ → Type 0
@@ -95,8 +101,8 @@ TellsRead (Stopped ReadFault) before after = after ≡ one_more before
 TellsRead ending before after = after ≡ before
 
 -- nothing was written, and the stores are as they were
-pub record RanNone (before after : Ports) (stores stores' : List Stored) (ending : Ending) : Type 0 where
-  pub why : IsUnrun before.left after.left (length stores) ending
+pub record RanNone (report : StreamReport) (before after : Ports) (stores stores' : List Stored) (ending : Ending) : Type 0 where
+  pub why : IsUnrun report before.left after.left (length stores) ending
   pub read_fault : TellsRead ending before.read_faults after.read_faults
   pub unwritten : after.taken ≡ before.taken
   pub no_write_fault : after.write_faults ≡ before.write_faults
@@ -127,28 +133,28 @@ abbrev pub WasAhead : List ℕ → Plan → List Line → Option (List ℕ) → 
 WasAhead bytes plan calls left' =
     (ahead : List ℕ) × (rest : List ℕ) × Behind bytes plan calls (ahead ++ rest) × (length ahead ≤ 4096) × (left' ≡ Some rest)
 
--- What was run, and where it ended. Done, it was the whole of the trace that has these calls, and behind the counts so far those of all of it were
--- written. Stopped, it was the front that ends with these calls, and only the counts so far were written. Where a write failed, it was the whole one
+-- What was run, and where it ended. Done, it was the whole of the trace that has these calls, and behind the counts so far what is written at the
+-- end was. Stopped, it was the front that ends with these calls, and only the counts so far were written. Where a write failed, it was the whole one
 -- and a beginning of its text was written, or it was the front after whose last call the counts so far were to be told, and a beginning of the last
 -- line of theirs was.
-abbrev pub EndsSo : (g : Given) (plan : Plan) (calls : List Line) (told : List SoFar) (run : Plan) (h : List Entry) → (before after : Ports) → Ending
+abbrev pub EndsSo : (report : StreamReport) (g : Given) (plan : Plan) (calls : List Line) (told : List SoFar) (run : Plan) (h : List Entry) → (before after : Ports) → Ending
     → Type 0
-EndsSo g plan calls told run h before after Done =
+EndsSo report g plan calls told run h before after Done =
     (run ≡ with_calls plan calls) × IfSome before.left (λ bytes. WasWhole bytes plan calls after.left)
-    × WroteAll (told_text told ++ summary_text (counts g h)) before.taken after.taken
-EndsSo g plan calls told run h before after (Stopped fault) =
+    × ((text : List ℕ) × IsEndText report g h text × WroteAll (told_text told ++ text) before.taken after.taken)
+EndsSo report g plan calls told run h before after (Stopped fault) =
     (run ≡ front_of plan calls) × IfSome before.left (λ bytes. WasStopped bytes plan calls fault after.left) × IsOfStream fault
     × WroteAll (told_text told) before.taken after.taken
-EndsSo g plan calls told run h before after WriteFault =
+EndsSo report g plan calls told run h before after WriteFault =
     ((run ≡ with_calls plan calls) × IfSome before.left (λ bytes. WasWhole bytes plan calls after.left)
-    × WrotePartBehind (told_text told) (summary_text (counts g h)) before.taken after.taken)
+    × ((text : List ℕ) × IsEndText report g h text × WrotePartBehind (told_text told) text before.taken after.taken))
     ⊎ ((run ≡ front_of plan calls) × IfSome before.left (λ bytes. WasAhead bytes plan calls after.left)
     × ((earlier : List SoFar) × (last : SoFar) × (told ≡ earlier ++ last ∷ []) × (last.calls ≡ length calls)
     × WrotePartBehind (told_text earlier) (so_far_text last) before.taken after.taken))
-EndsSo g plan calls told run h before after NoMemory = ⊥
+EndsSo report g plan calls told run h before after NoMemory = ⊥
 
 -- A run was made of these calls of a trace that begins so. Its history is nowhere in memory.
-pub record RanSome (lasts : Bool) (every : Option ℕ) (before after : Ports) (stores stores' : List Stored) (ending : Ending) : Type 0 where
+pub record RanSome (lasts : Bool) (report : StreamReport) (before after : Ports) (stores stores' : List Stored) (ending : Ending) : Type 0 where
   pub plan : Plan
   pub calls : List Line
   pub run : Plan
@@ -156,6 +162,7 @@ pub record RanSome (lasts : Bool) (every : Option ℕ) (before after : Ports) (s
   pub told : List SoFar
   pub opening : IsOpening plan
   pub opens : IfSome before.left (λ bytes. (rest : List ℕ) × Opens bytes plan rest)
+  pub admitted : Admits report plan
   pub enough : plan.spaces ≤ length stores
   pub lines : All (IsLine plan.version plan.processors plan.spaces) calls
   pub few : length calls ≤ most_calls_made
@@ -164,13 +171,13 @@ pub record RanSome (lasts : Bool) (every : Option ℕ) (before after : Ports) (s
   -- in the order of the lines
   pub filed : IsFiled run (entries_in history)
   pub lasting : lasts ≡ true → NoneLacked (entries_in history)
-  pub told_are : AreToldBy (setting_over plan stores) plan calls (entries_in history) every told
-  pub ends : EndsSo (setting_over plan stores) plan calls told run (entries_in history) before after ending
+  pub told_are : AreToldBy (setting_over plan stores) plan calls (entries_in history) (every_in report) told
+  pub ends : EndsSo report (setting_over plan stores) plan calls told run (entries_in history) before after ending
   pub read_fault : TellsRead ending before.read_faults after.read_faults
   pub write_fault : ending ≡ WriteFault → after.write_faults ≡ one_more before.write_faults
   pub no_write_fault : (ending ≡ WriteFault → ⊥) → after.write_faults ≡ before.write_faults
 
 -- what running a stream promises
-abbrev pub RunsStream : Bool → Option ℕ → (before after : Ports) → (stores stores' : List Stored) → Ending → Type 0
-RunsStream lasts every before after stores stores' ending =
-    RanNone before after stores stores' ending ⊎ RanSome lasts every before after stores stores' ending
+abbrev pub RunsStream : Bool → StreamReport → (before after : Ports) → (stores stores' : List Stored) → Ending → Type 0
+RunsStream lasts report before after stores stores' ending =
+    RanNone report before after stores stores' ending ⊎ RanSome lasts report before after stores stores' ending

@@ -10,6 +10,7 @@ ghost use Rattle.pager_model.specs.Stored.{Stored};
 ghost use Rattle.report_text.specs.declared.so_far_line.SoFar.{SoFar};
 ghost use Rattle.report_text.specs.Written.{WroteAll};
 ghost use Rattle.stream_core.specs.Streaming.{CanMake, IsAfter, IsNext};
+ghost use Rattle.stream_core.specs.Tallies.{has_curves};
 ghost use Rattle.trace_lines.specs.Heads.{IsInRange};
 ghost use Rattle.trace_stream.specs.Streams.{HasOpening, OpensWith};
 ghost use Rattle.stream_run.specs.Steps.{CallsEnd, StandsAt, WentOn, WentPart};
@@ -39,11 +40,12 @@ pub fn make_calls<T: Source, K: Sink, S: Store + Send + Drop>(
     requires opening { HasOpening opening.now.head opening.now.trace }
     requires some { IfSome every (λ n. 1 ≤ n) }
     requires can { (stores : List Stored) × IsAfter opening.now.trace stores [] [] stream.old }
-    ensures { (left : Option (List ℕ)) (stores : List Stored) → IsAfter opening.now.trace stores [] [] stream.old
+    ensures ended { (left : Option (List ℕ)) (stores : List Stored) → IsAfter opening.now.trace stores [] [] stream.old
         → IfSome left (λ bytes. OpensWith bytes opening.now.trace (seen ahead.old (T.left source.old)))
         → CallsEnd S.lasts every opening.now.trace stores stream.new
         (ports left (T.faults source.old) (K.taken sink.old) (K.faults sink.old))
         (ports (T.left source.new) (T.faults source.new) (K.taken sink.new) (K.faults sink.new)) result }
+    ensures asked { has_curves stream.new.tally ≡ has_curves stream.old.tally }
 {
     let mut telling = Telling::of(every);
     'lines: loop {
@@ -68,6 +70,7 @@ fn make_line<K: Sink, S: Store + Send + Drop>(
     requires can { CanMake stream.old line }
     requires left { IfSome telling.old.every (λ n. 1 ≤ telling.old.left) }
     ensures every { telling.new.every ≡ telling.old.every }
+    ensures asked { has_curves stream.new.tally ≡ has_curves stream.old.tally }
     ensures on { OnOk result ((plan : Plan) (stores : List Stored) (calls : List CallLine) (h : List Entry) (told : List SoFar) (had : Option (List ℕ))
         → StandsAt S.lasts telling.old.every plan stores calls h told telling.old.left stream.old → IsNext plan calls line
         → WroteAll (told_text told) had (K.taken sink.old)

@@ -108,7 +108,7 @@ fn tell_more<W: Write>(out: &mut W, status: u8, refusal: Option<TraceFault>) -> 
     if status == USAGE {
         return writeln!(
             out,
-            "usage: superpager [--folder DIR | --swap N] order|turns SEED|replay [--history], or plan K, or curve, <TRACE; check <TRACE-AND-HISTORY; stream [EVERY] <TRACE; make NUMBER CALLS PROCESSORS SPACES FRAMES; large NUMBER SEED"
+            "usage: superpager [--folder DIR | --swap N] order|turns SEED|replay [--history], or plan K, or curve, <TRACE; check <TRACE-AND-HISTORY; stream [EVERY|curve] <TRACE; make NUMBER CALLS PROCESSORS SPACES FRAMES; large NUMBER SEED"
         );
     }
     match refusal {

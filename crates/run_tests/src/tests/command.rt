@@ -14,7 +14,7 @@ use trace_reader::{LineCause, TraceFault};
 pub(super) type Streams = (usize, u64, u64);
 
 /// Room for any text here, and nothing fails.
-pub(super) const AMPLE: Streams = (16_384, 0, 0);
+pub(super) const AMPLE: Streams = (65_536, 0, 0);
 
 /// The status of a run, and why its trace was refused.
 pub(super) type Told = (u8, Option<TraceFault>);
@@ -116,6 +116,9 @@ fn too_few_stores_are_refused_behind_too_many_processors(rt: HostRuntime) {
         (&["stream", "1"], TWO_SPACES, "writes", few(1, 2)),
         (&["curve"], TWO_PROCESSORS, "writes", two),
         (&["curve"], TWO_PROCESSORS, "writes; writes", two),
+        (STREAM_CURVE, TWO_SPACES, "writes", few(1, 2)),
+        (STREAM_CURVE, TWO_PROCESSORS, "writes", two),
+        (STREAM_CURVE, TWO_PROCESSORS, "writes; writes", two),
         (
             &["large", "7", "3"],
             "",
@@ -127,25 +130,28 @@ fn too_few_stores_are_refused_behind_too_many_processors(rt: HostRuntime) {
     }
 }
 
-/// Calls whose pages no region has. The text is three writes long, of which the first two end with the last line that there was room for.
+/// Calls whose pages no region has. The text is three writes long, and each ends with a line: it is sent once there may not be room for the next.
 const NO_REGION: &str = "trace 1 512 1 1; 700 times 8192: 0 load 0 #; end";
 
 /// The words that make a trace of a map and two calls.
 const MAKE: &[&str] = &["make", "7", "3", "1", "1", "512"];
 
-/// Words, a trace, how many bytes the sink takes and which write fails, and how many bytes are there then. So `(&["order"], NO_REGION, 16_384, 2, 4090)`
-/// is read: by `order` over `NO_REGION` the second write fails of a sink that takes 16,384 bytes, and 4,090 bytes are there.
+/// The words that run a trace as it is read for its curves. Those of `EIGHT_PAGES` are ten writes long.
+const STREAM_CURVE: &[&str] = &["stream", "curve"];
+
+/// Words, a trace, how many bytes the sink takes and which write fails, and how many bytes are there then. So `(&["order"], NO_REGION, 16_384, 2, 3850)`
+/// is read: by `order` over `NO_REGION` the second write fails of a sink that takes 16,384 bytes, and 3,850 bytes are there.
 type Cut = (&'static [&'static str], &'static str, usize, u64, usize);
 
-static CUTS: [Cut; 22] = [
+static CUTS: [Cut; 33] = [
     (&["order"], LAST_PAGE, 0, 0, 0),
     (&["order"], LAST_PAGE, 4, 0, 4),
     (&["order"], LAST_PAGE, 9, 0, 9),
     (&["order"], LAST_PAGE, 144, 0, 144),
     (&["order"], EIGHT_PAGES, 16_384, 1, 0),
     (&["order"], NO_REGION, 16_384, 1, 0),
-    (&["order"], NO_REGION, 16_384, 2, 4090),
-    (&["order"], NO_REGION, 16_384, 3, 8185),
+    (&["order"], NO_REGION, 16_384, 2, 3850),
+    (&["order"], NO_REGION, 16_384, 3, 7705),
     (&["plan", "3"], TWO_SPACES, 12, 0, 12),
     (&["curve"], EIGHT_PAGES, 21, 0, 21),
     (&["check"], JUDGED, 3, 0, 3),
@@ -156,6 +162,17 @@ static CUTS: [Cut; 22] = [
     (&["stream", "4"], EIGHT_PAGES, 12, 0, 12),
     (&["stream", "4"], EIGHT_PAGES, 16_384, 2, 30),
     (&["stream", "4"], EIGHT_PAGES, 16_384, 3, 60),
+    (STREAM_CURVE, EIGHT_PAGES, 4, 0, 4),
+    (STREAM_CURVE, EIGHT_PAGES, 65_536, 1, 0),
+    (STREAM_CURVE, EIGHT_PAGES, 65_536, 2, 3844),
+    (STREAM_CURVE, EIGHT_PAGES, 65_536, 3, 7692),
+    (STREAM_CURVE, EIGHT_PAGES, 65_536, 4, 11538),
+    (STREAM_CURVE, EIGHT_PAGES, 65_536, 5, 15381),
+    (STREAM_CURVE, EIGHT_PAGES, 65_536, 6, 19224),
+    (STREAM_CURVE, EIGHT_PAGES, 65_536, 7, 23067),
+    (STREAM_CURVE, EIGHT_PAGES, 65_536, 8, 26910),
+    (STREAM_CURVE, EIGHT_PAGES, 65_536, 9, 30753),
+    (STREAM_CURVE, EIGHT_PAGES, 65_536, 10, 34596),
     (MAKE, "", 0, 0, 0),
     (MAKE, "", 4, 0, 4),
     (MAKE, "", 121, 0, 121),
@@ -201,5 +218,23 @@ fn a_refused_line_ends_a_stream_behind_the_calls_before_it(rt: HostRuntime) {
             stores_of(&rt, "writes"),
         );
         assert!(rt; told == (REFUSED, Some(fault)) && sink.bytes() == AFTER_TWO);
+    }
+}
+
+/// Whether the curves of a stream are those of the same trace by `curve`, as far as these go.
+fn goes_on<R: Abort + AllocGlobal + Threads + Wait + Sync>(rt: &R, lines: &str) -> bool {
+    let stores = || stores_of(rt, "writes; writes");
+    let (told, kept) = ran(rt, &["curve"], lines, AMPLE, stores());
+    let (streamed, longer) = ran(rt, STREAM_CURVE, lines, AMPLE, stores());
+    let Some(curves) = kept.bytes().strip_suffix(b"end\n") else {
+        return false;
+    };
+    told == (DONE, None) && streamed == (DONE, None) && longer.bytes().starts_with(curves)
+}
+
+#[test]
+fn the_curves_of_a_stream_begin_as_those_of_a_history(rt: HostRuntime) {
+    for lines in [LAST_PAGE, EIGHT_PAGES, TWO_SPACES, NO_REGION] {
+        assert!(rt; goes_on(&rt, lines));
     }
 }

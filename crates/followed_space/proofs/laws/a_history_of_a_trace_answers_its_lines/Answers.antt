@@ -1,4 +1,4 @@
-use Rattle.followed_space.proofs.AnsweredLines.{AnswersLine-run, processor-run}
+use Rattle.followed_space.proofs.AnsweredLines.{AnswersLine-run, processor-legal}
 use Rattle.followed_space.proofs.laws.a_history_of_a_trace_answers_its_lines.Goals as goal
 
 pub returns-clause-lines : goal.returns-clause-lines
@@ -6,4 +6,4 @@ returns-clause-lines c = λ plan g before after e text marks legal shows. Answer
 
 pub returns-clause-processors : goal.returns-clause-processors
 returns-clause-processors c =
-    λ plan g before after e number call answered text marks legal shows is. processor-run plan g before after e text marks legal shows number call answered is
+    λ plan g before after e number call answered text marks legal shows is. processor-legal plan g before after e text.daemon_in marks legal number call answered is

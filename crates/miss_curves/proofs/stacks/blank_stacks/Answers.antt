@@ -7,6 +7,6 @@ pub loop-preserved : goal.loop-preserved
 loop-preserved c = (
   search rules,
   rw c.in_ok-push.ensures.items
-      (All-append (IsBlank 1024) _ _ c.loop.invariant.1 (All-cons (IsBlank 1024) _ [] c.in_ok-create.ensures.blank
-      (All-nil (IsBlank 1024)))),
+      (All-append (IsBlank c.args.places) _ _ c.loop.invariant.1 (All-cons (IsBlank c.args.places) _ [] c.in_ok-create.ensures.blank
+      (All-nil (IsBlank c.args.places)))),
 )

@@ -4,4 +4,4 @@ use Rattle.lru_stack.specs.Stacks.{IsBlank}
 use Rattle.miss_curves.proofs.stacks.blank_stacks.Given as goal
 
 abbrev pub invariant-loop : goal.invariant-loop
-invariant-loop l = (length l.stacks.items ≡ l.counter) × All (IsBlank 1024) l.stacks.items
+invariant-loop l = (length l.stacks.items ≡ l.counter) × All (IsBlank l.places) l.stacks.items

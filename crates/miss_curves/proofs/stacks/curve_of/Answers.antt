@@ -10,7 +10,7 @@ pub add_to-requires-clause-fits : goal.add_to-requires-clause-fits
 add_to-requires-clause-fits c = λ k below.
     let i = c.loop-stack.stack-index in
     let d = c.stack-item.result in
-    let small : k < 1024 = omega (arith, c.loop-stack.invariant.0, ap length c.deref_mut.ensures.value) in
+    let small : k < length c.args.memory.items = omega (arith, c.loop-stack.invariant.0, ap length c.deref_mut.ensures.value) in
     let sum : get_or c.deref_mut.result.now k 0 ≡ sum_by (missed_at k) (take i c.args.stacks.now) =
     ap (λ xs. get_or xs k 0) c.deref_mut.ensures.value ∙ c.loop-stack.invariant.1 k small in
     omega (
@@ -42,4 +42,4 @@ returns-clause-misses c = λ z g history each k below.
     let all : take c.loop-stack.stack-index c.args.stacks.now ≡ c.args.stacks.now =
     take_all c.loop-stack.stack-index c.args.stacks.now (omega arith) in
     c.loop-stack.invariant.1 k below ∙ ap (sum_by (missed_at k)) all
-    ∙ missed-all z g history c.args.stacks.now k below c.requires.stacks.places each
+    ∙ missed-all z g history c.args.stacks.now (length c.args.memory.items) k below c.requires.stacks.places_are each

@@ -5,5 +5,5 @@ use Rattle.miss_curves.proofs.stacks.curve_of.Given as goal
 
 abbrev pub invariant-loop-stack : goal.invariant-loop-stack
 invariant-loop-stack l =
-    (length l.curve.items ≡ 1024)
-    × ((k : ℕ) → k < 1024 → get_or l.curve.items k 0 ≡ sum_by (missed_at k) (take l.stack-index l.stacks))
+    (length l.curve.items ≡ length l.fn.memory.items)
+    × ((k : ℕ) → k < length l.fn.memory.items → get_or l.curve.items k 0 ≡ sum_by (missed_at k) (take l.stack-index l.stacks))

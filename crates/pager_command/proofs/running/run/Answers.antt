@@ -1,4 +1,4 @@
-use Rattle.std.proofs.Common.{◌≡◌, Option, None, IsSome, inl, inr, refl, subst, sym, ap, arith}
+use Rattle.std.proofs.Common.{◌≡◌, Option, None, IsSome, inl, inr, refl, subst, sym, arith}
 use Rattle.std.proofs.lemmas.Bool.{false≢true}
 use Rattle.flight_core.specs.Lacking.{NoneLacked}
 use Rattle.pager_model.specs.Legal.{entries_in}
@@ -40,7 +40,7 @@ returns-in_default g c =
       makes = λ m is. absurd (no_command (Make m, is));
       large = λ number seed is. absurd (no_command (Large number seed, is));
       checks = λ is. absurd (no_command (Check, is));
-      streams = λ every is. absurd (no_command (Stream every, is));
+      streams = λ report is. absurd (no_command (Stream report, is));
       verdict = λ some. absurd (no_verdict _ stop.verdict some);
       lasting = λ _ _. subst (λ h. NoneLacked (entries_in h)) (sym stop.history) tt;
     }
@@ -67,7 +67,7 @@ returns-in-Run g c =
       makes = λ m is. absurd (let e : Run form ≡ Make m = one (Make m) is in cc);
       large = λ number seed is. absurd (let e : Run form ≡ Large number seed = one (Large number seed) is in cc);
       checks = λ is. absurd (let e : Run form ≡ Check = one Check is in cc);
-      streams = λ every is. absurd (let e : Run form ≡ Stream every = one (Stream every) is in cc);
+      streams = λ report is. absurd (let e : Run form ≡ Stream report = one (Stream report) is in cc);
       verdict = λ some. absurd (no_verdict _ c.run_form.ensures.no_verdict some);
       lasting = λ lasts _. c.run_form.ensures.lasting lasts;
     }
@@ -95,7 +95,7 @@ returns-in-Make g c =
       makes = λ other is. (refl, rw (← same other is) made);
       large = λ number seed is. absurd (let e : Make m ≡ Large number seed = one (Large number seed) is in cc);
       checks = λ is. absurd (let e : Make m ≡ Check = one Check is in cc);
-      streams = λ every is. absurd (let e : Make m ≡ Stream every = one (Stream every) is in cc);
+      streams = λ report is. absurd (let e : Make m ≡ Stream report = one (Stream report) is in cc);
       verdict = λ some. absurd (no_verdict _ c.write_made.ensures.no_verdict some);
       lasting = λ _ _. subst (λ h. NoneLacked (entries_in h)) (sym made.no_history) tt;
     }
@@ -122,7 +122,7 @@ returns-in-Large g c =
       large = λ other drawn is. (let e : Large number seed ≡ Large other drawn = one (Large other drawn) is in
           let first : number ≡ other = cc in let second : seed ≡ drawn = cc in (refl, rw (← first, ← second) runs));
       checks = λ is. absurd (let e : Large number seed ≡ Check = one Check is in cc);
-      streams = λ every is. absurd (let e : Large number seed ≡ Stream every = one (Stream every) is in cc);
+      streams = λ report is. absurd (let e : Large number seed ≡ Stream report = one (Stream report) is in cc);
       verdict = λ some. absurd (no_verdict _ c.run_large.ensures.no_verdict some);
       lasting = λ lasts _. c.run_large.ensures.lasting lasts;
     }
@@ -148,38 +148,38 @@ returns-in-Check g c =
       makes = λ m is. absurd (let e : Check ≡ Make m = one (Make m) is in cc);
       large = λ number seed is. absurd (let e : Check ≡ Large number seed = one (Large number seed) is in cc);
       checks = λ _. checks;
-      streams = λ every is. absurd (let e : Check ≡ Stream every = one (Stream every) is in cc);
+      streams = λ report is. absurd (let e : Check ≡ Stream report = one (Stream report) is in cc);
       verdict = λ _. are;
       lasting = λ _ other. absurd (other are);
     }
 
 pub stream_text-requires-clause-some : goal.stream_text-requires-clause-some
 stream_text-requires-clause-some g c κs _ =
-    stream_some c.args.words.now c.in-Stream.every (subst (AreOfCommand c.args.words.now) c.in-Stream.is c.in-Some.ensures.some)
+    stream_some c.args.words.now c.in-Stream.report (subst (AreOfCommand c.args.words.now) c.in-Stream.is c.in-Some.ensures.some)
 
 pub returns-in-Stream : goal.returns-in-Stream
 returns-in-Stream g c =
     let words = c.args.words.now in
-    let every = c.in-Stream.every in
-    let are : AreStreamWords words every = subst (AreOfCommand words) c.in-Stream.is c.in-Some.ensures.some in
-    let one = λ (other : Command) (is : AreOfCommand words other). one_command words (Stream every) other are is in
+    let report = c.in-Stream.report in
+    let are : AreStreamWords words report = subst (AreOfCommand words) c.in-Stream.is c.in-Some.ensures.some in
+    let one = λ (other : Command) (is : AreOfCommand words other). one_command words (Stream report) other are is in
     let seen = views g.T.Source.left g.T.Source.faults g.K.Sink.taken g.K.Sink.faults g.S.Store.seen in
     let from = ends c.args.source.now c.args.sink.now in
     let to = ends c.stream_text.new.source c.stream_text.new.sink in
     let outcome = c.stream_text.result in
     let streams = c.stream_text.ensures.streams in
-    let command = Streams-command seen g.S.Store.lasts every from to c.args.stores.items outcome streams in
+    let command = Streams-command seen g.S.Store.lasts report from to c.args.stores.items outcome streams in
     record {
-      statuses = Streams-status seen g.S.Store.lasts every from to c.args.stores.items outcome streams;
-      told = Streams-told seen g.S.Store.lasts every from to c.args.stores.items outcome streams;
-      command = (λ _. command, λ _. (Stream every, are));
+      statuses = Streams-status seen g.S.Store.lasts report from to c.args.stores.items outcome streams;
+      told = Streams-told seen g.S.Store.lasts report from to c.args.stores.items outcome streams;
+      command = (λ _. command, λ _. (Stream report, are));
       usage = λ is. absurd (command is);
-      runs = λ form is. absurd (let e : Stream every ≡ Run form = one (Run form) is in cc);
-      complete = λ form is. absurd (let e : Stream every ≡ Run form = one (Run form) is in cc);
-      makes = λ m is. absurd (let e : Stream every ≡ Make m = one (Make m) is in cc);
-      large = λ number seed is. absurd (let e : Stream every ≡ Large number seed = one (Large number seed) is in cc);
-      checks = λ is. absurd (let e : Stream every ≡ Check = one Check is in cc);
-      streams = λ other is. (let e : Stream every ≡ Stream other = one (Stream other) is in let found : every ≡ other = cc in rw (← found) streams);
+      runs = λ form is. absurd (let e : Stream report ≡ Run form = one (Run form) is in cc);
+      complete = λ form is. absurd (let e : Stream report ≡ Run form = one (Run form) is in cc);
+      makes = λ m is. absurd (let e : Stream report ≡ Make m = one (Make m) is in cc);
+      large = λ number seed is. absurd (let e : Stream report ≡ Large number seed = one (Large number seed) is in cc);
+      checks = λ is. absurd (let e : Stream report ≡ Check = one Check is in cc);
+      streams = λ other is. (let e : Stream report ≡ Stream other = one (Stream other) is in let found : report ≡ other = cc in rw (← found) streams);
       verdict = λ some. absurd (no_verdict _ c.stream_text.ensures.no_verdict some);
       lasting = λ _ _. subst (λ h. NoneLacked (entries_in h)) (sym c.stream_text.ensures.no_history) tt;
     }

@@ -1,4 +1,4 @@
-use Rattle.std.proofs.Common.{◌++◌, ap, arith}
+use Rattle.std.proofs.Common.{◌++◌, ap, ◌∙◌, arith}
 use Rattle.stream_core.specs.Streaming.{turns_in}
 use Rattle.stream_core.proofs.Ends.{TookTurns-more, TookTurns-whole, due_still}
 use Rattle.stream_core.proofs.stream.take_turns.Goals as goal
@@ -6,7 +6,7 @@ use Rattle.stream_core.proofs.stream.take_turns.Goals as goal
 pub take_turn-requires-clause-can : goal.take_turn-requires-clause-can
 take_turn-requires-clause-can g c κs within =
     let can = c.requires.can in
-    let took = c.loop.invariant can.plan can.stores can.calls can.history can.at can.due in
+    let took = c.loop.invariant.took can.plan can.stores can.calls can.history can.at can.due in
     record {
       plan = can.plan;
       stores = can.stores;
@@ -17,11 +17,14 @@ take_turn-requires-clause-can g c κs within =
     }
 
 pub loop-preserved : goal.loop-preserved
-loop-preserved g c = λ plan stores calls h at due.
-    let took = c.loop.invariant plan stores calls h at due in
-    TookTurns-more plan stores calls h c.args.stream.now.turns c.loop.counter c.loop.stream c.take_turn.new.self took
-    (c.take_turn.ensures.took plan stores calls (h ++ took.piece) took.at
-    (due_still plan stores calls h c.args.stream.now.turns c.loop.counter c.loop.stream due took))
+loop-preserved g c = record {
+  took = λ plan stores calls h at due.
+      let took = c.loop.invariant.took plan stores calls h at due in
+      TookTurns-more plan stores calls h c.args.stream.now.turns c.loop.counter c.loop.stream c.take_turn.new.self took
+      (c.take_turn.ensures.took plan stores calls (h ++ took.piece) took.at
+      (due_still plan stores calls h c.args.stream.now.turns c.loop.counter c.loop.stream due took));
+  asked = c.take_turn.ensures.asked ∙ c.loop.invariant.asked;
+}
 
 pub returns : goal.returns
 returns g c = record {
@@ -30,5 +33,6 @@ returns g c = record {
       let same = ap turns_in at.daemon_is in
       let end = c.loop-test.false in
       TookTurns-whole plan stores calls h c.args.stream.now.turns c.loop.counter c.loop.stream (omega (arith, all, same, end))
-      (c.loop.invariant plan stores calls h at due);
+      (c.loop.invariant.took plan stores calls h at due);
+  asked = c.loop.invariant.asked;
 }

@@ -24,6 +24,7 @@ lines-init g c = record {
     no_read_fault = refl;
     no_write_fault = refl;
   };
+  asked = refl;
 }
 
 pub make_line-requires-clause-can : goal.make_line-requires-clause-can
@@ -74,10 +75,11 @@ lines-preserved g c = record {
       c.in_default.ensures.on c.in-Ok-Some.field-0 (seen c.next_call.new.ahead (g.T.Source.left c.next_call.new.source)) _ _
       c.in-Ok-Some.field-0-is c.in-Ok-Some.ensures.reads
       (c.in-Ok-Some.ensures.no_other_fault (ok_err c.in-Ok-Some.field-0 ReadFault)) c.in_default.ensures.unfailed;
+  asked = c.make_line.ensures.asked ∙ c.lines.invariant.asked;
 }
 
-pub returns-in-Ok-None : goal.returns-in-Ok-None
-returns-in-Ok-None g c = λ left stores after opens.
+pub returns-in-Ok-None-clause-ended : goal.returns-in-Ok-None-clause-ended
+returns-in-Ok-None-clause-ended g c = λ left stores after opens.
     let plan = c.args.opening.now.trace in
     let goes = c.lines.invariant.goes left stores after opens in
     let at = goes.stands.after.at in
@@ -101,8 +103,8 @@ returns-in-Ok-None g c = λ left stores after opens.
       no_write_fault = λ other. goes.no_write_fault;
     }
 
-pub returns-in-Err : goal.returns-in-Err
-returns-in-Err g c = λ left stores after opens.
+pub returns-in-Err-clause-ended : goal.returns-in-Err-clause-ended
+returns-in-Err-clause-ended g c = λ left stores after opens.
     let plan = c.args.opening.now.trace in
     let fault = c.in-Err.fault in
     let goes = c.lines.invariant.goes left stores after opens in
@@ -129,8 +131,8 @@ returns-in-Err g c = λ left stores after opens.
       no_write_fault = λ other. goes.no_write_fault;
     }
 
-pub returns-in-Err-make_line : goal.returns-in-Err-make_line
-returns-in-Err-make_line g c = λ left stores after opens.
+pub returns-in-Err-make_line-clause-ended : goal.returns-in-Err-make_line-clause-ended
+returns-in-Err-make_line-clause-ended g c = λ left stores after opens.
     let plan = c.args.opening.now.trace in
     let goes = c.lines.invariant.goes left stores after opens in
     let next = IsNext-of c.args.opening.now.head plan goes.calls c.in-Ok-Some.field-0 c.in-Ok-Some.line c.calls.result c.requires.opening

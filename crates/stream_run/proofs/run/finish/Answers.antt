@@ -1,8 +1,17 @@
+use Rattle.std.proofs.Common.{◌++◌, ◌∙◌}
+use Rattle.pager_model.specs.Stores.{setting_over}
+use Rattle.stream_run.proofs.WholeStreams.{IsEndText-of}
 use Rattle.stream_run.proofs.run.finish.Goals as goal
 
 pub returns : goal.returns
-returns g c = λ plan stores calls h after. record {
-  summary = c.finish-stores.result.summary;
-  run = c.finish-stores.ensures plan stores calls h after;
-  writes = c.write_counts-ending.ensures;
-}
+returns g c = λ report plan stores calls h asked admitted after.
+    let ended = c.finish-curves.ensures in
+    let run = ended.whole plan stores calls h after in
+    record {
+      summary = c.finish-curves.result.summary;
+      curves = c.finish-curves.result.curves;
+      run = run;
+      text_is = IsEndText-of report (setting_over plan stores) (h ++ run.piece) _ _ (ended.asked ∙ asked) run.counts_are
+          (λ is. run.curves_are (admitted is));
+      writes = c.write_end-ending.ensures;
+    }

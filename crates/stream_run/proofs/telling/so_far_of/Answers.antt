@@ -9,5 +9,5 @@ returns g c = λ plan stores calls h after.
     let number : c.from.result ≡ c.calls.result = search rules in
     IsSoFar-all (setting_over plan stores) plan calls h _ (IsFiled-front plan stores calls h c.args.stream.now after)
     (number ∙ c.calls.ensures ∙ after.at.calls_are) (c.summary.ensures plan stores calls h after)
-    (ap (λ (k : Counted). k.evictions) c.counted-counted.ensures ∙ after.at.counted.evictions)
-    (ap (λ (k : Counted). k.unserved) c.counted-counted.ensures ∙ after.at.counted.unserved)
+    (ap (λ (k : Counted). k.evictions) c.counted-counted.ensures ∙ after.at.tallied.counted.evictions)
+    (ap (λ (k : Counted). k.unserved) c.counted-counted.ensures ∙ after.at.tallied.counted.unserved)

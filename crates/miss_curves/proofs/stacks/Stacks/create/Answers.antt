@@ -9,9 +9,9 @@ invariant_of-result c =
     let second = c.in_ok-blank_stacks-2.ensures in
     record {
       counted = omega arith;
-      few = omega (arith, first.spaces, c.requires);
-      tiles = AreStacks-blank _ _ (search rules) first.blank;
-      pages = AreStacks-blank _ _ (second.spaces ∙ sym first.spaces) second.blank;
+      few = omega (arith, first.spaces, c.requires.spaces);
+      tiles = AreStacks-blank _ c.args.places _ (search rules) first.blank;
+      pages = AreStacks-blank _ c.args.places _ (second.spaces ∙ sym first.spaces) second.blank;
     }
 
 pub returns-clause-stands : goal.returns-clause-stands
@@ -19,6 +19,6 @@ returns-clause-stands c = λ g same.
     let first = c.in_ok-blank_stacks.ensures in
     let second = c.in_ok-blank_stacks-2.ensures in
     record {
-      tiles = StandEach-blank g.sizes g _ (first.spaces ∙ sym same) first.blank;
-      pages = StandEach-blank base_alone g _ (second.spaces ∙ sym same) second.blank;
+      tiles = StandEach-blank g.sizes g c.args.places _ (first.spaces ∙ sym same) first.blank;
+      pages = StandEach-blank base_alone g c.args.places _ (second.spaces ∙ sym same) second.blank;
     }

@@ -13,7 +13,7 @@ follow_same-requires c =
     let s = c.in-Some.space in
     let known : s < length c.args.self.now.tiles = in_some _ c.args.entry.now.space s c.in-Some.is c.requires.known in
     let rows = c.self.view_is in
-    let few = uses-within (length was.tiles.items) was.entries was.tiles.items s c.index_mut.result.now
+    let few = uses-within (length was.tiles.items) was.places was.entries was.tiles.items s c.index_mut.result.now
     (omega (arith, known, ap (λ r. length r.tiles) rows)) c.index_mut.ensures.value c.self.invariant.tiles in
     record { room = omega (arith, few, c.requires.room, ap (λ r. r.entries) rows) }
 
@@ -23,7 +23,7 @@ follow_same-requires-in-Some c =
     let s = c.in-Some.space in
     let known : s < length c.args.self.now.tiles = in_some _ c.args.entry.now.space s c.in-Some.is c.requires.known in
     let rows = c.self.view_is in
-    let few = uses-within (length was.tiles.items) was.entries was.pages.items s c.index_mut-in-Some.result.now
+    let few = uses-within (length was.tiles.items) was.places was.entries was.pages.items s c.index_mut-in-Some.result.now
     (omega (arith, known, c.self.invariant.pages.spaces, ap (λ r. length r.tiles) rows)) c.index_mut-in-Some.ensures.value
     c.self.invariant.pages in
     record { room = omega (arith, few, c.requires.room, ap (λ r. r.entries) rows) }
@@ -55,7 +55,7 @@ returns-in-Some-clause-stands c = λ g' history told stands.
       search rules,
       c.follow_same-in-Some.ensures.stands base_alone state e (followed base_alone g' s (space_part s history)) tells.1,
     )
-    (subst (λ k. StandAfter g' k history) (sym c.self.view_is) stands) _
+    (subst (λ k. StandAfter g' k history) (sym c.self.view_is) stands) _ _
 
 pub returns-in_default-clause-stands : goal.returns-in_default-clause-stands
 returns-in_default-clause-stands c = λ g' history told stands. StandAfter-none g' history c.args.entry.now _ (search rules) stands

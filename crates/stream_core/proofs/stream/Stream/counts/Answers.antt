@@ -1,4 +1,4 @@
-use Rattle.std.proofs.Common.{◌≤◌, List, length, sym, subst, arith}
+use Rattle.std.proofs.Common.{◌≤◌, List, length, ap, sym, subst, ◌∙◌, arith}
 use Rattle.pager_model.specs.declared.entry.Entry.{Entry}
 use Rattle.pager_model.specs.Stores.{setting_over}
 use Rattle.space_core.specs.Standing.{Kept}
@@ -18,7 +18,7 @@ counts_of-requires-clause-rest g c κs within =
       can.history,
       subst (λ (l : List Kept). AreAtRest (setting_over can.plan can.stores) can.history l c.self.inside.pool) (sym c.as_slice.ensures.value)
           can.at.rest,
-      few c.self.inside.counted can.history can.at.counted,
+      few c.self.inside.tally.counted can.history can.at.tallied.counted,
     )
 
 pub returns : goal.returns
@@ -26,4 +26,6 @@ returns g c = λ plan stores calls h is.
     let at = subst (IsAt plan stores calls h) (sym c.self.view_is) is in
     c.counts_of.ensures (setting_over plan stores) h
     (subst (λ (l : List Kept). AreAtRest (setting_over plan stores) h l c.self.inside.pool) (sym c.as_slice.ensures.value) at.rest)
-    (few c.self.inside.counted h at.counted) at.counted.hits at.counted.misses
+    (few c.self.inside.tally.counted h at.tallied.counted)
+    (ap (λ (k : Counted). k.hits) c.counted-counted.ensures ∙ at.tallied.counted.hits)
+    (ap (λ (k : Counted). k.misses) c.counted-counted.ensures ∙ at.tallied.counted.misses)

@@ -10,6 +10,7 @@ use Rattle.space_core.specs.Standing.{Kept}
 use Rattle.pager_core.specs.RunParts.{AreNewSpaces, AreRoomsOver}
 use Rattle.pager_core.proofs.StartMachines.{length-told}
 use Rattle.pager_core.proofs.Stores.{as_long, length-rooms}
+use Rattle.replay_core.proofs.RunLemmas.{told-over}
 use Rattle.stream_core.proofs.Streams.{IsAfter-start}
 use Rattle.stream_core.proofs.stream.Stream.create.Goals as goal
 
@@ -77,8 +78,14 @@ returns-clause-starts g c =
     (known g.S.Store.seen c.args.opening.now c.args.stores.items c.as_slice.result.now c.as_slice.ensures.value c.requires.enough
     c.in-Ok.room.setting c.in-Ok.room.spaces c.in-Ok.ensures.setting c.in-Ok.ensures.spaces)
     (subst (λ l. AreCapped c.args.opening.now.spaces (map g.S.Store.seen l)) c.as_slice.ensures.value c.in-Ok.ensures.capped)
-    _ c.daemon.result c.processors.result c.new.result c.over-spaces.result.0.items c.in-Ok.room.pool _
+    _ c.daemon.result c.processors.result c.in-Ok-create.tally c.over-spaces.result.0.items c.in-Ok.room.pool _
     c.daemon.ensures.daemon c.processors.ensures.processors
     (subst (λ s. AreNewSpaces s c.over-spaces.result.0.items) is (c.over-spaces.ensures.new c.in-Ok.room.setting over))
-    c.in-Ok.ensures.pool c.new.ensures refl (λ n below. get_or-replicate 16 n 0 0 below)
+    c.in-Ok.ensures.pool (c.in-Ok-create.ensures.starts (setting_over c.args.opening.now stores) (record {
+      frames = refl;
+      sizes = refl;
+      spaces = told-over c.args.opening.now stores
+          (known g.S.Store.seen c.args.opening.now c.args.stores.items c.as_slice.result.now c.as_slice.ensures.value c.requires.enough
+          c.in-Ok.room.setting c.in-Ok.room.spaces c.in-Ok.ensures.setting c.in-Ok.ensures.spaces);
+    })) refl (λ n below. get_or-replicate 16 n 0 0 below)
     (c.over-spaces.ensures.left ∙ ap (λ n. drop n stores) rooms)

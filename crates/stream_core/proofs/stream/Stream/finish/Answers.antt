@@ -1,12 +1,13 @@
-use Rattle.std.proofs.Common.{◌≡◌, List, ◌++◌, drop, length, map, subst}
+use Rattle.std.proofs.Common.{◌≡◌, List, ◌++◌, drop, length, map, sym, subst}
 use Rattle.pager_model.specs.declared.entry.Numbered.{Numbered}
 use Rattle.pager_model.specs.FrameStates.{FrameState}
 use Rattle.pager_model.specs.Legal.{entries_in}
 use Rattle.pager_model.specs.Settings.{Given}
 use Rattle.pager_model.specs.Stored.{Stored}
-use Rattle.pager_model.specs.Stores.{StoresEnd}
+use Rattle.pager_model.specs.Stores.{StoresEnd, setting_over}
 use Rattle.pager_core.specs.RunParts.{AreAtRest}
 use Rattle.stream_core.specs.Streaming.{Streaming}
+use Rattle.stream_core.specs.Tallies.{IsTallied}
 use Rattle.stream_core.proofs.Ends.{IsRunWhole-took, due_after}
 use Rattle.stream_core.proofs.stream.Stream.finish.Goals as goal
 
@@ -17,12 +18,14 @@ counts-summary-requires-after_bounds g c κs within =
     (due_after can.plan can.stores can.calls can.history c.args.self can.after) in
     record { plan = can.plan; stores = can.stores; calls = can.calls; history = can.history ++ took.piece; at = took.at }
 
-pub returns : goal.returns
-returns g c = λ plan stores calls h after.
+pub returns-clause-whole : goal.returns-clause-whole
+returns-clause-whole g c = λ plan stores calls h after.
     let left : List Stored = map g.S.Store.seen c.stores_of.result.items in
     let took = c.take_turns.ensures.took plan stores calls h after.at (due_after plan stores calls h c.args.self after) in
-    IsRunWhole-took g.S.Store.lasts plan stores calls h c.args.self.turns c.take_turns.new.stream left c.counts-summary.result took
+    IsRunWhole-took g.S.Store.lasts plan stores calls h c.args.self.turns c.take_turns.new.stream left c.counts-summary.result c.into_curves.result took
     (subst (λ (s : Streaming). (given : Given) (history : List Numbered) (pool : FrameState)
     → AreAtRest given (entries_in history) s.spaces pool → StoresEnd given history left) c.stream.view_is c.stores_of.ensures.ends)
     (subst (λ (s : Streaming). drop (length s.spaces) left ≡ s.unused) c.stream.view_is c.stores_of.ensures.unused)
     (c.counts-summary.ensures plan stores calls (h ++ took.piece) took.at)
+    (c.into_curves.ensures.curves (setting_over plan stores) (h ++ took.piece)
+    (subst (λ (s : Streaming). IsTallied s.tally (setting_over plan stores) (h ++ took.piece)) (sym c.stream.view_is) took.at.tallied))

@@ -1,5 +1,5 @@
 use Rattle.std.proofs.Common.{◌++◌}
-use Rattle.stream_core.proofs.Ends.{IsMade-then, due_after, few_before}
+use Rattle.stream_core.proofs.Ends.{IsMade-then, IsMadeAlone-then, due_after, few_before}
 use Rattle.stream_core.proofs.stream.Stream.make.Goals as goal
 
 pub take_turn-requires-clause-can : goal.take_turn-requires-clause-can
@@ -29,11 +29,16 @@ make_call-requires-clause-can g c κs within =
       turns = few_before can.plan can.stores can.calls can.history c.args.self.now c.take_turn.new.self can.after took;
     }
 
-pub returns : goal.returns
-returns g c = record {
-  made = λ plan stores calls h after next.
-      let took = c.take_turn.ensures.took plan stores calls h after.at (due_after plan stores calls h c.args.self.now after) in
-      IsMade-then g.S.Store.lasts plan stores calls h c.args.line c.args.self.now c.take_turn.new.self c.make_call.new.self after took
-      (c.make_call.ensures.made plan stores calls (h ++ took.piece) took.at next
-      (few_before plan stores calls h c.args.self.now c.take_turn.new.self after took));
-}
+pub returns-clause-made : goal.returns-clause-made
+returns-clause-made g c = λ plan stores calls h after next.
+    let took = c.take_turn.ensures.took plan stores calls h after.at (due_after plan stores calls h c.args.self.now after) in
+    IsMade-then g.S.Store.lasts plan stores calls h c.args.line c.args.self.now c.take_turn.new.self c.make_call.new.self after took
+    (c.make_call.ensures.made plan stores calls (h ++ took.piece) took.at next
+    (few_before plan stores calls h c.args.self.now c.take_turn.new.self after took))
+
+pub returns-clause-alone : goal.returns-clause-alone
+returns-clause-alone g c = λ plan stores calls h after next alone.
+    let took = c.take_turn.ensures.took plan stores calls h after.at (due_after plan stores calls h c.args.self.now after) in
+    IsMadeAlone-then g.S.Store.lasts plan stores calls h c.args.line c.args.self.now c.take_turn.new.self c.make_call.new.self after alone took
+    (c.make_call.ensures.made plan stores calls (h ++ took.piece) took.at next
+    (few_before plan stores calls h c.args.self.now c.take_turn.new.self after took))

@@ -1,4 +1,4 @@
-use Rattle.std.proofs.Common.{◌+◌, ◌≤◌, Bool, List, [], ◌∷◌, ◌++◌, length, sym, subst, arith}
+use Rattle.std.proofs.Common.{◌+◌, ◌≤◌, Bool, List, length, sym, subst, arith}
 use Rattle.pager_model.specs.declared.call.Line.{Line}
 use Rattle.pager_model.specs.declared.entry.Entry.{Entry}
 use Rattle.pager_model.specs.Plans.{Plan}
@@ -10,7 +10,7 @@ use Rattle.stream_core.proofs.stream.Stream.make_call.Goals as goal
 -- that a stream went on to this one by a call
 abbrev Called : Bool → Line → Streaming → Streaming → Type 0
 Called lasts line new old = (plan : Plan) (stores : List Stored) (calls : List Line) (h : List Entry) → IsAt plan stores calls h old
-    → IsNext plan calls line → old.turns ≤ length calls + 1 → IsCalled lasts plan stores (calls ++ line ∷ []) h old.turns new
+    → IsNext plan calls line → old.turns ≤ length calls + 1 → IsCalled lasts plan stores calls line h old.turns new
 
 pub fly-requires-clause-can : goal.fly-requires-clause-can
 fly-requires-clause-can g c κs within =
@@ -39,9 +39,7 @@ invariant_of-self g c =
     let room = c.self.invariant in
     omega (arith, same, room)
 
-pub returns : goal.returns
-returns g c = record {
-  made = subst (Called g.S.Store.lasts c.args.line _) c.self.view_is (λ plan stores calls h at next turns.
-      IsCalled-flown plan stores calls h _ at c.args.line next turns c.of_call-flight.result c.of_call-flight.ensures g.S.Store.lasts
-      c.fly.new.log c.fly.new.flight c.fly.new.spaces.items c.fly.new.pool c.fly.ensures.went c.fly.ensures.ended c.fly.ensures.lasting);
-}
+pub returns-clause-made : goal.returns-clause-made
+returns-clause-made g c = subst (Called g.S.Store.lasts c.args.line _) c.self.view_is (λ plan stores calls h at next turns.
+    IsCalled-flown plan stores calls h _ at c.args.line next turns c.of_call-flight.result c.of_call-flight.ensures g.S.Store.lasts
+    c.fly.new.log c.fly.new.flight c.fly.new.spaces.items c.fly.new.pool c.fly.ensures.went c.fly.ensures.ended c.fly.ensures.lasting)

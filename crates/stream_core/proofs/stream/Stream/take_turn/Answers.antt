@@ -12,18 +12,14 @@ abbrev Took : Streaming → Streaming → Type 0
 Took new old = (plan : Plan) (stores : List Stored) (calls : List Line) (h : List Entry) → IsAt plan stores calls h old
     → IsDue plan calls old.turns → TookTurns plan stores calls h old.turns 1 new
 
-pub returns-in_default : goal.returns-in_default
-returns-in_default g c = record {
-  took = subst (λ x. Took x x) c.self.view_is (λ plan stores calls h at due.
-      TookTurns-all plan stores calls h _ at (let none = ap turns_in c.in_default.is in omega (arith, none)));
-}
+pub returns-in_default-clause-took : goal.returns-in_default-clause-took
+returns-in_default-clause-took g c = subst (λ x. Took x x) c.self.view_is (λ plan stores calls h at due.
+    TookTurns-all plan stores calls h _ at (let none = ap turns_in c.in_default.is in omega (arith, none)))
 
-pub returns-then-self-daemon : goal.returns-then-self-daemon
-returns-then-self-daemon g c = record {
-  took = subst (λ x. Took x x) c.self.view_is (λ plan stores calls h at due.
-      TookTurns-all plan stores calls h _ at
-      (let all = ap turns_in c.in-Some.is in let same = c.if-self-daemon.true in omega (arith, all, same)));
-}
+pub returns-then-self-daemon-clause-took : goal.returns-then-self-daemon-clause-took
+returns-then-self-daemon-clause-took g c = subst (λ x. Took x x) c.self.view_is (λ plan stores calls h at due.
+    TookTurns-all plan stores calls h _ at
+    (let all = ap turns_in c.in-Some.is in let same = c.if-self-daemon.true in omega (arith, all, same)))
 
 pub fly-requires-clause-can : goal.fly-requires-clause-can
 fly-requires-clause-can g c κs within =
@@ -39,10 +35,8 @@ invariant_of-self g c =
     let room = c.self.invariant in
     omega (arith, same, room)
 
-pub returns : goal.returns
-returns g c = record {
-  took = subst (Took _) c.self.view_is (λ plan stores calls h at due.
-      TookTurns-flown plan stores calls h _ at due c.in-Some.daemon c.in-Some.is c.if-self-daemon.false
-      c.of_turn-flight.result c.of_turn-flight.ensures c.fly.new.log c.fly.new.flight c.fly.new.spaces.items c.fly.new.pool
-      c.fly.ensures.went c.fly.ensures.ended);
-}
+pub returns-clause-took : goal.returns-clause-took
+returns-clause-took g c = subst (Took _) c.self.view_is (λ plan stores calls h at due.
+    TookTurns-flown plan stores calls h _ at due c.in-Some.daemon c.in-Some.is c.if-self-daemon.false
+    c.of_turn-flight.result c.of_turn-flight.ensures c.fly.new.log c.fly.new.flight c.fly.new.spaces.items c.fly.new.pool
+    c.fly.ensures.went c.fly.ensures.ended)

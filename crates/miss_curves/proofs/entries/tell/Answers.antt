@@ -2,7 +2,7 @@ use Rattle.std.proofs.Common.{subst}
 use Rattle.followed_space.specs.Changed.{IsChange}
 use Rattle.miss_curves.specs.Histories.{effect}
 use Rattle.miss_curves.proofs.ToldEntries.{tells_same}
-use Rattle.miss_curves.proofs.history.tell.Goals as goal
+use Rattle.miss_curves.proofs.entries.tell.Goals as goal
 
 pub returns-in-Nothing-clause-stands : goal.returns-in-Nothing-clause-stands
 returns-in-Nothing-clause-stands c = λ g history old changed told stands.

@@ -3,7 +3,7 @@ use Rattle.miss_curves.proofs.ToldEntries.{tile_in_range, tells_all}
 use Rattle.miss_curves.specs.Curves.{base_alone}
 use Rattle.miss_curves.specs.Histories.{effect}
 use Rattle.tiles.specs.Resident.{mapping_at}
-use Rattle.miss_curves.proofs.history.tell_range.Goals as goal
+use Rattle.miss_curves.proofs.entries.tell_range.Goals as goal
 
 pub returns-clause-stands : goal.returns-clause-stands
 returns-clause-stands c = λ g history old keeps told stands.

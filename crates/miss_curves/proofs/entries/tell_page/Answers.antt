@@ -4,7 +4,7 @@ use Rattle.tiles.specs.Changes.{Came}
 use Rattle.tiles.specs.Resident.{mapping_at}
 use Rattle.miss_curves.specs.Histories.{effect}
 use Rattle.miss_curves.proofs.ToldEntries.{answer_at, base_at_page, none_went, tile_at_page, tells_all, tells_still}
-use Rattle.miss_curves.proofs.history.tell_page.Goals as goal
+use Rattle.miss_curves.proofs.entries.tell_page.Goals as goal
 
 pub returns-then-not-takes_any-clause-stands : goal.returns-then-not-takes_any-clause-stands
 returns-then-not-takes_any-clause-stands c = λ g history old others are told stands.

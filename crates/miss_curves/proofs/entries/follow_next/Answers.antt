@@ -3,7 +3,7 @@ use Rattle.std.proofs.lemmas.Option.{same_Some}
 use Rattle.pager_model.specs.Legal.{space_at}
 use Rattle.followed_space.specs.Follows.{IsNext}
 use Rattle.miss_curves.proofs.FollowedEntries.{FollowEach-named, FollowEach-none, named_next}
-use Rattle.miss_curves.proofs.history.follow_next.Goals as goal
+use Rattle.miss_curves.proofs.entries.follow_next.Goals as goal
 
 pub bounds-spaces-space : goal.bounds-spaces-space
 bounds-spaces-space c =

@@ -3,7 +3,7 @@ use Rattle.pager_model.specs.SpaceStates.{tile_at}
 use Rattle.tiles.specs.Resident.{mapping_at}
 use Rattle.miss_curves.specs.Histories.{use_of}
 use Rattle.miss_curves.proofs.FollowedEntries.{Told-followed}
-use Rattle.miss_curves.proofs.history.follow_entry.Goals as goal
+use Rattle.miss_curves.proofs.entries.follow_entry.Goals as goal
 
 pub used_page-page-requires : goal.used_page-page-requires
 used_page-page-requires c = c.requires.next.1.line

@@ -1,7 +1,7 @@
 use Rattle.std.proofs.Common.{[], rules}
 use Rattle.std.proofs.lemmas.List.Elements.{All-append, All-cons, All-nil}
 use Rattle.miss_curves.specs.Histories.{IsNew}
-use Rattle.miss_curves.proofs.history.new_spaces.Goals as goal
+use Rattle.miss_curves.proofs.counting.new_spaces.Goals as goal
 
 pub loop-preserved : goal.loop-preserved
 loop-preserved c =
