@@ -1,4 +1,9 @@
+mod BecameCalls
 mod EmptyTraces
-mod LineEnds
+mod LogLines
 mod MadeLines
-mod WroteLines
+mod PassedLogs
+mod Refused
+mod SoFar
+mod TakenLines
+mod WholeTexts

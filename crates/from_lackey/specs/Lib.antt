@@ -1,3 +1,5 @@
+pub mod Converted
 pub mod Frames
 pub mod LineWords
-pub mod Wrote
+pub mod Log
+pub mod Taken

@@ -1,5 +1,5 @@
 -- The words of the program that a line accesses.
-use Rattle.std.specs.Prelude.{ℕ, Bool, true, List, [], if◌then◌else◌, Option, Some, None}
+use Rattle.std.specs.Prelude.{ℕ, Bool, true, nat_lt, List, [], length, if◌then◌else◌, Option, Some, None}
 use Rattle.lackey_lines.specs.declared.access.Access.{Access}
 use Rattle.lackey_lines.specs.declared.access.AccessKind.{AccessKind}
 use Rattle.lackey_lines.specs.declared.access.AccessKind.TheVariants.{Instruction, Load, Store, Change}
@@ -20,3 +20,7 @@ told_words instructions (Some a) = if is_wanted instructions a.kind then words_o
 
 abbrev pub line_words : Bool → List ℕ → List Word
 line_words instructions line = told_words instructions (told_access line)
+
+-- the words that a line of a log accesses: one of 4,096 bytes or more tells nothing
+abbrev pub log_words : Bool → List ℕ → List Word
+log_words instructions line = if nat_lt (length line) 4096 then line_words instructions line else []

@@ -1,5 +1,8 @@
 //! What was read and written.
 
+ghost use Rattle.std.specs.Prelude.{◌≡◌, ◌+◌, ◌^◌, ◌<◌, length};
+ghost use Rattle.lackey_regions.specs.LineCalls.{accesses, accesses_of};
+
 use pager_model::{Call, Line};
 
 /// Counts of lines that were read, and of calls that were written.
@@ -17,14 +20,22 @@ pub struct Counts {
 
 impl Counts {
     /// Counts calls.
-    pub fn add(&mut self, calls: &[Line]) {
+    pub fn add(&mut self, calls: &[Line])
+        ensures accesses { self.old.accesses + length (accesses calls.now) < 2 ^ 64 → self.new.accesses ≡ self.old.accesses + length (accesses calls.now) }
+        ensures lines { self.new.lines ≡ self.old.lines }
+        ensures skipped { self.new.skipped ≡ self.old.skipped }
+    {
         for line in calls {
             self.add_call(&line.call);
         }
     }
 
     /// Counts a call.
-    fn add_call(&mut self, call: &Call) {
+    fn add_call(&mut self, call: &Call)
+        ensures accesses { self.old.accesses + length (accesses_of call.now) < 2 ^ 64 → self.new.accesses ≡ self.old.accesses + length (accesses_of call.now) }
+        ensures lines { self.new.lines ≡ self.old.lines }
+        ensures skipped { self.new.skipped ≡ self.old.skipped }
+    {
         match call {
             Call::Load { .. } | Call::Store { .. } => count(&mut self.accesses),
             Call::Map { .. } => count(&mut self.maps),
@@ -48,6 +59,8 @@ impl Counts {
 }
 
 /// Counts one more.
-fn count(counted: &mut u64) {
+fn count(counted: &mut u64)
+    ensures { counted.old + 1 < 2 ^ 64 → counted.new ≡ counted.old + 1 }
+{
     *counted = counted.saturating_add(1);
 }

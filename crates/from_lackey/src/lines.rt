@@ -1,8 +1,11 @@
 //! The calls that a line becomes.
 
-ghost use Rattle.std.specs.Prelude.{◌≡◌, OnOk};
+ghost use Rattle.std.specs.Prelude.{◌≡◌, IfErr, OnOk, length};
 ghost use Rattle.lackey_layout.specs.Places.{Keeps};
 ghost use Rattle.lackey_regions.specs.LineCalls.{MadeAt};
+ghost use Rattle.lackey_regions.specs.Held.{regions_of};
+ghost use Rattle.lackey_regions.specs.Refusals.{most_regions};
+ghost use Rattle.from_lackey.specs.Converted.{IsRefused};
 ghost use Rattle.from_lackey.specs.LineWords.{is_wanted, line_words};
 
 use lackey_lines::{AccessKind, access_of, system_call_of};
@@ -29,6 +32,8 @@ pub fn add_line(
 ) -> Result<Became, Refusal>
     ensures made { OnOk result (MadeAt memory.new.layout calls.old.items calls.new.items (line_words instructions line.now)) }
     ensures keeps { Keeps memory.old.layout memory.new.layout }
+    ensures refused { IfErr result (λ refusal. IsRefused memory.new.layout refusal line.now) }
+    ensures full { IfErr result (λ refusal. refusal ≡ Refusal.MoreRegions → length (regions_of memory.new) ≡ most_regions) }
 {
     if let Some(access) = access_of(line) {
         if is_wanted(instructions, access.kind) {

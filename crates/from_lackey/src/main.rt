@@ -11,13 +11,15 @@
 //! `lackey_lines` says what a line tells, `lackey_layout` where a page of the program is in the space, and `lackey_regions` which calls a line becomes. A line
 //! that tells nothing, or has 4,096 bytes or more, becomes none, and is counted as skipped.
 //!
-//! The status is 0 where the whole trace was written, 2 where the words are none of these, 3 where a line can't become calls, 4 where a read failed, 5 where
+//! The status is 0 where the whole trace was written, 2 where the words are none of these, 3 where a line can't become calls or there are more bytes than can be
+//! counted, 4 where a read failed, 5 where
 //! there was no memory, and 6 where a write failed. A message stands on standard error where it isn't 0, and what was written is then the beginning of a text.
 #![tactic(auto)]
 
 mod convert;
 mod counts;
 mod lines;
+mod log;
 mod options;
 mod stop;
 

@@ -1,8 +1,11 @@
 //! Why there is no whole trace.
 
+ghost use Rattle.std.specs.Prelude.{◌≡◌};
+ghost use Rattle.from_lackey.specs.declared.stop.Stop.TheVariants.{NoMemory, ReadFault, WriteFault};
+
 use io_core::{ReadFailed, WriteFailed};
 use lackey_regions::Refusal;
-use std::alloc::{AllocError, AllocFailed};
+use std::alloc::AllocError;
 use std::fmt::{self, Display, Formatter, Write};
 
 /// Why there is no whole trace.
@@ -14,7 +17,10 @@ pub enum Stop {
     Line { number: u64, refusal: Refusal },
     ReadFault,
     WriteFault,
+    /// There was no memory to begin with.
     NoMemory,
+    /// The log has more bytes than can be counted.
+    TooLong,
 }
 
 /// The status that the program ends with.
@@ -25,7 +31,7 @@ pub fn status_of(stop: &Stop) -> u8 {
             refusal: Refusal::NoMemory,
             ..
         } => 5,
-        Stop::Line { .. } => 3,
+        Stop::Line { .. } | Stop::TooLong => 3,
         Stop::ReadFault => 4,
         Stop::NoMemory => 5,
         Stop::WriteFault => 6,
@@ -44,30 +50,31 @@ impl Display for Stop {
             Stop::ReadFault => f.write_str("read fault"),
             Stop::WriteFault => f.write_str("write fault"),
             Stop::NoMemory => f.write_str("memory"),
+            Stop::TooLong => f.write_str("the log is too long"),
         }
     }
 }
 
 impl From<ReadFailed> for Stop {
+    ghost from_gives = { λ _ stop. stop ≡ ReadFault };
+
     fn from(_: ReadFailed) -> Stop {
         Stop::ReadFault
     }
 }
 
 impl From<WriteFailed> for Stop {
+    ghost from_gives = { λ _ stop. stop ≡ WriteFault };
+
     fn from(_: WriteFailed) -> Stop {
         Stop::WriteFault
     }
 }
 
 impl From<AllocError> for Stop {
-    fn from(_: AllocError) -> Stop {
-        Stop::NoMemory
-    }
-}
+    ghost from_gives = { λ _ stop. stop ≡ NoMemory };
 
-impl<T: Drop> From<AllocFailed<T>> for Stop {
-    fn from(_: AllocFailed<T>) -> Stop {
+    fn from(_: AllocError) -> Stop {
         Stop::NoMemory
     }
 }

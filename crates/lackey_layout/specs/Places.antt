@@ -17,6 +17,10 @@ HasNone places piece = (i : ℕ) → piece_at places i ≢ Some piece
 abbrev pub IsFree : List (Option ℕ) → ℕ → Type 0
 IsFree places i = (i < 2048) × (piece_at places i ≡ None)
 
+-- each place has a piece
+abbrev pub AreTaken : List (Option ℕ) → Type 0
+AreTaken places = (i : ℕ) → i < 2048 → piece_at places i ≢ None
+
 -- a piece has one place at most
 abbrev pub OneEach : List (Option ℕ) → Type 0
 OneEach places = (i j piece : ℕ) → piece_at places i ≡ Some piece → piece_at places j ≡ Some piece → i ≡ j

@@ -5,8 +5,8 @@
 //! address below 8 GiB mostly stays where it is, and each page keeps its place within 4 MiB, so that what could be a superpage still can.
 #![tactic(auto)]
 
-ghost use Rattle.std.specs.Prelude.{◌≡◌, ◌*◌, ◌+◌, ◌%◌, ◌<◌, ◌≤◌, IfOk, IfSome, IfNone, None, replicate};
-ghost use Rattle.lackey_layout.specs.Places.{HasNone, IsPageAt, Keeps};
+ghost use Rattle.std.specs.Prelude.{◌≡◌, ◌*◌, ◌/◌, ◌+◌, ◌%◌, ◌<◌, ◌≤◌, IfOk, IfSome, IfNone, None, replicate};
+ghost use Rattle.lackey_layout.specs.Places.{AreTaken, AreWhole, HasNone, IsPageAt, Keeps};
 
 mod search;
 
@@ -40,7 +40,8 @@ impl Model for Layout {
 impl Layout {
     /// A space without pieces.
     pub fn new(alloc: Global) -> Result<Layout, AllocError>
-        ensures { IfOk result (λ layout. layout ≡ replicate 2048 None) }
+        ensures none { IfOk result (λ layout. layout ≡ replicate 2048 None) }
+        ensures whole { IfOk result AreWhole }
     {
         Ok(Layout {
             places: vec![in alloc; None; PLACES]?,
@@ -58,7 +59,11 @@ impl Layout {
     /// The page of the space at which a page of the program is. Its piece gets a place where it has none, and there is none only where all have one.
     pub fn page_of(&mut self, page: u64) -> Option<u32>
         ensures at { IfSome result (IsPageAt self.new page) }
+        ensures taken { IfNone result (AreTaken self.old) }
+        ensures lacks { IfNone result (HasNone self.old (page / 512)) }
+        ensures same { IfNone result (self.new ≡ self.old) }
         ensures keeps { Keeps self.old self.new }
+        ensures whole { AreWhole self.new }
     {
         let piece = page / PIECE;
         if let Some(place) = place(self.places.as_slice(), piece) {

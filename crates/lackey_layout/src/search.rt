@@ -1,7 +1,7 @@
 //! The place of a piece, and a place that is free.
 
 ghost use Rattle.std.specs.Prelude.{◌≡◌, ◌≢◌, ℕ, ◌<◌, IfSome, IfNone, MatchOption, length};
-ghost use Rattle.lackey_layout.specs.Places.{HasNone, HasPiece, IsFree, piece_at};
+ghost use Rattle.lackey_layout.specs.Places.{AreTaken, HasNone, HasPiece, IsFree, piece_at};
 
 /// The place that a piece begins at to look for its own.
 fn home(piece: u64) -> usize
@@ -30,7 +30,8 @@ pub fn place(places: &[Option<u64>], piece: u64) -> Option<usize>
 /// A free place, from a piece's home on.
 pub fn free(places: &[Option<u64>], piece: u64) -> Option<usize>
     requires { length places.now ≡ 2048 }
-    ensures { IfSome result (IsFree places.now) }
+    ensures there { IfSome result (IsFree places.now) }
+    ensures none { IfNone result (AreTaken places.now) }
 {
     let home = home(piece);
     match first_with(&places[home..], None) {

@@ -1,12 +1,14 @@
 -- Calls that are added, one behind another.
-use Rattle.std.proofs.Common.{ℕ, ◌≡◌, ◌+◌, ◌*◌, ◌/◌, ◌%◌, ◌<◌, Bool, List, [], ◌∷◌, ◌++◌, Option, Some, refl, sym, ◌∙◌, ap, subst, append_assoc, append-nil, arith, lt-ltb, nat_lt, true, if◌then◌else◌}
+use Rattle.std.proofs.Common.{ℕ, ◌≡◌, ◌+◌, ◌*◌, ◌/◌, ◌%◌, ◌<◌, Bool, List, [], ◌∷◌, ◌++◌, Option, Some, refl, sym, ◌∙◌, ap, subst, append_assoc, append-nil, arith, lt-ltb, nat_lt, true, false, if◌then◌else◌, Result, Ok, Err, OnOk}
 use Rattle.std.specs.List.{AllByRecursion}
 use Rattle.pager_model.specs.declared.call.Call.{Call}
 use Rattle.pager_model.specs.declared.call.Call.TheVariants.{Map, Grow, Unmap, Protect, Load, Store, Sync, Evict, Discard, Wire, Unwire}
 use Rattle.pager_model.specs.declared.call.Line.{Line}
 use Rattle.pager_model.specs.TraceText.{HasLine, IsCall, IsLine}
+use Rattle.lackey_lines.specs.declared.access.AccessKind.{AccessKind}
+use Rattle.lackey_lines.specs.declared.access.AccessKind.TheVariants.{Change}
 use Rattle.lackey_layout.specs.Places.{IsPageAt, Keeps, piece_at}
-use Rattle.lackey_regions.specs.LineCalls.{Word, Adds, AreAt, IsWordAt, MadeAt, accesses, accesses_of, each_at, word}
+use Rattle.lackey_regions.specs.LineCalls.{Word, Adds, AreAt, IsWordAt, MadeAt, accesses, accesses_of, each_at, stores_of, word}
 
 -- what calls load and store, of two lists one behind the other
 pub accesses-append : (xs ys : List Line) → accesses (xs ++ ys) ≡ accesses xs ++ accesses ys
@@ -115,3 +117,12 @@ made_over p q xs ys zs stores address size first keeps next over =
     subst (λ ws. MadeAt q xs zs (each_at stores (address / 8 * 8) ++ ws)) (sym text)
     (subst (λ a. MadeAt q xs zs (each_at stores (address / 8 * 8) ++ each_at stores a)) high
     (subst (λ a. MadeAt q xs zs (each_at stores a ++ each_at stores ((address / 8192 + 1) * 8192 + 0))) low both))
+
+-- a load and then a store of a word are added
+pub made_change : {E : Type 0} (r : Result (Unit {0}) E) (p q : List (Option ℕ)) (xs ys zs : List Line) (kind : AccessKind) (address : ℕ) → kind ≡ Change →
+    MadeAt p xs ys (word false address ∷ []) → Keeps p q → OnOk r (MadeAt q ys zs (word true address ∷ [])) →
+    OnOk r (MadeAt q xs zs (each_at (stores_of kind) address))
+made_change (Ok done) p q xs ys zs kind address is first keeps next =
+    subst (λ (k : AccessKind). MadeAt q xs zs (each_at (stores_of k) address)) (sym is)
+    (made_both p q xs ys zs (word false address ∷ []) (word true address ∷ []) first keeps next)
+made_change (Err e) p q xs ys zs kind address is first keeps next = tt

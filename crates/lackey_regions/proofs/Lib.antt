@@ -1,1 +1,2 @@
-mod AddedCalls
+pub mod AddedCalls
+mod Causes

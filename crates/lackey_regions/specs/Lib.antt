@@ -1,2 +1,4 @@
+pub mod Held
 pub mod LineCalls
 pub mod RegionPlaces
+pub mod Refusals

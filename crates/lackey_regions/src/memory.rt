@@ -1,9 +1,10 @@
 //! A program's memory, and what accesses and system calls become.
 
-ghost use Rattle.std.specs.Prelude.{◌≡◌, ◌+◌, ◌*◌, ◌%◌, ◌^◌, ◌<◌, ◌≤◌, [], ◌∷◌, IfOk, IfSome, OnOk};
-ghost use Rattle.lackey_layout.specs.Places.{IsPageAt, Keeps};
+ghost use Rattle.std.specs.Prelude.{◌≡◌, ◌+◌, ◌*◌, ◌/◌, ◌%◌, ◌^◌, ◌<◌, ◌≤◌, ◌⊎◌, [], ◌∷◌, IfErr, IfOk, IfSome, OnOk, length};
+ghost use Rattle.lackey_layout.specs.Places.{AreTaken, AreWhole, HasNone, IsPageAt, Keeps};
 ghost use Rattle.pager_model.specs.TraceText.{IsCall};
 ghost use Rattle.lackey_regions.specs.LineCalls.{Adds, MadeAt, accesses_of, each_at, stores_of, word, words_of};
+ghost use Rattle.lackey_regions.specs.Refusals.{HasByte, IsCause, IsMapping, IsPageOf, Maps, MapsPage};
 
 use crate::added::add;
 use crate::refusal::Refusal;
@@ -19,6 +20,7 @@ pub struct Memory {
     pub layout: Layout,
     regions: Regions,
     top: Option<u64>,
+    ghost whole: { AreWhole layout },
 }
 
 impl Memory {
@@ -40,6 +42,7 @@ impl Memory {
     ) -> Result<(), Refusal>
         ensures made { OnOk result (MadeAt self.new.layout calls.old.items calls.new.items (words_of access)) }
         ensures keeps { Keeps self.old.layout self.new.layout }
+        ensures refused { IfErr result (IsCause (IsPageOf access) self.new.layout self.new.regions.regions.items) }
     {
         let page = access.address / PAGE_BYTES;
         let offset = access.address % PAGE_BYTES;
@@ -70,6 +73,7 @@ impl Memory {
         requires word { offset % 8 ≡ 0 }
         ensures made { OnOk result (MadeAt self.new.layout calls.old.items calls.new.items (each_at (stores_of kind) (page * 8192 + offset))) }
         ensures keeps { Keeps self.old.layout self.new.layout }
+        ensures refused { IfErr result (IsCause (λ p. p ≡ page) self.new.layout self.new.regions.regions.items) }
     {
         match kind {
             AccessKind::Instruction | AccessKind::Load => {
@@ -97,6 +101,7 @@ impl Memory {
         requires word { offset % 8 ≡ 0 }
         ensures made { OnOk result (MadeAt self.new.layout calls.old.items calls.new.items (word stores (page * 8192 + offset) ∷ [])) }
         ensures keeps { Keeps self.old.layout self.new.layout }
+        ensures refused { IfErr result (IsCause (λ p. p ≡ page) self.new.layout self.new.regions.regions.items) }
     {
         let Some(at) = self.layout.page_of(page) else {
             return Err(Refusal::MorePieces);
@@ -110,6 +115,8 @@ impl Memory {
     pub fn system_call(&mut self, call: SystemCall, calls: &mut Vec<Line>) -> Result<(), Refusal>
         ensures adds { OnOk result (Adds calls.old.items calls.new.items []) }
         ensures keeps { Keeps self.old.layout self.new.layout }
+        ensures refused { IfErr result (IsCause (MapsPage call) self.new.layout self.new.regions.regions.items) }
+        ensures maps { IfErr result (λ refusal. refusal ≡ Refusal.MoreRegions → IsMapping call) }
     {
         match call {
             SystemCall::Map {
@@ -151,6 +158,7 @@ impl Memory {
     fn set_top(&mut self, top: u64, calls: &mut Vec<Line>) -> Result<(), Refusal>
         ensures adds { OnOk result (Adds calls.old.items calls.new.items []) }
         ensures keeps { Keeps self.old.layout self.new.layout }
+        ensures refused { IfErr result (IsCause (λ page. page * 8192 < top) self.new.layout self.new.regions.regions.items) }
     {
         let Some(before) = self.top else {
             self.top = Some(top);
@@ -174,6 +182,7 @@ impl Memory {
     ) -> Result<(), Refusal>
         ensures adds { OnOk result (Adds calls.old.items calls.new.items []) }
         ensures keeps { Keeps self.old.layout self.new.layout }
+        ensures refused { IfErr result (IsCause (HasByte new_first new_length) self.new.layout self.new.regions.regions.items) }
     {
         let stays = if first == new_first {
             length.min(new_length)
@@ -203,6 +212,7 @@ impl Memory {
     ) -> Result<(), Refusal>
         ensures adds { OnOk result (Adds calls.old.items calls.new.items []) }
         ensures keeps { Keeps self.old.layout self.new.layout }
+        ensures refused { IfErr result (IsCause (λ page. (first / 8192 ≤ page) × (page * 8192 < end)) self.new.layout self.new.regions.regions.items) }
     {
         self.change_bytes(
             Change::Map(rights),
@@ -217,6 +227,7 @@ impl Memory {
     fn unmap(&mut self, first: u64, end: u64, calls: &mut Vec<Line>) -> Result<(), Refusal>
         ensures adds { OnOk result (Adds calls.old.items calls.new.items []) }
         ensures keeps { Keeps self.old.layout self.new.layout }
+        ensures no_memory { IfErr result (λ refusal. refusal ≡ Refusal.NoMemory) }
     {
         self.change_pages(
             Change::Unmap,
@@ -231,6 +242,7 @@ impl Memory {
     fn discard(&mut self, first: u64, end: u64, calls: &mut Vec<Line>) -> Result<(), Refusal>
         ensures adds { OnOk result (Adds calls.old.items calls.new.items []) }
         ensures keeps { Keeps self.old.layout self.new.layout }
+        ensures no_memory { IfErr result (λ refusal. refusal ≡ Refusal.NoMemory) }
     {
         self.change_pages(
             Change::Discard,
@@ -251,6 +263,8 @@ impl Memory {
     ) -> Result<(), Refusal>
         ensures adds { OnOk result (Adds calls.old.items calls.new.items []) }
         ensures keeps { Keeps self.old.layout self.new.layout }
+        ensures refused { IfErr result (IsCause (λ page. (Maps whole ⊎ Maps part) × (first / 8192 ≤ page) × (page * 8192 < end)) self.new.layout self.new.regions.regions.items) }
+        ensures maps { IfErr result (λ refusal. refusal ≡ Refusal.MoreRegions → Maps whole ⊎ Maps part) }
     {
         let first_whole = first.div_ceil(PAGE_BYTES);
         let end_whole = end / PAGE_BYTES;
@@ -275,6 +289,8 @@ impl Memory {
         requires { end < 2 ^ 52 }
         ensures adds { OnOk result (Adds calls.old.items calls.new.items []) }
         ensures keeps { Keeps self.old.layout self.new.layout }
+        ensures refused { IfErr result (IsCause (λ page. Maps change × (first ≤ page) × (page < end)) self.new.layout self.new.regions.regions.items) }
+        ensures maps { IfErr result (λ refusal. refusal ≡ Refusal.MoreRegions → Maps change) }
     {
         let mut run_first = 0;
         let mut run_end = 0;
@@ -299,6 +315,8 @@ impl Memory {
     fn place(&mut self, change: Change, page: u64) -> Result<Option<u32>, Refusal>
         ensures at { IfOk result (λ place. IfSome place (IsPageAt self.new.layout page)) }
         ensures keeps { Keeps self.old.layout self.new.layout }
+        ensures refused { IfErr result (λ refusal. (refusal ≡ Refusal.MorePieces) × Maps change × AreTaken self.new.layout × HasNone self.new.layout (page / 512)) }
+        ensures same { self.new.regions ≡ self.old.regions }
     {
         match change {
             Change::Map(_) | Change::MapWider(_) => match self.layout.page_of(page) {

@@ -1,8 +1,9 @@
 //! The regions of a space, and the rights of its pages.
 
-ghost use Rattle.std.specs.Prelude.{◌≡◌, ◌+◌, ◌<◌, ◌≤◌, [], IfOk, OnOk, length};
+ghost use Rattle.std.specs.Prelude.{◌≡◌, ◌+◌, ◌<◌, ◌≤◌, [], IfErr, IfOk, OnOk, length};
 ghost use Rattle.pager_model.specs.Bounds.{space_pages};
 ghost use Rattle.lackey_regions.specs.LineCalls.{Adds};
+ghost use Rattle.lackey_regions.specs.Refusals.{IsFull, Maps};
 ghost use Rattle.lackey_regions.specs.RegionPlaces.{EndsBelow, GoesOn, HasPage};
 
 use crate::added::add;
@@ -59,7 +60,8 @@ impl Regions {
     #[tactic(auto, using(crate::proofs::AddedCalls::adds_none, crate::proofs::AddedCalls::adds_more))]
     pub fn touch(&mut self, page: u32, writes: bool, calls: &mut Vec<Line>) -> Result<(), Refusal>
         requires { page < space_pages }
-        ensures { OnOk result (Adds calls.old.items calls.new.items []) }
+        ensures adds { OnOk result (Adds calls.old.items calls.new.items []) }
+        ensures full { IfErr result (IsFull self.new.regions.items) }
     {
         match self.pages[page as usize] {
             Some(Rights::Write) => Ok(()),
@@ -71,7 +73,8 @@ impl Regions {
     /// Gives a page the right to write, and maps it where no region has it.
     fn allow(&mut self, page: u32, calls: &mut Vec<Line>) -> Result<(), Refusal>
         requires { page < space_pages }
-        ensures { OnOk result (Adds calls.old.items calls.new.items []) }
+        ensures adds { OnOk result (Adds calls.old.items calls.new.items []) }
+        ensures full { IfErr result (IsFull self.new.regions.items) }
     {
         if region_at(self.regions.as_slice(), page).is_some() {
             return self.protect(page, page + 1, Rights::Write, calls);
@@ -92,7 +95,9 @@ impl Regions {
         calls: &mut Vec<Line>,
     ) -> Result<(), Refusal>
         requires { end ≤ space_pages }
-        ensures { OnOk result (Adds calls.old.items calls.new.items []) }
+        ensures adds { OnOk result (Adds calls.old.items calls.new.items []) }
+        ensures full { IfErr result (IsFull self.new.regions.items) }
+        ensures maps { IfErr result (λ refusal. refusal ≡ Refusal.MoreRegions → Maps change) }
     {
         let mut at = first;
         while at < end {
@@ -113,6 +118,8 @@ impl Regions {
         requires within { end ≤ space_pages }
         ensures goes_on { IfOk result (GoesOn at end) }
         ensures adds { OnOk result (Adds calls.old.items calls.new.items []) }
+        ensures full { IfErr result (IsFull self.new.regions.items) }
+        ensures maps { IfErr result (λ refusal. refusal ≡ Refusal.MoreRegions → Maps change) }
     {
         match region_at(self.regions.as_slice(), at) {
             Some(place) => self.change_mapped(change, place, at, end, calls),
@@ -133,6 +140,8 @@ impl Regions {
         requires within { end ≤ space_pages }
         ensures goes_on { IfOk result (GoesOn at end) }
         ensures adds { OnOk result (Adds calls.old.items calls.new.items []) }
+        ensures full { IfErr result (IsFull self.new.regions.items) }
+        ensures maps { IfErr result (λ refusal. refusal ≡ Refusal.MoreRegions → Maps change) }
     {
         let gap_end = end_of_gap(self.regions.as_slice(), at, end);
         match change {
@@ -159,6 +168,8 @@ impl Regions {
         requires has { HasPage self.old.regions.items at place }
         ensures goes_on { IfOk result (GoesOn at end) }
         ensures adds { OnOk result (Adds calls.old.items calls.new.items []) }
+        ensures full { IfErr result (IsFull self.new.regions.items) }
+        ensures maps { IfErr result (λ refusal. refusal ≡ Refusal.MoreRegions → Maps change) }
     {
         let region = self.regions.as_slice()[place];
         let stop = end.min(region.end);
@@ -203,6 +214,8 @@ impl Regions {
         requires within { end ≤ space_pages }
         ensures goes_on { IfOk result (GoesOn at end) }
         ensures adds { OnOk result (Adds calls.old.items calls.new.items []) }
+        ensures full { IfErr result (IsFull self.new.regions.items) }
+        ensures no_memory { IfErr result (λ refusal. refusal ≡ Refusal.NoMemory) }
     {
         let had = self.pages[at as usize];
         let stop = end_of_run(self.pages.as_slice(), at, end);
@@ -224,6 +237,8 @@ impl Regions {
         requires some { first < end }
         requires within { end ≤ space_pages }
         ensures adds { OnOk result (Adds calls.old.items calls.new.items []) }
+        ensures full { IfErr result (IsFull self.new.regions.items) }
+        ensures no_memory { IfErr result (λ refusal. refusal ≡ Refusal.NoMemory) }
         ensures same { self.new.regions.items ≡ self.old.regions.items }
     {
         add(
@@ -250,6 +265,7 @@ impl Regions {
         requires some { first < end }
         requires within { end ≤ space_pages }
         ensures adds { OnOk result (Adds calls.old.items calls.new.items []) }
+        ensures full { IfErr result (IsFull self.new.regions.items) }
     {
         match region_below(self.regions.as_slice(), first) {
             Some(below) if self.regions.is_full() => self.grow(below, first, end, rights, calls),
@@ -278,7 +294,8 @@ impl Regions {
     ) -> Result<(), Refusal>
         requires some { first < end }
         requires within { end ≤ space_pages }
-        ensures { OnOk result (Adds calls.old.items calls.new.items []) }
+        ensures adds { OnOk result (Adds calls.old.items calls.new.items []) }
+        ensures full { IfErr result (IsFull self.new.regions.items) }
     {
         if self.regions.is_full() {
             return Err(Refusal::MoreRegions);
@@ -311,7 +328,8 @@ impl Regions {
         requires some { first < end }
         requires within { end ≤ space_pages }
         requires below { EndsBelow self.old.regions.items first place }
-        ensures { OnOk result (Adds calls.old.items calls.new.items []) }
+        ensures adds { OnOk result (Adds calls.old.items calls.new.items []) }
+        ensures full { IfErr result (IsFull self.new.regions.items) }
     {
         let region = self.regions.as_slice()[place];
         add(
@@ -341,7 +359,9 @@ impl Regions {
         requires some { first < end }
         requires within { end ≤ space_pages }
         requires there { place < length self.old.regions.items }
-        ensures { OnOk result (Adds calls.old.items calls.new.items []) }
+        ensures adds { OnOk result (Adds calls.old.items calls.new.items []) }
+        ensures full { IfErr result (IsFull self.new.regions.items) }
+        ensures no_memory { IfErr result (λ refusal. refusal ≡ Refusal.NoMemory) }
     {
         add(
             calls,
