@@ -1,0 +1,3 @@
+pub mod Steps
+pub mod Owners
+pub mod Made

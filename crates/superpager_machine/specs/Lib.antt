@@ -1,0 +1,4 @@
+pub mod Ownership
+pub mod Statuses
+pub mod Asked
+pub mod Answers
