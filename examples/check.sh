@@ -10,7 +10,8 @@
 examples=$(cd "$(dirname "$0")" && pwd) || exit 1
 . "$examples/common.sh"
 
-for room in lesson runs refused streams histories own-pager tools policies drawn; do
+for room in lesson runs refused streams histories own-pager tools policies drawn embedding kernel; do
     count "$examples/$room/check.sh"
 done
+count "$examples/embedding/machine_check.sh"
 end_of_check

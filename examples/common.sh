@@ -39,6 +39,15 @@ run() {
     return "$status_of_command"
 }
 
+# Runs a tool as `run` does. Its message becomes one line, without that of its usage.
+tool() {
+    run "$@"
+    status_of_run=$?
+    line=$(sed '/^usage: /d' "$made/message" | paste -s -d ' ' -)
+    if [ -n "$line" ]; then printf '%s\n' "$line"; fi >"$made/message"
+    return "$status_of_run"
+}
+
 # Compares what a run of this name came to, its status among it, with what is expected, and counts it.
 compare() {
     name=$1

@@ -6,10 +6,11 @@ import re
 import signal
 import subprocess
 import sys
-from typing import Callable, List, NamedTuple, NoReturn, Optional, Sequence
+from typing import BinaryIO, Callable, List, NamedTuple, NoReturn, Optional, Sequence, TypeVar
 
 from refusals import SIZE_SETS, why_no_trace
 
+T = TypeVar('T')
 TOP = os.path.dirname(os.path.dirname(os.path.abspath(__file__)))
 PROGRAM = os.path.join(TOP, 'crates', 'superpager', 'out', 'superpager')
 # The reference model, which reads and prints the same, slowly.
@@ -17,8 +18,11 @@ MODEL = os.path.join(TOP, 'tools', 'judge')
 # The most calls of a trace that the model runs in place of a program that isn't built.
 MODEL_CALLS = 20000
 BUILD = '`cd crates/superpager && rt run -- order <../../examples/lesson/preempted.trace`'
-# What the program and the model begin a message with.
-OWN_NAME = re.compile('^(superpager|judge): ')
+# The converter that turns a log of lackey's into a trace as it reads it.
+FROM_LACKEY = os.path.join(TOP, 'crates', 'from_lackey', 'out', 'from_lackey')
+BUILD_FROM_LACKEY = '`cd crates/from_lackey && rt run </dev/null`'
+# What the program, the model and the converter begin a message with.
+OWN_NAME = re.compile('^(superpager|judge|from_lackey): ')
 
 # The least and the most frames that a trace may have, and what their number is a multiple of.
 FRAMES = (512, 32768, 512)
@@ -51,14 +55,24 @@ class Program(NamedTuple):
 
 def program_at(given: Optional[str] = None) -> str:
     """The path of the program that is given, or else of the built one."""
-    program = PROGRAM if given is None else given
-    if not os.path.exists(program):
-        raise Stopped('no program at %s%s' % (shown(program), '. Build it: ' + BUILD if given is None else ''))
-    if os.path.isdir(program):
-        raise Stopped('%s is a folder, and no program' % program)
-    if not os.access(program, os.X_OK):
-        raise Stopped("%s isn't executable, so it is no program" % program)
-    return os.path.abspath(program)
+    return executable_at(given, PROGRAM, 'program', BUILD)
+
+
+def converter_at(given: Optional[str] = None) -> str:
+    """The path of the converter that is given, or else of the built one."""
+    return executable_at(given, FROM_LACKEY, 'converter', BUILD_FROM_LACKEY)
+
+
+def executable_at(given: Optional[str], built: str, what: str, build: str) -> str:
+    """The path that is given, or else that of what this command builds, where it is an executable file."""
+    path = built if given is None else given
+    if not os.path.exists(path):
+        raise Stopped('no %s at %s%s' % (what, shown(path), '. Build it: ' + build if given is None else ''))
+    if os.path.isdir(path):
+        raise Stopped('%s is a folder, and no %s' % (path, what))
+    if not os.access(path, os.X_OK):
+        raise Stopped("%s isn't executable, so it is no %s" % (path, what))
+    return os.path.abspath(path)
 
 
 def program_or_model(given: Optional[str]) -> Program:
@@ -88,13 +102,18 @@ def printed(program: str, words: Sequence[str], trace: bytes, name: str) -> str:
         raise Stopped('%s: %s' % (name, why))
 
 
-def read_file(path: str, most: int = -1) -> bytes:
-    """The bytes of a file, or of standard input where the path is -; at most so many, or all where that is negative."""
+def read_by(path: str, how: Callable[[BinaryIO], T]) -> T:
+    """What is read so of a file, or of standard input where the path is -."""
     try:
         with open(0 if path == '-' else path, 'rb', closefd=path != '-') as source:
-            return source.read(most)
+            return how(source)
     except OSError as fault:
         raise Stopped("%s can't be read: %s" % (shown(path), fault.strerror))
+
+
+def read_file(path: str, most: int = -1) -> bytes:
+    """The bytes of a file, or of standard input where the path is -; at most so many, or all where that is negative."""
+    return read_by(path, lambda source: source.read(most))
 
 
 def write_file(path: str, text: str) -> None:

@@ -1,12 +1,16 @@
-"""Why the program refuses a text: its cause, the word at fault, and what may stand there."""
+"""Why the program refuses a text, or a stream: its cause, the word at fault, and what may stand there."""
 import difflib
+import io
 import re
-from typing import Dict, List, NamedTuple, Optional, Sequence, Tuple, Union
+from typing import BinaryIO, Dict, Iterator, List, NamedTuple, Optional, Sequence, Tuple, Union
 
 # The sets of page sizes that a trace may name, each the digits of its levels: a page of level k is 8**k base pages.
 SIZE_SETS = ('0', '01', '02', '03', '012', '013', '023', '0123')
 MOST_BYTES = 16777216
 MOST_CALLS = 262144
+# The most calls of a stream, and the most bytes of a line of one, its line feed not counted.
+MOST_STREAMED = 2 ** 32 - 1
+LONGEST_LINE = 4095
 # How much of a word is shown.
 LONGEST = 40
 
@@ -96,6 +100,8 @@ OTHER_VERSION = {
     VERSIONS[0]: 'the version is 1 in a line of five words: version 2 names its page sizes',
     VERSIONS[1]: 'the version is 2 or 3 in a line of six words: version 1 names no page sizes',
 }
+# What takes longer texts.
+LONGER = '`superpager stream` runs a text of any length with up to %d calls, which `tools/explain --stream` explains' % MOST_STREAMED
 # The usual slips of a line, and what to do.
 SLIPS = (
     (rb'\xef\xbb\xbf.*', 'the line begins with a byte order mark; a text has none'),
@@ -107,12 +113,23 @@ SLIPS = (
 )
 
 
+class Limits(NamedTuple):
+    """The most calls of a text, and the most bytes of a line, where a line has a limit."""
+    calls: int
+    line: Optional[int] = None
+
+
+TEXT = Limits(MOST_CALLS)
+STREAM = Limits(MOST_STREAMED, LONGEST_LINE)
+
+
 class Refusal(NamedTuple):
     """What the program tells, and what it is about: the line's number (0 where it is about none) and bytes."""
     told: str
     number: int = 0
     line: bytes = b''
     forms: Tuple[Form, ...] = ()
+    limits: Limits = TEXT
 
 
 def text_of(word: bytes) -> str:
@@ -177,31 +194,49 @@ def forms_behind(first: bytes, number: int) -> Tuple[Form, ...]:
     return tuple(narrowed(form, mosts) for form in there)
 
 
-def refusal_of_lines(lines: List[bytes]) -> Tuple[Optional[Refusal], int]:
-    """Why the lines are refused, the last one being what stands behind the last line feed; else how many calls there are."""
-    calls = 0
-    forms: Dict[int, Tuple[Form, ...]] = {}
-    for number, line in enumerate(lines[:-1], 1):
-        kind = min(number, 3)
-        if kind not in forms:
-            forms[kind] = forms_behind(lines[0], kind)
+def unread(number: int, text: bytes, limits: Limits) -> Optional[Refusal]:
+    """Why the line of this number is refused before it is looked at, or nothing: it is too long, or a rest without a line feed."""
+    if limits.line is not None and len(text.rstrip(b'\n')) > limits.line:
+        return Refusal('line %d: long' % number, number, text, limits=limits)
+    return None if text.endswith(b'\n') else Refusal('no end', number, text)
+
+
+def refusal_of_lines(lines: Iterator[bytes], limits: Limits) -> Tuple[Optional[Refusal], int]:
+    """Why the lines, which end with their line feeds, are refused; else how many calls there are. No line is read behind one that is refused."""
+    calls, first = 0, b''
+    forms: Tuple[Form, ...] = ()
+    for number, text in enumerate(lines, 1):
+        refusal, line = unread(number, text, limits), text[:-1]
+        if refusal:
+            return refusal, calls
+        first = first or line
+        forms = forms_behind(first, number) if number <= 3 else forms
         words = line.split(b' ')
-        form = form_of(forms[kind], words)
+        form = form_of(forms, words)
         cause = cause_of(form, words)
         if form is None or cause is not None:
-            return Refusal('line %d: %s' % (number, cause), number, line, forms[kind]), calls
+            return Refusal('line %d: %s' % (number, cause), number, line, forms), calls
         if form == END:
-            rest = lines[number:]
-            return (None if rest == [b''] else Refusal('line %d: after' % (number + 1), number + 1, rest[0])), calls
+            return refusal_behind(number, next(lines, None)), calls
         calls += form.places[0].name == PROCESSOR.name
-        if calls > MOST_CALLS:
-            return Refusal('too many calls'), calls
-    return Refusal('no end', len(lines) if lines[-1] else 0, lines[-1]), calls
+        if calls > limits.calls:
+            return Refusal('too many calls', limits=limits), calls
+    return Refusal('no end'), calls
+
+
+def refusal_behind(number: int, rest: Optional[bytes]) -> Optional[Refusal]:
+    """Why the line behind the last one, which has this number, is refused, where there is such a line."""
+    return None if rest is None else Refusal('line %d: after' % (number + 1), number + 1, rest.rstrip(b'\n'))
 
 
 def refusal_of(data: bytes) -> Tuple[Optional[Refusal], int]:
     """Why the text is refused; else how many calls it has."""
-    return (Refusal('trace too long'), 0) if len(data) > MOST_BYTES else refusal_of_lines(data.split(b'\n'))
+    return (Refusal('trace too long'), 0) if len(data) > MOST_BYTES else refusal_of_lines(iter(io.BytesIO(data)), TEXT)
+
+
+def refusal_of_stream(source: BinaryIO) -> Tuple[Optional[Refusal], int]:
+    """Why `stream` refuses what a source has, which is read line by line; else how many calls there are."""
+    return refusal_of_lines(iter(lambda: source.readline(LONGEST_LINE + 1), b''), STREAM)
 
 
 def shown(form: Form, version: Optional[bytes] = None) -> str:
@@ -233,7 +268,7 @@ def number_text(place: Number, word: bytes) -> str:
     """What is wrong with a word at a number's place."""
     number = number_of(word)
     if number is None:
-        why = next(why for pattern, why in NO_NUMBERS if re.fullmatch(pattern, text_of(word), re.DOTALL))
+        why = next(why for pattern, why in NO_NUMBERS if re.fullmatch(pattern, word.decode('latin-1'), re.DOTALL))
         return '%s %s; here stands %s' % ('`%s`' % text_of(word) if word else 'the word', why, wanted(place))
     if place in OTHER_VERSION and number in (1, 2):
         return OTHER_VERSION[place]
@@ -324,9 +359,12 @@ def fault_text(refusal: Refusal) -> Tuple[int, str]:
 def whole_text(refusal: Refusal) -> str:
     """What a refusal that is about no word of a line means."""
     if refusal.told == 'trace too long':
-        return 'a text has at most %d bytes' % MOST_BYTES
+        return 'a text has at most %d bytes; %s' % (MOST_BYTES, LONGER)
     if refusal.told == 'too many calls':
-        return 'a text has at most %d calls' % MOST_CALLS
+        return 'a stream has at most %d calls' % MOST_STREAMED if refusal.limits == STREAM else 'a text has at most %d calls; %s' % (MOST_CALLS, LONGER)
+    if refusal.told.endswith('long'):
+        return 'line %d: it has more than %d bytes, and no line of a trace has so many. Is it a trace, with a line feed behind each line?' % (
+            refusal.number, LONGEST_LINE)
     if refusal.told.endswith('after'):
         return 'line %d: nothing may stand behind `end` and its line feed' % refusal.number
     if refusal.line == b'end':

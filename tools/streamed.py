@@ -5,12 +5,12 @@ import subprocess
 from typing import BinaryIO, NamedTuple, Optional
 
 from common import OWN_NAME, Stopped, with_first_line
+from refusals import LONGEST_LINE
 
 COUNTS = re.compile(r'tiles [\d ]+\npromotions (\d+)\ndemotions (\d+)\npreemptions (\d+)\nimages (\d+) (\d+)\nframes (\d+) (\d+) (\d+)\nend\n\Z')
 AFTER = re.compile(r'^after (\d+(?: \d+){10})$', re.MULTILINE)
-# How many bytes are read at a time, and of a first line at most.
+# How many bytes are read at a time.
 PIECE = 1 << 20
-LONGEST_LINE = 4096
 
 
 class Counts(NamedTuple):
@@ -49,7 +49,7 @@ def lines_of(source: BinaryIO) -> int:
 def calls_of(path: str) -> int:
     """How many calls the trace of a file has, where it is one."""
     with open(path, 'rb') as source:
-        heads = [source.readline(LONGEST_LINE) for _ in range(2)]
+        heads = [source.readline(LONGEST_LINE + 1) for _ in range(2)]
         source.seek(0)
         return lines_of(source) - 2 - heads[1].startswith(b'daemon ')
 
@@ -62,12 +62,12 @@ class Stream(NamedTuple):
     def first_line(self, frames: Optional[int], sizes: Optional[str]) -> bytes:
         """The first line, with another number of frames and other page sizes, where they are given."""
         with open(self.path, 'rb') as source:
-            return with_first_line(source.readline(LONGEST_LINE), frames, sizes)
+            return with_first_line(source.readline(LONGEST_LINE + 1), frames, sizes)
 
     def feed(self, first: bytes, sink: BinaryIO) -> None:
         """Writes the trace, with this first line."""
         with open(self.path, 'rb') as source, sink:
-            source.readline(LONGEST_LINE)
+            source.readline(LONGEST_LINE + 1)
             sink.write(first)
             shutil.copyfileobj(source, sink, PIECE)
 

@@ -9,15 +9,6 @@ examples=$(cd "$(dirname "$0")/.." && pwd) || exit 1
 . "$examples/common.sh"
 cd "$examples/policies" || exit 1
 
-# Runs a tool as `run` does. Its message becomes one line, without that of its usage.
-tool() {
-    run "$@"
-    status_of_run=$?
-    line=$(sed '/^usage: /d' "$made/message" | paste -s -d ' ' -)
-    if [ -n "$line" ]; then printf '%s\n' "$line"; fi >"$made/message"
-    return "$status_of_run"
-}
-
 runs_of tables table tool ../../tools/policies --program "$program"
 
 # The page has a row for each policy, of each trace.

@@ -10,23 +10,18 @@ examples=$(cd "$(dirname "$0")/.." && pwd) || exit 1
 . "$examples/common.sh"
 cd "$examples/tools" || exit 1
 
-# Runs a tool as `run` does. Its message becomes one line, without that of its usage.
-tool() {
-    run "$@"
-    status_of_run=$?
-    line=$(sed '/^usage: /d' "$made/message" | paste -s -d ' ' -)
-    if [ -n "$line" ]; then printf '%s\n' "$line"; fi >"$made/message"
-    return "$status_of_run"
-}
-
 # Runs a tool as `tool` does, on a text as printf writes it. All that is printed becomes one line of the message, with what the program
-# says of the text where that differs.
+# says of the text where that differs, by `stream` where the tool is asked for a stream.
 explain() {
     printf "$1" >"$made/text"
     shift
+    case " $* " in
+        *' --stream '*) form=stream ;;
+        *) form=order ;;
+    esac
     tool "$made/text" "$@"
     status_of_run=$?
-    "$program" order <"$made/text" 2>&1 >/dev/null | sed -e 's/^superpager: //' -e '/^see: /d' >"$made/told"
+    "$program" $form <"$made/text" 2>&1 >/dev/null | sed -e 's/^superpager: //' -e '/^see: /d' >"$made/told"
     if [ "$status_of_run" = 3 ] && ! head -n 1 "$made/output" | cmp -s - "$made/told"; then
         cat "$made/told" >>"$made/output"
     fi
@@ -81,6 +76,11 @@ tool "$made/returns" told ../../tools/from-lackey --calls 11
 compare with-returns $? 0 '' from-lackey-stopped.trace
 
 runs_of explanations none explain ../../tools/explain
+
+# A stream has more calls than another trace may have.
+{ printf 'trace 1 512 1 1\n'; yes '0 load 0 0' | head -n 262145; echo end; } >"$made/more"
+tool "$made/more" told ../../tools/explain -
+compare too-many-calls $? 3 '' too-many-calls.explained
 
 # The sheet of the lesson's exercises has each of them with its answer where these are asked for.
 tool /dev/null told ../../tools/lesson-sheet --answers

@@ -13,11 +13,11 @@ from common import TOP, Stopped
 from .curves import curves_text
 from .drawing import short
 from .legal import Illegal, after_history
-from .machine import Machine, store_of
+from .machine import Machine, MemoryStore, store_of
 from .plans import plan_text, planned
 from .printed import BadLine, history_in, text_of_run
 from .showing import wrong_with_answers, wrong_with_filing, wrong_with_turns
-from .streams import streamed
+from .streams import streamed, streamed_curves
 from .trace_text import Refusal, text_of, trace_of
 from .values import Trace, setting_of
 
@@ -30,12 +30,15 @@ IN_ONE_THREAD = ('order', 'turns')
 PLANS = {'plan1': 1, 'plan2': 2, 'plan3': 3}
 CURVE = 'curve'
 STREAM = 'stream'
+STREAM_CURVE = 'streamcurve'
+# The forms that are of one processor.
+CURVES = (CURVE, STREAM_CURVE)
 MOVES = ('promotions', 'demotions', 'preemptions')
 REFUSED = 'noframes'
 # The kinds of entries that are counted.
 COUNTED = {'claim': 'claims', 'pin': 'pins', 'kept': 'kept'}
 # The forms that print no history.
-WITHOUT_HISTORY = (*PLANS, CURVE, STREAM)
+WITHOUT_HISTORY = (*PLANS, *CURVES, STREAM)
 # The first seeds draw traces over frames enough, and those above them traces in which few frames are left.
 LAST_WITH_FRAMES = 250
 SECONDS = 600
@@ -79,7 +82,7 @@ def trace_words(seed: int, form: str) -> List[int]:
     """The words of examples/drawn/random_trace.py for a seed: the seed, how many calls, frames, processors and spaces, and how many loads come
     first. A curve is of one processor, and of every second seed few frames are left."""
     spaces, frames = 1 + seed // 4 % 3, 1024 if seed % 5 == 4 else 512
-    if form == CURVE:
+    if form in CURVES:
         return [seed, 200 + 37 * seed % 601, frames, 1, spaces, 560 * (seed % 2)]
     if seed <= LAST_WITH_FRAMES:
         return [seed, 150 + 37 * seed % 350, frames, 1 + seed % 4, spaces, 0]
@@ -105,7 +108,11 @@ def every_of(job: Job) -> int:
 
 def streamed_text(text: bytes, job: Job) -> bytes:
     """What the slow machine prints of a stream."""
-    return ''.join(streamed(io.BytesIO(text), every_of(job), lambda plan: [store_of(job.swap) for _ in range(plan.spaces)])).encode()
+    def stores(plan: Trace) -> List[MemoryStore]:
+        return [store_of(job.swap) for _ in range(plan.spaces)]
+
+    source = io.BytesIO(text)
+    return (streamed_curves(source, stores) if job.form == STREAM_CURVE else ''.join(streamed(source, every_of(job), stores))).encode()
 
 
 def checked_text(trace: Trace, job: Job) -> bytes:
@@ -156,6 +163,8 @@ def words_of(job: Job) -> List[str]:
         return [*words, CURVE]
     if job.form == STREAM:
         return [*words, STREAM, str(every_of(job))]
+    if job.form == STREAM_CURVE:
+        return [*words, STREAM, CURVE]
     return [*words, job.form, *([str(job.turns)] if job.form == 'turns' else []), '--history']
 
 
@@ -163,14 +172,14 @@ def trace_text(job: Job) -> bytes:
     """The text of a run's trace."""
     if job.beyond is not None:
         return text_of(short(job.seed, job.beyond, job.sizes, job.pins)).encode()
-    words = trace_words(job.seed, job.form) if job.sizes is None or job.form == CURVE else sized_words(job.seed)
+    words = trace_words(job.seed, job.form) if job.sizes is None or job.form in CURVES else sized_words(job.seed)
     lines = write_trace(*words, job.sizes, job.pins)
     return ''.join(line + '\n' for line in lines).encode()
 
 
 def wrong_with_run(job: Job, text: bytes, printed: bytes) -> Optional[str]:
     """What is wrong with what the program printed for a trace's text, or None."""
-    if job.form == STREAM:
+    if job.form in (STREAM, STREAM_CURVE):
         return first_difference(streamed_text(text, job), printed)
     trace = trace_of(text)
     if job.form == 'replay' or (job.laws and job.form not in WITHOUT_HISTORY):

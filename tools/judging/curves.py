@@ -11,7 +11,9 @@ from .spaces import Space
 from .tiles import Tiles
 from .values import Answer, Entry, Sizes, Tile, Trace, has_size, page_of
 
+# The capacities of the form `curve`, and those of a stream's.
 CAPACITIES = range(1, 1025)
+STREAMED_CAPACITIES = range(1, 4097)
 BASE_ALONE = (0,)
 
 
@@ -82,13 +84,13 @@ def curve_of(steps: Sequence[Step], capacities: Iterable[int]) -> List[int]:
     return curve
 
 
-def curve_by(trace: Trace, history: Sequence[Entry], sizes: Sizes) -> List[int]:
+def curve_by(trace: Trace, history: Sequence[Entry], sizes: Sizes, capacities: Sequence[int]) -> List[int]:
     """The misses of a history at each capacity, over all spaces, with tiles by these sizes. (Curves.antt: misses_by)"""
-    curves = [curve_of(steps_of(sizes, [e for e in history if e.space == s]), CAPACITIES) for s in range(trace.spaces)]
+    curves = [curve_of(steps_of(sizes, [e for e in history if e.space == s]), capacities) for s in range(trace.spaces)]
     return [sum(column) for column in zip(*curves)]
 
 
-def curves_text(trace: Trace, history: Sequence[Entry], sizes: Sizes) -> str:
+def curves_text(trace: Trace, history: Sequence[Entry], sizes: Sizes, capacities: Sequence[int] = CAPACITIES) -> str:
     """A line for each capacity, with the misses by the tiles of the run and by base pages alone; and the end. (CurveText.antt)"""
-    rows = zip(CAPACITIES, curve_by(trace, history, sizes), curve_by(trace, history, BASE_ALONE))
+    rows = zip(capacities, curve_by(trace, history, sizes, capacities), curve_by(trace, history, BASE_ALONE, capacities))
     return ''.join(map(line_of, rows)) + line_of(['end'])

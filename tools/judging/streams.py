@@ -1,9 +1,11 @@
 """Runs of a trace that is read a line at a time, of which the counts alone are kept (docs/formats.md, "Streams").
 
-Nothing of a run is kept but what the next call needs: the history of a call is counted when the call is answered, and then forgotten.
+Nothing of a run is kept but what the next call needs: the history of a call is counted when the call is answered, and then forgotten. But where curves
+are asked for, they are those of the whole history, which is kept here.
 """
-from typing import BinaryIO, Callable, Iterator, List, Optional
+from typing import BinaryIO, Callable, Iterator, List, Optional, Tuple
 
+from .curves import STREAMED_CAPACITIES, curves_text
 from .legal import Pager
 from .machine import Machine, MemoryStore
 from .printed import counts_text, line_of
@@ -88,9 +90,11 @@ def gives_up(e: Entry) -> bool:
 class Stream:
     """A run, call by call, of a trace of which the first lines are known."""
 
-    def __init__(self, plan: Trace, stores: List[MemoryStore]):
+    def __init__(self, plan: Trace, stores: List[MemoryStore], keeps: bool = False):
         self.machine = Machine(plan, stores)
         self.counts = Counts()
+        # The entries so far, where they are kept.
+        self.kept: Optional[List[Entry]] = [] if keeps else None
 
     def call(self, line: Line) -> None:
         """The daemon has a turn, where it has one left, and then the call is made to its end."""
@@ -107,11 +111,13 @@ class Stream:
         return left
 
     def end_flight(self, c: int) -> None:
-        """The processor's call, or turn, to its end. Its entries are counted, and forgotten."""
+        """The processor's call, or turn, to its end. Its entries are counted, and forgotten or kept."""
         history = self.machine.pager.history
         self.machine.end_flight(c)
         for e in history:
             self.counts.add(e)
+        if self.kept is not None:
+            self.kept += history
         history.clear()
 
     def line(self) -> str:
@@ -122,7 +128,10 @@ class Stream:
         """The daemon has the turns that are left. What is printed then."""
         while self.turn():
             pass
-        return counts_text(self.machine.pager, self.counts.hits, self.counts.misses)
+        pager = self.machine.pager
+        if self.kept is not None:
+            return curves_text(self.machine.trace, self.kept, pager.setting.sizes, STREAMED_CAPACITIES)
+        return counts_text(pager, self.counts.hits, self.counts.misses)
 
 
 def calls_in(lines: Lines, line: bytes, plan: Trace) -> Iterator[Line]:
@@ -139,18 +148,35 @@ def calls_in(lines: Lines, line: bytes, plan: Trace) -> Iterator[Line]:
     lines.end()
 
 
-def streamed(source: BinaryIO, every: Optional[int], stores_of: Callable[[Trace], List[MemoryStore]]) -> Iterator[str]:
-    """What a stream prints, as it comes: a line of counts after each so many calls, and at the end the counts of the whole. `Refusal` where a line is
-    refused, and `ReadFault` where a read fails; what stands before was run, and its lines are out."""
-    lines = Lines(source)
+def opened(lines: Lines) -> Tuple[Trace, bytes]:
+    """What the lines before the calls say, and the line behind them."""
     first = lines.next().split(b' ')
     lines.refuse(cause_of(first, FIRSTS))
     line = lines.next()
     daemon: Optional[Daemon] = daemon_line(line)
-    plan = plan_of(first, daemon)
+    return plan_of(first, daemon), line if daemon is None else lines.next()
+
+
+def streamed(source: BinaryIO, every: Optional[int], stores_of: Callable[[Trace], List[MemoryStore]]) -> Iterator[str]:
+    """What a stream prints, as it comes: a line of counts after each so many calls, and at the end the counts of the whole. `Refusal` where a line is
+    refused, and `ReadFault` where a read fails; what stands before was run, and its lines are out."""
+    lines = Lines(source)
+    plan, line = opened(lines)
     stream = Stream(plan, stores_of(plan))
-    for call in calls_in(lines, line if daemon is None else lines.next(), plan):
+    for call in calls_in(lines, line, plan):
         stream.call(call)
         if every is not None and stream.counts.calls % every == 0:
             yield stream.line()
     yield stream.end()
+
+
+def streamed_curves(source: BinaryIO, stores_of: Callable[[Trace], List[MemoryStore]]) -> str:
+    """What a stream prints that is asked for curves. It is `Refusal` too where there are several processors."""
+    lines = Lines(source)
+    plan, line = opened(lines)
+    if plan.processors > 1:
+        raise Refusal('curve of %d processors' % plan.processors)
+    stream = Stream(plan, stores_of(plan), keeps=True)
+    for call in calls_in(lines, line, plan):
+        stream.call(call)
+    return stream.end()

@@ -10,6 +10,8 @@ from judging.drawing import Generator
 SOURCES = os.path.join(TOP, 'examples', 'programs')
 # By these two, programs that order their tables by a drawn number do the same in each run.
 ENVIRONMENT = {'PERL_HASH_SEED': '0', 'PERL_PERTURB_KEYS': '0', 'PYTHONHASHSEED': '0', 'LC_ALL': 'C'}
+# How many KB the texts have that are packed, sorted, and counted by perl and by Python; and a text where it is to be small.
+PACKED, SORTED, BY_PERL, BY_PYTHON, SMALL = 200, 1000, 100, 50, 30
 SYLLABLES = ('ba', 'ce', 'di', 'fo', 'gu', 'ha', 'je', 'ki', 'lo', 'mu', 'na', 'pe', 'ri', 'so', 'tu', 'va')
 
 PERL = 'my %count; while (<>) { $count{$_}++ for split } print "$_ $count{$_}\\n" for sort { $count{$b} <=> $count{$a} || $a cmp $b } keys %count'
@@ -94,28 +96,28 @@ long f%(n)d(struct row *r, int n)
     return ''.join(parts)
 
 
-def over_text(*words: str) -> Callable[[str, bool], List[str]]:
-    """A command over a text of 1 MB, or of 30 KB where it is to be small."""
+def over_text(kilobytes: int, *words: str) -> Callable[[str, bool], List[str]]:
+    """A command over a text of so many KB, or over a small one."""
     def command(folder: str, small: bool) -> List[str]:
-        return [found(words[0]), *words[1:], written(folder, 'text', text(30 if small else 1000))]
+        return [found(words[0]), *words[1:], written(folder, 'text', text(SMALL if small else kilobytes))]
     return command
 
 
 def cc1(folder: str, small: bool) -> List[str]:
     """The compiler itself, which gcc starts, over a source of 1,000 lines, or of 60."""
     compiler = said_by([found('gcc'), '-print-prog-name=cc1'])
-    return [compiler, '-quiet', '-O1', '-o', os.devnull, written(folder, 'source.c', source(60 if small else 1000))]
+    return [compiler, '-quiet', '-O0', '-o', os.devnull, written(folder, 'source.c', source(60 if small else 1000))]
 
 
 def python(folder: str, small: bool) -> List[str]:
     """Python, by the path of the program itself: a wrapper would be traced in its place."""
     path = said_by([found('python3'), '-c', 'import sys; print(sys.executable)'])
-    return [path, '-S', written(folder, 'count.py', PYTHON), written(folder, 'text', text(30 if small else 1000))]
+    return [path, '-S', written(folder, 'count.py', PYTHON), written(folder, 'text', text(SMALL if small else BY_PYTHON))]
 
 
 def sqlite(folder: str, small: bool) -> List[str]:
     """A table in memory, its index, and a join."""
-    return [found('sqlite3'), ':memory:', 'CREATE TABLE t(id INTEGER PRIMARY KEY, key INT, name TEXT);\n' + SQL % (200 if small else 20000)]
+    return [found('sqlite3'), ':memory:', 'CREATE TABLE t(id INTEGER PRIMARY KEY, key INT, name TEXT);\n' + SQL % (200 if small else 4000)]
 
 
 def built(name: str, usual: int, small_size: int) -> Program:
@@ -128,11 +130,11 @@ def built(name: str, usual: int, small_size: int) -> Program:
 
 
 PROGRAMS = (
-    Program('gzip', over_text('gzip', '-c')),
-    Program('bzip2', over_text('bzip2', '-c')),
-    Program('sort', over_text('sort', '--parallel=1')),
+    Program('gzip', over_text(PACKED, 'gzip', '-c')),
+    Program('bzip2', over_text(PACKED, 'bzip2', '-c')),
+    Program('sort', over_text(SORTED, 'sort', '--parallel=1')),
     Program('cc1', cc1),
-    Program('perl', over_text('perl', '-e', PERL)),
+    Program('perl', over_text(BY_PERL, 'perl', '-e', PERL)),
     Program('python3', python),
     Program('sqlite3', sqlite),
     built('transpose', 1500, 150),

@@ -8,15 +8,25 @@ import os
 import subprocess
 import time
 from contextlib import ExitStack
-from typing import BinaryIO, Dict, Iterator, List, NamedTuple, Sequence, Tuple
+from typing import BinaryIO, Iterator, List, NamedTuple, Sequence, Tuple
 
 from common import Stopped, with_first_line
 
 from .programs import environment, found
 
+Process = subprocess.Popen
 # How many bytes of a trace are passed on at a time.
 PIECE = 1 << 20
+# The form by which the pager counts the misses at each capacity, and the name of its text.
+CURVE = 'curve'
 LACKEY = ('--tool=lackey', '--trace-mem=yes', '--trace-syscalls=yes', '--basic-counts=no')
+
+
+class Run(NamedTuple):
+    """A run of the pager: the name of its text, the page sizes of its trace, and its words."""
+    name: str
+    sizes: str
+    words: List[str]
 
 
 class Pipeline(NamedTuple):
@@ -27,6 +37,12 @@ class Pipeline(NamedTuple):
     sizes: Sequence[str]
     every: int
     instructions: bool
+    curve: bool
+
+    def runs(self) -> List[Run]:
+        """The runs that go side by side."""
+        counted = [Run(sizes, sizes, ['stream', str(self.every)]) for sizes in self.sizes]
+        return counted + [Run(CURVE, self.sizes[-1], ['stream', CURVE])] * self.curve
 
     def converter(self) -> List[str]:
         """The words by which the converter runs."""
@@ -39,63 +55,48 @@ class Measured(NamedTuple):
     calls: int
 
 
-class Sinks:
-    """The runs that a trace is passed on to. One that ends early is left out from then on."""
-
-    def __init__(self, sinks: Dict[str, BinaryIO]):
-        self.sinks = sinks
-
-    def write(self, texts: Dict[str, bytes]) -> None:
-        """Passes a piece on, to each its own."""
-        for sizes, sink in list(self.sinks.items()):
-            try:
-                write_whole(sink, texts[sizes])
-            except BrokenPipeError:
-                del self.sinks[sizes]
-
-    def write_all(self, text: bytes) -> None:
-        """Passes the same on to each."""
-        self.write(dict.fromkeys(self.sinks, text))
-
-
-def write_whole(sink: BinaryIO, text: bytes) -> None:
-    """Writes a piece into a pipe, which may take it in parts."""
-    left = memoryview(text)
-    while left:
-        left = left[sink.write(left):]
-
-
 def pieces_of(source: io.BufferedReader) -> Iterator[bytes]:
     """The bytes of a source, in pieces as they come."""
     return iter(lambda: source.read1(PIECE), b'')
 
 
-def pass_on(source: io.BufferedReader, sinks: Sinks) -> int:
-    """Passes a trace on to all sinks, each with the first line of its page sizes, and answers how many lines stood behind it."""
+def give(pager: Process, text: bytes) -> None:
+    """Passes a piece on to a run of the pager, whose pipe may take it in parts."""
+    left = memoryview(text)
+    try:
+        while left:
+            left = left[pager.stdin.write(left):]
+    except BrokenPipeError:
+        # It ended before its trace did, and said why.
+        raise Stopped('the pager ended with status %d' % pager.wait())
+
+
+def pass_on(source: io.BufferedReader, pagers: Sequence[Tuple[Run, Process]]) -> int:
+    """Passes a trace on to all runs, to each with the first line of its page sizes, and answers how many lines stood behind it."""
     first = source.readline()
-    sinks.write({sizes: with_first_line(first, None, sizes) for sizes in sinks.sinks})
+    for run, pager in pagers:
+        give(pager, with_first_line(first, None, run.sizes))
     lines = 0
     for piece in pieces_of(source):
-        sinks.write_all(piece)
+        for _, pager in pagers:
+            give(pager, piece)
         lines += piece.count(b'\n')
-        if not sinks.sinks:
-            break
     return lines
 
 
-def text_path(folder: str, sizes: str) -> str:
-    """Where the text of a run by these page sizes is kept."""
-    return os.path.join(folder, sizes + '.text')
+def text_path(folder: str, name: str) -> str:
+    """Where the text of the run of this name is kept."""
+    return os.path.join(folder, name + '.text')
 
 
-def kill(process: 'subprocess.Popen[bytes]') -> None:
+def kill(process: Process) -> None:
     """Ends a process that hasn't ended."""
     if process.poll() is None:
         process.kill()
     process.wait()
 
 
-def started(stack: ExitStack, words: Sequence[str], **how) -> 'subprocess.Popen[bytes]':
+def started(stack: ExitStack, words: Sequence[str], **how) -> Process:
     """A process that doesn't outlive the run."""
     try:
         process = subprocess.Popen(words, **how)
@@ -105,7 +106,7 @@ def started(stack: ExitStack, words: Sequence[str], **how) -> 'subprocess.Popen[
     return process
 
 
-def traced(stack: ExitStack, command: Sequence[str], folder: str) -> Tuple['subprocess.Popen[bytes]', BinaryIO]:
+def traced(stack: ExitStack, command: Sequence[str], folder: str) -> Tuple[Process, BinaryIO]:
     """The program under lackey, and what lackey tells of it."""
     read, write = os.pipe()
     told = stack.enter_context(open(read, 'rb', buffering=0))
@@ -115,10 +116,10 @@ def traced(stack: ExitStack, command: Sequence[str], folder: str) -> Tuple['subp
     return lackey, told
 
 
-def run_of(stack: ExitStack, pipeline: Pipeline, path: str) -> 'subprocess.Popen[bytes]':
-    """A run of the pager, whose text is written to a file."""
-    with open(path, 'wb') as out:
-        return started(stack, [pipeline.program, 'stream', str(pipeline.every)], stdin=subprocess.PIPE, stdout=out, bufsize=0)
+def begun(stack: ExitStack, program: str, run: Run, folder: str) -> Process:
+    """A run of the pager that has begun, whose text is written to a file of this folder."""
+    with open(text_path(folder, run.name), 'wb') as out:
+        return started(stack, [program, *run.words], stdin=subprocess.PIPE, stdout=out, bufsize=0)
 
 
 def measure(pipeline: Pipeline, command: Sequence[str], folder: str) -> Measured:
@@ -128,15 +129,12 @@ def measure(pipeline: Pipeline, command: Sequence[str], folder: str) -> Measured
         lackey, told = traced(stack, command, folder)
         converter = started(stack, pipeline.converter(), stdin=told, stdout=subprocess.PIPE)
         told.close()
-        runs = {sizes: run_of(stack, pipeline, text_path(folder, sizes)) for sizes in pipeline.sizes}
-        sinks = Sinks({sizes: run.stdin for sizes, run in runs.items()})
-        lines = pass_on(converter.stdout, sinks)
-        for run in runs.values():
-            run.stdin.close()
-        if sinks.sinks:
-            # The converter has written all that it had to.
-            check_ends('the converter', [converter.wait()])
-        check_ends('the pager', [run.wait() for run in runs.values()])
+        pagers = [(run, begun(stack, pipeline.program, run, folder)) for run in pipeline.runs()]
+        lines = pass_on(converter.stdout, pagers)
+        for _, pager in pagers:
+            pager.stdin.close()
+        check_ends('the converter', [converter.wait()])
+        check_ends('the pager', [pager.wait() for _, pager in pagers])
         check_ends(command[0], [lackey.wait()])
     return Measured(time.monotonic() - start, lines)
 
