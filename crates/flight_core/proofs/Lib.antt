@@ -1,3 +1,9 @@
+pub mod LegalSteps
+pub mod Later
+pub mod Lists
+pub mod Entries
+pub mod FlightSteps
+pub mod WholeFlights
 pub mod Purposes
 pub mod UnchangedSpaces
 pub mod AnswerSteps

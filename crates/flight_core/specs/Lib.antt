@@ -1,3 +1,8 @@
+pub mod Counting
+pub mod Flying
+pub mod Logged
+pub mod Taken
+pub mod Whole
 pub mod Rows
 pub mod Flights
 pub mod Steps

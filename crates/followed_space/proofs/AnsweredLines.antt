@@ -18,7 +18,7 @@ use Rattle.pager_model.specs.declared.trace.Daemon.{Daemon}
 use Rattle.pager_model.specs.Entries.{entries_of, is_of}
 use Rattle.pager_model.specs.Legal.{IsLegal, progress_in}
 use Rattle.pager_model.specs.Order.{Doing, Idle, Looking, Claiming, Emptied, Unwritten, Holding, Filling, Unfilling, Progress, Purpose, ForAccess, ForTurn, after_answer, after_claim, after_clear, after_drop, after_failure, after_give, after_got, after_kept, after_out, after_pin, after_refusal, after_rest, after_take, after_unclaim, after_use, at_rest, leads, may_answer, progress_after, progress_from, progress_of}
-use Rattle.pager_model.specs.Plans.{Plan}
+use Rattle.pager_model.specs.Scripts.{Script}
 use Rattle.pager_model.specs.Settings.{Given, mark_of}
 use Rattle.pager_model.specs.Showing.{Shows, answer_in, answers_in, calls_of, daemon_marks, marks_of}
 use Rattle.pager_model.specs.TraceText.{HasText, IsCall, IsDaemon, IsLine}
@@ -235,15 +235,15 @@ answer_among P c before after e answer is own all =
     (all_behind P (answers_in (entries_of c before)) (answers_in (e ∷ entries_of c after)) (subst (AllByRecursion P) split all))
 
 -- In a legal history with a trace's marks a daemon answers no call.
-pub processor-legal : (plan : Plan) (g : Given) (before after : List Entry) (e : Entry) → IsDaemon plan.daemon → g.marks ≡ marks_of plan
+pub processor-legal : (script : Script) (g : Given) (before after : List Entry) (e : Entry) → IsDaemon script.daemon → g.marks ≡ marks_of script
     → IsLegal g (before ++ e ∷ after)
-    → (number : ℕ) (call : Call) (answered : Answered) → e.what ≡ Answer number call answered → e.processor < plan.processors
-processor-legal plan g before after e daemon marks legal number call answered is =
+    → (number : ℕ) (call : Call) (answered : Answered) → e.what ≡ Answer number call answered → e.processor < script.processors
+processor-legal script g before after e daemon marks legal number call answered is =
     let may = (IsLegal-at g before after e legal).1 in
-    elim (cases_lt e.processor plan.processors) [
+    elim (cases_lt e.processor script.processors) [
       | inl below ↦ below
       | inr past ↦
-          let mark = daemon_mark plan.processors plan.daemon e.processor daemon past
+          let mark = daemon_mark script.processors script.daemon e.processor daemon past
           (subst (λ (ms : List ℕ). e.processor < length ms) marks may.processor) in
           let is_mark : mark_of g e.processor ≡ suc mark.0 = ap (λ (ms : List ℕ). slice_index_or ms e.processor 0) marks ∙ mark.1 in
           let last = progress_before (progress_in g e.processor (entries_of e.processor before)) e may.ordered.0 may.ordered.1 in
@@ -255,21 +255,21 @@ processor-legal plan g before after e daemon marks legal number call answered is
     ]
 
 -- A legal history that shows a trace, with an entry between these.
-record ShowsTrace (plan : Plan) (g : Given) (before after : List Entry) (e : Entry) : Type 0 where
-  text : HasText plan
-  marks : g.marks ≡ marks_of plan
+record ShowsTrace (script : Script) (g : Given) (before after : List Entry) (e : Entry) : Type 0 where
+  text : HasText script
+  marks : g.marks ≡ marks_of script
   legal : IsLegal g (before ++ e ∷ after)
-  shows : Shows plan (before ++ e ∷ after)
+  shows : Shows script (before ++ e ∷ after)
 
-module _ (plan : Plan) (g : Given) (before after : List Entry) (e : Entry) (trace : ShowsTrace plan g before after e) where
+module _ (script : Script) (g : Given) (before after : List Entry) (e : Entry) (trace : ShowsTrace script g before after e) where
   answers_line : (what : What) → e.what ≡ what → AnswersLine what
   answers_line (Answer number call answered) is =
-      let own = processor-legal plan g before after e trace.text.daemon_in trace.marks trace.legal number call answered is in
+      let own = processor-legal script g before after e trace.text.daemon_in trace.marks trace.legal number call answered is in
       let shown = (trace.shows.calls e.processor own).0 in
-      let lines = lines_of plan.version plan.processors plan.spaces 0 e.processor plan.calls (recursion_from_All _ _ trace.text.lines) in (
-        plan.spaces,
-        answer_among (OfLine plan.spaces) e.processor before after e (number, call) (ap answer_in is)
-            (eq-eqb e.processor e.processor refl) (subst (AllByRecursion (OfLine plan.spaces)) (sym shown) lines),
+      let lines = lines_of script.version script.processors script.spaces 0 e.processor script.calls (recursion_from_All _ _ trace.text.lines) in (
+        script.spaces,
+        answer_among (OfLine script.spaces) e.processor before after e (number, call) (ap answer_in is)
+            (eq-eqb e.processor e.processor refl) (subst (AllByRecursion (OfLine script.spaces)) (sym shown) lines),
       )
   answers_line (Out page written) is = tt
   answers_line (Failed page writing count) is = tt
@@ -286,7 +286,7 @@ module _ (plan : Plan) (g : Given) (before after : List Entry) (e : Entry) (trac
   answers_line (Kept first len page frame) is = tt
   answers_line (Rest short) is = tt
 
-pub AnswersLine-run : (plan : Plan) (g : Given) (before after : List Entry) (e : Entry) → HasText plan → g.marks ≡ marks_of plan
-    → IsLegal g (before ++ e ∷ after) → Shows plan (before ++ e ∷ after) → AnswersLine e.what
-AnswersLine-run plan g before after e text marks legal shows =
-    answers_line plan g before after e (record { text = text; marks = marks; legal = legal; shows = shows }) e.what refl
+pub AnswersLine-run : (script : Script) (g : Given) (before after : List Entry) (e : Entry) → HasText script → g.marks ≡ marks_of script
+    → IsLegal g (before ++ e ∷ after) → Shows script (before ++ e ∷ after) → AnswersLine e.what
+AnswersLine-run script g before after e text marks legal shows =
+    answers_line script g before after e (record { text = text; marks = marks; legal = legal; shows = shows }) e.what refl

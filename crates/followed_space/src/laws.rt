@@ -6,7 +6,7 @@ ghost use Rattle.pager_model.specs.declared.entry.Entry.{Entry};
 ghost use Rattle.pager_model.specs.declared.entry.What.TheVariants.{Answer};
 ghost use Rattle.pager_model.specs.declared.reply.Answered.{Answered};
 ghost use Rattle.pager_model.specs.Legal.{IsLegal, space_at};
-ghost use Rattle.pager_model.specs.Plans.{Plan};
+ghost use Rattle.pager_model.specs.Scripts.{Script};
 ghost use Rattle.pager_model.specs.Settings.{Given};
 ghost use Rattle.pager_model.specs.Showing.{Shows, marks_of};
 ghost use Rattle.pager_model.specs.TraceText.{HasText};
@@ -22,9 +22,9 @@ pub fn a_legal_history_may_be_followed()
 
 /// In a legal history of a trace each answer is of a processor that makes calls, and of a call that a line may hold: a daemon answers none.
 pub fn a_history_of_a_trace_answers_its_lines()
-    ensures lines { (plan : Plan) (g : Given) (before after : List Entry) (e : Entry)
-        → HasText plan → g.marks ≡ marks_of plan → IsLegal g (before ++ e ∷ after) → Shows plan (before ++ e ∷ after) → AnswersLine e.what }
-    ensures processors { (plan : Plan) (g : Given) (before after : List Entry) (e : Entry) (number : ℕ) (call : Asked) (answered : Answered)
-        → HasText plan → g.marks ≡ marks_of plan → IsLegal g (before ++ e ∷ after) → Shows plan (before ++ e ∷ after)
-        → e.what ≡ Answer number call answered → e.processor < plan.processors }
+    ensures lines { (script : Script) (g : Given) (before after : List Entry) (e : Entry)
+        → HasText script → g.marks ≡ marks_of script → IsLegal g (before ++ e ∷ after) → Shows script (before ++ e ∷ after) → AnswersLine e.what }
+    ensures processors { (script : Script) (g : Given) (before after : List Entry) (e : Entry) (number : ℕ) (call : Asked) (answered : Answered)
+        → HasText script → g.marks ≡ marks_of script → IsLegal g (before ++ e ∷ after) → Shows script (before ++ e ∷ after)
+        → e.what ≡ Answer number call answered → e.processor < script.processors }
 {}

@@ -11,7 +11,7 @@ use Rattle.pager_model.specs.Records.{is_used}
 use Rattle.reservations.specs.Kept.{CoversPage}
 use Rattle.pager_model.proofs.ExtentLemmas.{eight_pos}
 use Rattle.pager_laws.specs.Laid.{IsLaid}
-use Rattle.frame_pool.specs.declared.layout.Found.{Found as FoundExtent}
+use Rattle.frame_pool.specs.declared.layout.FreeExtent.{FreeExtent as FoundExtent}
 use Rattle.frame_pool.specs.Placed.{FindsExtent, PlacesPage, with_reservation, without_extent}
 use Rattle.pager_laws.proofs.PagePlaces.{CoversPageOf-covers, covering-found}
 use Rattle.pager_laws.proofs.LayoutPlacing.{WasPlaced-placing}

@@ -6,7 +6,7 @@ use Rattle.pager_model.proofs.FreeRuns.{IsExtent-choice, choice_within, run_free
 use Rattle.pager_model.proofs.FreeRanges.{length-with_range, with_range_inside, with_range_outside, range_cases}
 use Rattle.pager_model.specs.Agreement.{has_frame}
 use Rattle.pager_model.specs.FreeBlocks.{choice}
-use Rattle.pager_model.specs.Layouts.{Layout, Found, break_layout, broken_at, to_break, chosen, extent_of, largest_extent, record_at, is_free}
+use Rattle.pager_model.specs.Layouts.{Layout, FreeExtent, break_layout, broken_at, to_break, chosen, extent_of, largest_extent, record_at, is_free}
 use Rattle.pager_model.specs.Records.{is_used, yield_in}
 use Rattle.pager_model.specs.SizeSets.{has_size}
 use Rattle.pager_laws.specs.Laid.{IsLaid}
@@ -19,7 +19,7 @@ use Rattle.frame_pool.proofs.ReservedLayouts.{IsLaid-fewer}
 
 -- An extent that was chosen in a sound layout.
 
-module _ (found : Found) (laid : IsLaid found.layout) (is : choice found.layout.free found.size ≡ Some found.first) where
+module _ (found : FreeExtent) (laid : IsLaid found.layout) (is : choice found.layout.free found.size ≡ Some found.first) where
   within : found.first + 8 ^ found.size ≤ length found.layout.free
   within = choice_within found.layout.free found.size found.first is
 
@@ -47,7 +47,7 @@ module _ (found : Found) (laid : IsLaid found.layout) (is : choice found.layout.
         | false ↦ λ has. refl
       ] refl
 
-  pub FindsExtent-chosen : (finds : Option Found) → found.broken ≤ 1 → finds ≡ Some found
+  pub FindsExtent-chosen : (finds : Option FreeExtent) → found.broken ≤ 1 → finds ≡ Some found
       → FindsExtent (without_extent found) finds found.size found.first found.broken
   FindsExtent-chosen finds few found_is = record {
     found = found;
@@ -75,7 +75,7 @@ extent_of-free size first l is =
 pub extent_of-broken : (size id first : ℕ) (l new : Layout) → choice l.free size ≡ None → to_break l size ≡ Some id → new ≡ broken_at id l
     → choice new.free size ≡ Some first → extent_of size l ≡ Some (record { layout = new; size = size; first = first; broken = 1 })
 extent_of-broken size id first l new none oldest broken is =
-    let later : Option Found = option_and_then (λ i. chosen size 1 (broken_at i l)) (to_break l size) in
+    let later : Option FreeExtent = option_and_then (λ i. chosen size 1 (broken_at i l)) (to_break l size) in
     ap (λ o. option_or (option_map (λ f. record { layout = l; size = size; first = f; broken = 0 }) o) later) none
     ∙ ap (option_and_then (λ i. chosen size 1 (broken_at i l))) oldest
     ∙ sym (ap (chosen size 1) broken)
@@ -107,7 +107,7 @@ module _ (l : Layout) (size id : ℕ) (laid : IsLaid l) (oldest : to_break l siz
 -- Of the largest size.
 
 -- the extent of the largest size below this one that has one
-abbrev pub largest_below : ℕ → Layout → Option Found
+abbrev pub largest_below : ℕ → Layout → Option FreeExtent
 largest_below zero l = None
 largest_below (suc size) l = largest_extent size l
 
@@ -120,7 +120,7 @@ largest_step size l =
       | false ↦ refl
     ]
 
-pub largest_below-found : (l : Layout) (n size : ℕ) (found : Found) → n ≡ suc size → extent_there size l ≡ Some found
+pub largest_below-found : (l : Layout) (n size : ℕ) (found : FreeExtent) → n ≡ suc size → extent_there size l ≡ Some found
     → extent_there size l ≡ largest_below n l
 largest_below-found l n zero found next is = sym (ap (λ m. largest_below m l) next)
 largest_below-found l n (suc size) found next is =

@@ -4,7 +4,7 @@ use Rattle.pager_model.specs.declared.reservation.Reservation.{Reservation}
 use Rattle.pager_model.specs.Agreement.{has_frame}
 use Rattle.pager_model.specs.Extents.{IsExtent}
 use Rattle.pager_model.specs.FreeBlocks.{with_range}
-use Rattle.pager_model.specs.Layouts.{Layout, Found, Placing, frame_for, record_at, extent_of}
+use Rattle.pager_model.specs.Layouts.{Layout, FreeExtent, Placing, frame_for, record_at, extent_of}
 use Rattle.pager_model.specs.SizeSets.{has_size}
 use Rattle.pager_model.specs.Records.{is_used, yield_in}
 use Rattle.reservations.specs.Kept.{CoversPage}
@@ -18,7 +18,7 @@ abbrev pub CanBreak : Layout → ℕ → Type 0
 CanBreak l id = IsSomeAnd (record_at l id) (λ r. (0 < r.size) × IsSome (yield_in l.sizes (is_used l.used) r))
 
 -- the layout without the frames of the extent that was found in it
-abbrev pub without_extent : Found → Layout
+abbrev pub without_extent : FreeExtent → Layout
 without_extent found = record found.layout { free = with_range found.layout.free found.first (8 ^ found.size) false }
 
 -- the layout with one reservation more, whose used place is the page's
@@ -27,8 +27,8 @@ with_reservation r page l =
     record l { records = slice_set l.records r.frame (Some r); used = slice_set l.used (frame_for page r) true }
 
 -- The extent is the one that the definition finds: its frames are free no more, and in no reservation yet.
-pub record FindsExtent (new : Layout) (finds : Option Found) (size first broken : ℕ) : Type 0 where
-  pub found : Found
+pub record FindsExtent (new : Layout) (finds : Option FreeExtent) (size first broken : ℕ) : Type 0 where
+  pub found : FreeExtent
   pub is : finds ≡ Some found
   pub layout : new ≡ without_extent found
   pub same_size : size ≡ found.size
@@ -62,5 +62,5 @@ is_larger size None = false
 is_larger size (Some r) = nat_lt size r.size
 
 -- the extent of a size, where there is the size
-abbrev pub extent_there : ℕ → Layout → Option Found
+abbrev pub extent_there : ℕ → Layout → Option FreeExtent
 extent_there size l = if has_size l.sizes size then extent_of size l else None

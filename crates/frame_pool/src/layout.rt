@@ -3,7 +3,7 @@ ghost use Rattle.std.specs.Option.{option_and_then};
 ghost use Rattle.pager_model.specs.Agreement.{has_frame};
 ghost use Rattle.pager_model.specs.Layouts.{start_layout, frame_for, frame_in, parted, parted_free, split_layout, broken_at, to_break, record_at};
 ghost use Rattle.pager_model.specs.Layouts.{carve_layout, narrow_layout, vacate_layout, put_back};
-ghost use Rattle.pager_model.specs.Layouts.{extent_of, largest_extent, placing};
+ghost use Rattle.pager_model.specs.Layouts.{extent_of, largest_extent, placing, preferred_in};
 ghost use Rattle.pager_model.specs.PreferredSize.{IsWanted};
 ghost use Rattle.pager_model.specs.Records.{is_used, part_size, same_size, goes_on_at};
 ghost use Rattle.pager_model.specs.RecordPlaces.{IsPlaced};
@@ -46,7 +46,7 @@ impl Model for Layout {
 
 /// An extent of frames for a new reservation, and how many reservations were broken for it.
 #[derive(Clone, Copy)]
-pub(crate) struct Found {
+pub(crate) struct FreeExtent {
     size: Size,
     first: u32,
     broken: u64,
@@ -103,6 +103,15 @@ impl Layout {
         self.reserved.placeless_from(space, page)
     }
 
+    /// The size that a new reservation round the page is tried with first, before frames are looked at.
+    pub(crate) fn preferred(&self, space: u32, page: u32, want: &Want) -> Size
+        requires few { space < most_spaces }
+        requires wanted { IsWanted want.now page }
+        ensures { result ≡ preferred_in self.now space page want.now }
+    {
+        self.reserved.preferred(space, page, want)
+    }
+
     /// How many frames are free.
     pub(crate) fn free_frames(&self) -> u32
         ensures { result ≡ count_by (λ free. free) self.now.free }
@@ -115,7 +124,13 @@ impl Layout {
     ///
     /// At most four looks find the reservation, and for each of the sizes 3, 2 and 1 at most four tell whether the extent round the page
     /// meets one.
-    pub(crate) fn place(&mut self, stamp: u64, space: u32, page: u32, want: &Want) -> Option<Place>
+    pub(crate) fn reserve(
+        &mut self,
+        stamp: u64,
+        space: u32,
+        page: u32,
+        want: &Want,
+    ) -> Option<Place>
         requires few { space < most_spaces }
         requires unplaced { frame_in self.old space page ≡ None }
         requires wanted { IsWanted want.now page }
@@ -145,7 +160,7 @@ impl Layout {
 
     /// Takes an extent for a new reservation out of the free frames: of the largest size, up to this one, for which one can be
     /// had.
-    fn largest_extent(&mut self, size: Size) -> Option<Found>
+    fn largest_extent(&mut self, size: Size) -> Option<FreeExtent>
         ensures found { IfSome result (λ f. FindsExtent self.new (largest_extent size self.old) f.size f.first f.broken) }
         ensures none { IfNone result ((largest_extent size self.old ≡ None) × (self.new ≡ self.old)) }
     {
@@ -160,7 +175,7 @@ impl Layout {
     }
 
     /// An extent of this size, where there is the size.
-    fn extent_there(&mut self, size: Size) -> Option<Found>
+    fn extent_there(&mut self, size: Size) -> Option<FreeExtent>
         ensures found { IfSome result (λ f. FindsExtent self.new (extent_there size self.old) f.size f.first f.broken) }
         ensures none { IfNone result ((extent_there size self.old ≡ None) × (self.new ≡ self.old)) }
     {
@@ -172,12 +187,12 @@ impl Layout {
 
     /// Takes an extent of this size out of the free frames. Where none is free, the oldest reservation of the first list that can
     /// give one back is broken for it.
-    fn extent_of(&mut self, size: Size) -> Option<Found>
+    fn extent_of(&mut self, size: Size) -> Option<FreeExtent>
         ensures found { IfSome result (λ f. FindsExtent self.new (extent_of size self.old) f.size f.first f.broken) }
         ensures none { IfNone result ((extent_of size self.old ≡ None) × (self.new ≡ self.old)) }
     {
         if let Some(first) = take(&mut self.free, size) {
-            return Some(Found {
+            return Some(FreeExtent {
                 size,
                 first,
                 broken: 0,
@@ -186,7 +201,7 @@ impl Layout {
         let id = self.to_break(size)?;
         self.break_at(id);
         let first = take(&mut self.free, size).unwrap();
-        Some(Found {
+        Some(FreeExtent {
             size,
             first,
             broken: 1,

@@ -33,7 +33,7 @@ pub(crate) fn insert(map: &mut PopulationMap, reservation: &Reservation)
     ensures { (records : List (Option Reservation)) → IsMapped map.old records → MayEnter records reservation.now
         → IsMapped map.new (slice_set records reservation.now.frame (Some reservation.now)) }
 {
-    map.place(reservation.space, pages_of(reservation), reservation.frame);
+    map.insert(reservation.space, pages_of(reservation), reservation.frame);
 }
 
 /// Takes the pages of the reservation that begins at the frame `id` out.

@@ -1,16 +1,17 @@
 ghost use Rattle.std.specs.Prelude.{◌≡◌, ℕ, ◌+◌, ◌%◌, ◌^◌, ◌<◌, ◌≤◌, ◌⊎◌, ◌↔◌, ◌==◌, ◌&&◌, if◌then◌else◌, false, true, Some, None, IsTrue, IfOk, IfErr, IsErr, IfSome, IfNone, IsSome, is_some, length, map, count_by};
 ghost use Rattle.std.specs.List.{range_with_len};
 ghost use Rattle.pager_model.specs.Frame.{zero_frame};
-ghost use Rattle.pager_model.specs.FrameStates.{FrameState, Taking, start_frames, used_at, held_by, frame_of, claim_in, HasNothing};
+ghost use Rattle.pager_model.specs.FrameStates.{FrameState, Taking, start_frames, layout_of, used_at, held_by, frame_of, claim_in, HasNothing};
 ghost use Rattle.pager_model.specs.FrameStates.{take_frame, counted, give_page, claimed, pin_range, lowest_claimed, dropped, IsFull, IsVictim, has_evictable, is_short};
 ghost use Rattle.pager_model.specs.FrameStates.{free_count, used_count, reserved_count, wired_count, claimed_count, held_count};
+ghost use Rattle.pager_model.specs.Layouts.{preferred_in};
 ghost use Rattle.pager_model.specs.PreferredSize.{IsWanted};
 ghost use Rattle.pager_model.specs.Bounds.{most_frames, space_pages, most_spaces, most_actors};
 
 use crate::layout::Layout;
 use crate::pins::{Kept, lowest_claimed, wire_range};
 use crate::records::page_at;
-use pager_model::{Frame, NoMemory, Sizes, Victim, Want, frames_of};
+use pager_model::{Frame, NoMemory, Size, Sizes, Victim, Want, frames_of};
 use std::alloc::Global;
 use std::marker::Model;
 use used_frames::UsedFrames;
@@ -137,6 +138,17 @@ impl Pool {
         self.entries < 1 << 45
     }
 
+    /// The size that a new reservation round the page is tried with first, before frames are looked at: the largest of the pool's sizes whose
+    /// extent round the page lies within the want, has at most the cap's number of pages, and meets no reservation of the space. Where there is
+    /// none, and where a reservation has the page, it is one page.
+    pub fn preferred(&self, space: u32, page: u32, want: &Want) -> Size
+        requires few { space < most_spaces }
+        requires wanted { IsWanted want.now page }
+        ensures { result ≡ preferred_in (layout_of self.now) space page want.now }
+    {
+        self.layout.preferred(space, page, want)
+    }
+
     /// Takes a frame for a page of a space, which has none. `Full` exactly where no frame is free and every reservation is full,
     /// and then nothing changes.
     pub fn take(&mut self, space: u32, page: u32, want: &Want) -> Result<Frame, Full>
@@ -151,7 +163,7 @@ impl Pool {
         ensures full { IfErr result (λ _. IsFull self.old × (self.new ≡ self.old)) }
         ensures full_is_told { IsFull self.old → IsErr result }
     {
-        let Some(place) = self.layout.place(self.entries, space, page, want) else {
+        let Some(place) = self.layout.reserve(self.entries, space, page, want) else {
             return Err(Full);
         };
         let Some(frame) = self.frames[place.frame as usize].take() else {

@@ -3,7 +3,7 @@ use Rattle.std.specs.Prelude.{ℕ, ◌≡◌, ◌+◌, ◌-◌, ◌/◌, ◌^◌
 use Rattle.std.specs.List.{AllByRecursion}
 use Rattle.io_core.specs.Faults.{one_more}
 use Rattle.pager_model.specs.declared.call.Line.{Line}
-use Rattle.pager_model.specs.Plans.{Plan}
+use Rattle.pager_model.specs.Scripts.{Script}
 use Rattle.pager_model.specs.SizeSets.{SizeSet}
 use Rattle.pager_model.specs.TraceText.{IsLine, call_line, first_line}
 use Rattle.report_text.specs.Writing.{Outgoing, Sent, SentPart}
@@ -19,7 +19,7 @@ use Rattle.from_lackey.specs.LineWords.{log_words}
 use Rattle.from_lackey.specs.Log.{BeginsWith, IsReadTo, lines_of}
 
 -- The trace of so many frames and these page sizes, with these calls, of one processor and one space.
-abbrev pub trace_of : ℕ → SizeSet → List Line → Plan
+abbrev pub trace_of : ℕ → SizeSet → List Line → Script
 trace_of frames sizes calls = record { version = 3; frames = frames; processors = 1; spaces = 1; sizes = sizes; daemon = None; calls = calls }
 
 -- its text up to the calls' end

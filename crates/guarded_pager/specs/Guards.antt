@@ -5,7 +5,7 @@ use Rattle.pager_model.specs.declared.call.Call.{Call}
 use Rattle.pager_model.specs.declared.call.Call.TheVariants.{Map, Grow, Unmap, Protect, Load, Store, Sync, Evict, Discard, Wire, Unwire}
 use Rattle.pager_model.specs.declared.call.Line.{Line}
 use Rattle.pager_model.specs.declared.entry.Entry.{Entry}
-use Rattle.pager_model.specs.Plans.{Plan}
+use Rattle.pager_model.specs.Scripts.{Script}
 use Rattle.pager_model.specs.Stored.{Stored}
 use Rattle.store_core.specs.MemoryState.{stored_copies}
 use Rattle.stream_core.specs.Streaming.{Streaming, most_calls_made}
@@ -66,5 +66,5 @@ zero_store = stored_copies [] 0
 
 -- whatever calls it stood after, it stands after this one too, and what is told is of this one
 abbrev pub Tells : Streaming → Line → Told → Streaming → Type 0
-Tells s line told s' = (plan : Plan) (stores : List Stored) (calls : List Line) (h : List Entry) → IsLive plan stores calls h s
-    → IsTold plan stores calls line h told s'
+Tells s line told s' = (script : Script) (stores : List Stored) (calls : List Line) (h : List Entry) → IsLive script stores calls h s
+    → IsTold script stores calls line h told s'

@@ -6,12 +6,12 @@ ghost use Rattle.pager_model.specs.declared.call.Call.TheVariants.{Store};
 ghost use Rattle.pager_model.specs.declared.call.Line.{Line as CallLine};
 ghost use Rattle.pager_model.specs.declared.entry.Entry.{Entry};
 ghost use Rattle.pager_model.specs.Counts.{counts};
-ghost use Rattle.pager_model.specs.Plans.{Plan};
+ghost use Rattle.pager_model.specs.Scripts.{Script};
 ghost use Rattle.pager_model.specs.Stored.{Stored};
 ghost use Rattle.pager_model.specs.Stores.{setting_over};
 ghost use Rattle.pager_model.specs.TraceText.{IsCall};
 ghost use Rattle.store_core.specs.MemoryState.{stored_of};
-ghost use Rattle.live_pager.specs.Live.{IsLive, plan_of};
+ghost use Rattle.live_pager.specs.Live.{IsLive, script_of};
 ghost use Rattle.guarded_pager.specs.Guards.{Tells, call_refusal, is_call, is_page, is_range, is_setting, is_word, zero_store};
 
 use crate::refusal::Refusal;
@@ -52,7 +52,7 @@ impl GuardedPager {
         sizes: Sizes,
     ) -> Result<GuardedPager, Refusal>
         ensures created { IfOk result (λ s. (is_setting frames processors spaces ≡ true)
-            × IsLive (plan_of frames processors spaces sizes) (replicate spaces zero_store) [] [] s) }
+            × IsLive (script_of frames processors spaces sizes) (replicate spaces zero_store) [] [] s) }
         ensures refused { IfErr result (λ why. why ≡ (if is_setting frames processors spaces then Refusal.NoMemory else Refusal.Range)) }
     {
         if !is_setting(frames, processors, spaces) {
@@ -92,8 +92,8 @@ impl GuardedPager {
 
     /// The counts so far.
     pub fn counts(&self) -> Summary
-        ensures { (plan : Plan) (stores : List Stored) (calls : List CallLine) (h : List Entry) → IsLive plan stores calls h self.now
-            → result ≡ counts (setting_over plan stores) h }
+        ensures { (script : Script) (stores : List Stored) (calls : List CallLine) (h : List Entry) → IsLive script stores calls h self.now
+            → result ≡ counts (setting_over script stores) h }
     {
         self.pager.counts()
     }

@@ -8,7 +8,7 @@ use Rattle.pager_model.specs.FrameStates.{named_space, start_frames}
 use Rattle.pager_model.specs.Legal.{progress_at, space_at}
 use Rattle.pager_model.specs.Options.{is_that}
 use Rattle.pager_model.specs.Order.{Progress, at_rest}
-use Rattle.pager_model.specs.Plans.{Plan}
+use Rattle.pager_model.specs.Scripts.{Script}
 use Rattle.pager_model.specs.Settings.{Given, faults_at_entry, is_told, mark_of}
 use Rattle.pager_model.specs.Showing.{actors, marks_of}
 use Rattle.pager_model.specs.SpaceStates.{empty_state}
@@ -123,44 +123,44 @@ HaveCome-next g history e progress before after within is at made all = record {
 
 -- At the beginning.
 
-module _ (plan : Plan) where
-  AreKept-new : (spaces : List ToldSpace) → length spaces ≡ plan.spaces → All (IsNewSpace plan.sizes plan.frames (actors plan)) spaces
-      → AreKeptAfter (told_setting plan) [] spaces
+module _ (script : Script) where
+  AreKept-new : (spaces : List ToldSpace) → length spaces ≡ script.spaces → All (IsNewSpace script.sizes script.frames (actors script)) spaces
+      → AreKeptAfter (told_setting script) [] spaces
   AreKept-new spaces many new = record {
-    known = many ∙ sym (length-replicate plan.spaces true);
+    known = many ∙ sym (length-replicate script.spaces true);
     each = λ s d below.
         let own = new s d below in
-        let known : s < plan.spaces = omega (arith, below, many) in
-        let told : is_told (told_setting plan) s ≡ true = get_or-replicate plan.spaces s true false known in
-        let faults : faults_at_entry (told_setting plan) s ≡ 0 = get_or-replicate plan.spaces s 0 0 known in
+        let known : s < script.spaces = omega (arith, below, many) in
+        let told : is_told (told_setting script) s ≡ true = get_or-replicate script.spaces s true false known in
+        let faults : faults_at_entry (told_setting script) s ≡ 0 = get_or-replicate script.spaces s 0 0 known in
         record {
-          stands = subst (λ n. Stands (kept_of (get_or spaces s d)) (empty_state plan.sizes (is_told (told_setting plan) s) n)) (sym faults)
-              (subst (λ b. Stands (kept_of (get_or spaces s d)) (empty_state plan.sizes b 0)) (sym told) own.stands);
+          stands = subst (λ n. Stands (kept_of (get_or spaces s d)) (empty_state script.sizes (is_told (told_setting script) s) n)) (sym faults)
+              (subst (λ b. Stands (kept_of (get_or spaces s d)) (empty_state script.sizes b 0)) (sym told) own.stands);
           images = own.images;
           pages = own.pages;
         };
   }
 
-  HaveCome-new : (progress : List Progress) → progress ≡ map (λ mark. at_rest mark 0) (marks_of plan)
-      → HaveCome (told_setting plan) [] progress
+  HaveCome-new : (progress : List Progress) → progress ≡ map (λ mark. at_rest mark 0) (marks_of script)
+      → HaveCome (told_setting script) [] progress
   HaveCome-new progress is = record {
     known = many;
     each = λ c d below. ap Some (sym (own c d below));
     made = λ c d below. subst (λ (p : Progress). p.made ≤ 0) (sym (own c d below)) (omega arith);
   }
     where
-      many : length progress ≡ length (marks_of plan)
-      many = ap length is ∙ length-map (marks_of plan) (λ mark. at_rest mark 0)
+      many : length progress ≡ length (marks_of script)
+      many = ap length is ∙ length-map (marks_of script) (λ mark. at_rest mark 0)
 
-      own : (c : ℕ) (d : Progress) → c < length progress → get_or progress c d ≡ at_rest (get_or (marks_of plan) c 0) 0
-      own c d below = ap (λ ps. get_or ps c d) is ∙ get_or-map (λ mark. at_rest mark 0) (marks_of plan) c 0 d (omega (arith, below, many))
+      own : (c : ℕ) (d : Progress) → c < length progress → get_or progress c d ≡ at_rest (get_or (marks_of script) c 0) 0
+      own c d below = ap (λ ps. get_or ps c d) is ∙ get_or-map (λ mark. at_rest mark 0) (marks_of script) c 0 d (omega (arith, below, many))
 
-  pub StandsAfter-new : (checker : Checker) → HasText plan → checker.marks.items ≡ marks_of plan
-      → checker.frames ≡ start_frames plan.sizes plan.frames (actors plan) → length checker.spaces.items ≡ plan.spaces
-      → All (IsNewSpace plan.sizes plan.frames (actors plan)) checker.spaces.items
-      → checker.progress.items ≡ map (λ mark. at_rest mark 0) (marks_of plan) → StandsAfter (told_setting plan) [] checker
+  pub StandsAfter-new : (checker : Checker) → HasText script → checker.marks.items ≡ marks_of script
+      → checker.frames ≡ start_frames script.sizes script.frames (actors script) → length checker.spaces.items ≡ script.spaces
+      → All (IsNewSpace script.sizes script.frames (actors script)) checker.spaces.items
+      → checker.progress.items ≡ map (λ mark. at_rest mark 0) (marks_of script) → StandsAfter (told_setting script) [] checker
   StandsAfter-new checker text marks frames many new progress =
-      let spaces = length-replicate plan.spaces true in record {
+      let spaces = length-replicate script.spaces true in record {
         legal = tt;
         spaces_few = omega (arith, spaces, text.spaces_in);
         marks_are = marks;

@@ -4,7 +4,7 @@ use Rattle.std.proofs.lemmas.Bool.{cases_order}
 use Rattle.std.proofs.lemmas.List.{take-append-drop, take-take}
 use Rattle.pager_model.specs.declared.entry.Entry.{Entry}
 use Rattle.pager_model.specs.Legal.{AllFollow, IsLegal}
-use Rattle.pager_model.specs.Plans.{Plan}
+use Rattle.pager_model.specs.Scripts.{Script}
 use Rattle.pager_model.specs.Settings.{Given}
 use Rattle.history_check.specs.declared.verdict.Verdict.{Verdict}
 use Rattle.history_check.specs.declared.verdict.Verdict.TheVariants.{Yes, No}
@@ -33,23 +33,23 @@ same_bad g history n m one other = elim (cases_order n m) [
 never : (g : Given) (history : List Entry) (n : ℕ) → IsFirstBad g history n → IsLegal g history → ⊥
 never g history n one legal = one.bad (IsLegal-take g history (n + 1) legal)
 
-pub one_verdict : (plan : Plan) (history : List Entry) (one other : Verdict) → IsVerdict plan history one → IsVerdict plan history other → one ≡ other
-one_verdict plan history Yes Yes first second = refl
-one_verdict plan history Yes (No m) first second = elim second [
-  | inl bad ↦ absurd (never (told_setting plan) history m bad first.0)
+pub one_verdict : (script : Script) (history : List Entry) (one other : Verdict) → IsVerdict script history one → IsVerdict script history other → one ≡ other
+one_verdict script history Yes Yes first second = refl
+one_verdict script history Yes (No m) first second = elim second [
+  | inl bad ↦ absurd (never (told_setting script) history m bad first.0)
   | inr another ↦ absurd (another.other first.1)
 ]
-one_verdict plan history (No n) Yes first second = elim first [
-  | inl bad ↦ absurd (never (told_setting plan) history n bad second.0)
+one_verdict script history (No n) Yes first second = elim first [
+  | inl bad ↦ absurd (never (told_setting script) history n bad second.0)
   | inr another ↦ absurd (another.other second.1)
 ]
-one_verdict plan history (No n) (No m) first second = elim first [
+one_verdict script history (No n) (No m) first second = elim first [
   | inl bad ↦ elim second [
-    | inl also ↦ ap (λ k. No k) (same_bad (told_setting plan) history n m bad also)
-    | inr another ↦ absurd (never (told_setting plan) history n bad another.legal)
+    | inl also ↦ ap (λ k. No k) (same_bad (told_setting script) history n m bad also)
+    | inr another ↦ absurd (never (told_setting script) history n bad another.legal)
   ]
   | inr another ↦ elim second [
-    | inl bad ↦ absurd (never (told_setting plan) history m bad another.legal)
+    | inl bad ↦ absurd (never (told_setting script) history m bad another.legal)
     | inr also ↦ ap (λ k. No k) (another.all ∙ sym also.all)
   ]
 ]

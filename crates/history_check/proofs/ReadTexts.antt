@@ -18,7 +18,7 @@ use Rattle.pager_model.specs.declared.entry.Numbered.{Numbered}
 use Rattle.pager_model.specs.declared.entry.What.{What}
 use Rattle.pager_model.specs.declared.entry.What.TheVariants.{Answer, Out, Failed, Take, Give, Clear, Claim, UseHeld, DropHeld, Got, Unclaim, Refused, Pin, Kept, Rest}
 use Rattle.pager_model.specs.Legal.{entries_in}
-use Rattle.pager_model.specs.Plans.{Plan}
+use Rattle.pager_model.specs.Scripts.{Script}
 use Rattle.pager_model.specs.Showing.{calls_of}
 use Rattle.pager_model.specs.TraceText.{HasText, IsCall, IsLine, IsTextOf, text_of}
 use Rattle.trace_reader.specs.declared.fault.TraceFault.{TraceFault}
@@ -27,7 +27,7 @@ use Rattle.trace_reader.specs.declared.input.AllFault.{AllFault}
 use Rattle.trace_reader.specs.declared.input.AllFault.TheVariants as whole
 use Rattle.trace_reader.specs.Refusals.{IsCause, lines_of, refusal_of, trace_fault}
 use Rattle.trace_reader.proofs.CutTexts.{not_refused}
-use Rattle.trace_reader.proofs.UniqueTexts.{one_plan}
+use Rattle.trace_reader.proofs.UniqueTexts.{one_script}
 use Rattle.history_check.specs.Texts.{AreCause, AreRefused, AreTexts, HasBadHistory, IsFailure, IsJudgeable, most_bytes, told_fault, trace_length}
 
 -- ---- what was read
@@ -49,57 +49,57 @@ of_line version processors spaces c (line ∷ lines) all n call at =
     first_call spaces c line lines call all.0.1 (λ k there. of_line version processors spaces c lines all.1 k call there) (line.processor == c) n at
 
 -- an answer that a line may say is of a call that a line may hold
-answers_line : (plan : Plan) → HasText plan → (c : ℕ) (what : What) → FitsWhat plan c what → AnswersLine what
-answers_line plan has c (Answer number call answered) fits =
-    (plan.spaces, of_line plan.version plan.processors plan.spaces c plan.calls (recursion_from_All _ plan.calls has.lines) number call fits.0)
-answers_line plan has c (Out page written) fits = tt
-answers_line plan has c (Failed page writing count) fits = tt
-answers_line plan has c (Take page frame want) fits = tt
-answers_line plan has c (Give page frame) fits = tt
-answers_line plan has c (Clear first len) fits = tt
-answers_line plan has c (Claim victim page frame need) fits = tt
-answers_line plan has c (UseHeld page frame want) fits = tt
-answers_line plan has c (DropHeld frame) fits = tt
-answers_line plan has c (Got frame) fits = tt
-answers_line plan has c (Unclaim frame) fits = tt
-answers_line plan has c (Refused wired claimed held) fits = tt
-answers_line plan has c (Pin first len wired) fits = tt
-answers_line plan has c (Kept first len page frame) fits = tt
-answers_line plan has c (Rest short) fits = tt
+answers_line : (script : Script) → HasText script → (c : ℕ) (what : What) → FitsWhat script c what → AnswersLine what
+answers_line script has c (Answer number call answered) fits =
+    (script.spaces, of_line script.version script.processors script.spaces c script.calls (recursion_from_All _ script.calls has.lines) number call fits.0)
+answers_line script has c (Out page written) fits = tt
+answers_line script has c (Failed page writing count) fits = tt
+answers_line script has c (Take page frame want) fits = tt
+answers_line script has c (Give page frame) fits = tt
+answers_line script has c (Clear first len) fits = tt
+answers_line script has c (Claim victim page frame need) fits = tt
+answers_line script has c (UseHeld page frame want) fits = tt
+answers_line script has c (DropHeld frame) fits = tt
+answers_line script has c (Got frame) fits = tt
+answers_line script has c (Unclaim frame) fits = tt
+answers_line script has c (Refused wired claimed held) fits = tt
+answers_line script has c (Pin first len wired) fits = tt
+answers_line script has c (Kept first len page frame) fits = tt
+answers_line script has c (Rest short) fits = tt
 
-answer_lines : (plan : Plan) → HasText plan → (history : List Numbered) → AllByRecursion (IsEntryOf plan) (entries_in history)
+answer_lines : (script : Script) → HasText script → (history : List Numbered) → AllByRecursion (IsEntryOf script) (entries_in history)
     → AllByRecursion (λ (n : Numbered). AnswersLine n.entry.what) history
-answer_lines plan has [] are = tt
-answer_lines plan has (n ∷ history) are =
-    (answers_line plan has n.entry.processor n.entry.what are.0.what, answer_lines plan has history are.1)
+answer_lines script has [] are = tt
+answer_lines script has (n ∷ history) are =
+    (answers_line script has n.entry.processor n.entry.what are.0.what, answer_lines script has history are.1)
 
 -- each answer of a history that has a text is of a call that a line may hold
-pub lines_answered : (plan : Plan) → HasText plan → (history : List Numbered) → IsHistoryOf plan history
+pub lines_answered : (script : Script) → HasText script → (history : List Numbered) → IsHistoryOf script history
     → All (λ (n : Numbered). AnswersLine n.entry.what) history
-lines_answered plan has history is =
-    All-from_recursion _ history (answer_lines plan has history (recursion_from_All _ (entries_in history) is.entries))
+lines_answered script has history is =
+    All-from_recursion _ history (answer_lines script has history (recursion_from_All _ (entries_in history) is.entries))
 
 -- ---- what is refused
 
 -- behind the text of a trace its history's begins
-text_length : (bytes : List ℕ) (plan : Plan) (history : List Numbered) → (are : AreTexts bytes plan history)
+text_length : (bytes : List ℕ) (script : Script) (history : List Numbered) → (are : AreTexts bytes script history)
     → trace_length bytes ≡ length are.text
-text_length bytes plan history are =
-    let whole : bytes ≡ text_of plan ++ are.rest = are.are ∙ ap (λ (t : List ℕ). t ++ are.rest) are.trace.1 in
+text_length bytes script history are =
+    let whole : bytes ≡ text_of script ++ are.rest = are.are ∙ ap (λ (t : List ℕ). t ++ are.rest) are.trace.1 in
     ap (λ (b : List ℕ). unwrap_or (end_in (lines_of b)) (length b)) whole
-    ∙ ap (λ n. unwrap_or n (length (text_of plan ++ are.rest))) (trace_ends plan are.rest are.trace.0)
+    ∙ ap (λ n. unwrap_or n (length (text_of script ++ are.rest))) (trace_ends script are.rest are.trace.0)
     ∙ ap length (sym are.trace.1)
 
-pub text_again : (bytes : List ℕ) (plan : Plan) (history : List Numbered) → (are : AreTexts bytes plan history)
+pub text_again : (bytes : List ℕ) (script : Script) (history : List Numbered) → (are : AreTexts bytes script history)
     → take (trace_length bytes) bytes ≡ are.text
-text_again bytes plan history are =
-    ap (λ n. take n bytes) (text_length bytes plan history are) ∙ ap (take (length are.text)) are.are
+text_again bytes script history are =
+    ap (λ n. take n bytes) (text_length bytes script history are) ∙ ap (take (length are.text)) are.are
     ∙ take-append_seam are.text are.rest
 
-pub rest_again : (bytes : List ℕ) (plan : Plan) (history : List Numbered) → (are : AreTexts bytes plan history)
+pub rest_again : (bytes : List ℕ) (script : Script) (history : List Numbered) → (are : AreTexts bytes script history)
     → drop (trace_length bytes) bytes ≡ are.rest
-rest_again bytes plan history are =
-    ap (λ n. drop n bytes) (text_length bytes plan history are) ∙ ap (drop (length are.text)) are.are
+rest_again bytes script history are =
+    ap (λ n. drop n bytes) (text_length bytes script history are) ∙ ap (drop (length are.text)) are.are
     ∙ drop-append_seam are.text are.rest
 
 -- ---- why
@@ -113,11 +113,11 @@ pub behind_first : (n : ℕ) (bytes : List ℕ) → take (length bytes - n) (dro
 behind_first n bytes = ap (λ k. take k (drop n bytes)) (sym (length-drop n bytes)) ∙ take-length (drop n bytes)
 
 -- all were, and are the texts of a trace and a history
-pub are_texts : (left left' : Option (List ℕ)) (items : List ℕ) (plan : Plan) (history : List Numbered) → Told left left' items
-    → length items ≤ most_bytes → IsTextOf (take (trace_length items) items) plan → IsHistoryText plan (drop (trace_length items) items) history
-    → IfSome left (λ bytes. AreTexts bytes plan history × (length bytes ≤ most_bytes) × (left' ≡ Some []))
-are_texts None left' items plan history told few text rest = tt
-are_texts (Some bytes) left' items plan history told few text rest = (
+pub are_texts : (left left' : Option (List ℕ)) (items : List ℕ) (script : Script) (history : List Numbered) → Told left left' items
+    → length items ≤ most_bytes → IsTextOf (take (trace_length items) items) script → IsHistoryText script (drop (trace_length items) items) history
+    → IfSome left (λ bytes. AreTexts bytes script history × (length bytes ≤ most_bytes) × (left' ≡ Some []))
+are_texts None left' items script history told few text rest = tt
+are_texts (Some bytes) left' items script history told few text rest = (
   record {
     text = take (trace_length items) items;
     rest = drop (trace_length items) items;
@@ -181,41 +181,41 @@ pub trace_complete : (left left' : Option (List ℕ)) (items : List ℕ) (fault 
     → IsCause (refusal_of (take (trace_length items) items)) fault → IsSomeAnd left IsJudgeable → IsFailure fault
 trace_complete None left' items fault told cause judgeable = absurd judgeable
 trace_complete (Some bytes) left' items fault told cause judgeable =
-    let plan = judgeable.1.0 in
+    let script = judgeable.1.0 in
     let history = judgeable.1.1 in
-    let are : AreTexts items plan history = subst (λ b. AreTexts b plan history) told.0 judgeable.1.2 in
-    fails _ fault (ap refusal_of (text_again items plan history are ∙ are.trace.1) ∙ not_refused plan are.trace.0) cause
+    let are : AreTexts items script history = subst (λ b. AreTexts b script history) told.0 judgeable.1.2 in
+    fails _ fault (ap refusal_of (text_again items script history are ∙ are.trace.1) ∙ not_refused script are.trace.0) cause
 
 -- the history's text is refused
-pub history_cause : (left left' : Option (List ℕ)) (items : List ℕ) (plan : Plan) (fault : HistoryFault) → Told left left' items
-    → length items ≤ most_bytes → IsTextOf (take (trace_length items) items) plan
-    → IsHistoryCause plan (drop (trace_length items) items) fault → IfSome left (λ bytes. AreCause bytes (told_fault fault))
-history_cause None left' items plan fault told few text cause = tt
-history_cause (Some bytes) left' items plan fault told few text cause =
+pub history_cause : (left left' : Option (List ℕ)) (items : List ℕ) (script : Script) (fault : HistoryFault) → Told left left' items
+    → length items ≤ most_bytes → IsTextOf (take (trace_length items) items) script
+    → IsHistoryCause script (drop (trace_length items) items) fault → IfSome left (λ bytes. AreCause bytes (told_fault fault))
+history_cause None left' items script fault told few text cause = tt
+history_cause (Some bytes) left' items script fault told few text cause =
     subst (λ b. AreCause b (told_fault fault)) (sym told.0) (by_fault fault cause)
   where
-    by_fault : (fault : HistoryFault) → IsHistoryCause plan (drop (trace_length items) items) fault → AreCause items (told_fault fault)
-    by_fault (bad.Line number) cause = inr (few, inr (plan, text, bad.Line number, cause, refl))
-    by_fault bad.NoEnd cause = inr (few, inr (plan, text, bad.NoEnd, cause, refl))
+    by_fault : (fault : HistoryFault) → IsHistoryCause script (drop (trace_length items) items) fault → AreCause items (told_fault fault)
+    by_fault (bad.Line number) cause = inr (few, inr (script, text, bad.Line number, cause, refl))
+    by_fault bad.NoEnd cause = inr (few, inr (script, text, bad.NoEnd, cause, refl))
     by_fault bad.NoMemory cause = tt
 
-behind_fails : (plan : Plan) (rest : List ℕ) (history : List Numbered) (fault : HistoryFault) → IsHistoryText plan rest history
-    → IsHistoryCause plan rest fault → IsFailure (told_fault fault)
-behind_fails plan rest history (bad.Line number) behind cause = absurd (history_not_refused plan rest history (bad.Line number) behind cause)
-behind_fails plan rest history bad.NoEnd behind cause = absurd (history_not_refused plan rest history bad.NoEnd behind cause)
-behind_fails plan rest history bad.NoMemory behind cause = tt
+behind_fails : (script : Script) (rest : List ℕ) (history : List Numbered) (fault : HistoryFault) → IsHistoryText script rest history
+    → IsHistoryCause script rest fault → IsFailure (told_fault fault)
+behind_fails script rest history (bad.Line number) behind cause = absurd (history_not_refused script rest history (bad.Line number) behind cause)
+behind_fails script rest history bad.NoEnd behind cause = absurd (history_not_refused script rest history bad.NoEnd behind cause)
+behind_fails script rest history bad.NoMemory behind cause = tt
 
-pub history_complete : (left left' : Option (List ℕ)) (items : List ℕ) (plan : Plan) (fault : HistoryFault) → Told left left' items
-    → IsTextOf (take (trace_length items) items) plan → IsHistoryCause plan (drop (trace_length items) items) fault
+pub history_complete : (left left' : Option (List ℕ)) (items : List ℕ) (script : Script) (fault : HistoryFault) → Told left left' items
+    → IsTextOf (take (trace_length items) items) script → IsHistoryCause script (drop (trace_length items) items) fault
     → IsSomeAnd left IsJudgeable → IsFailure (told_fault fault)
-history_complete None left' items plan fault told text cause judgeable = absurd judgeable
-history_complete (Some bytes) left' items plan fault told text cause judgeable =
+history_complete None left' items script fault told text cause judgeable = absurd judgeable
+history_complete (Some bytes) left' items script fault told text cause judgeable =
     let asked = judgeable.1.0 in
     let history = judgeable.1.1 in
     let are : AreTexts items asked history = subst (λ b. AreTexts b asked history) told.0 judgeable.1.2 in
-    let same : asked ≡ plan = one_plan asked plan are.trace.0 text.0
+    let same : asked ≡ script = one_script asked script are.trace.0 text.0
     (sym are.trace.1 ∙ sym (text_again items asked history are) ∙ text.1) in
-    let behind : IsHistoryText plan (drop (trace_length items) items) history =
+    let behind : IsHistoryText script (drop (trace_length items) items) history =
     subst (λ p. IsHistoryText p (drop (trace_length items) items) history) same
     (subst (λ r. IsHistoryText asked r history) (sym (rest_again items asked history are)) are.history_text) in
-    behind_fails plan (drop (trace_length items) items) history fault behind cause
+    behind_fails script (drop (trace_length items) items) history fault behind cause

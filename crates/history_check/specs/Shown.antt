@@ -5,7 +5,7 @@ use Rattle.pager_model.specs.declared.call.Line.{Line}
 use Rattle.pager_model.specs.declared.entry.Entry.{Entry}
 use Rattle.pager_model.specs.Entries.{entries_of}
 use Rattle.pager_model.specs.Order.{IsWhole, Progress, at_rest}
-use Rattle.pager_model.specs.Plans.{Plan}
+use Rattle.pager_model.specs.Scripts.{Script}
 use Rattle.pager_model.specs.Showing.{MakesTurns, answers_in, calls_of}
 use Rattle.history_check.specs.declared.shows.Awaited.{Awaited}
 
@@ -14,17 +14,17 @@ abbrev pub AnswersShown : ℕ → List Line → List Entry → Type 0
 AnswersShown c lines history = answers_in (entries_of c history) ≡ enumerate_from 0 (calls_of c lines)
 
 -- so it is of each that makes calls
-abbrev pub AllAnswersShown : Plan → List Entry → Type 0
-AllAnswersShown plan history = (c : ℕ) → c < plan.processors → AnswersShown c plan.calls history
+abbrev pub AllAnswersShown : Script → List Entry → Type 0
+AllAnswersShown script history = (c : ℕ) → c < script.processors → AnswersShown c script.calls history
 
 -- no call or turn is in progress
 abbrev pub IsAtRest : ℕ → Progress → Type 0
 IsAtRest mark progress = progress ≡ at_rest mark progress.made
 
 -- each call that was begun is answered, and the daemon made its turns
-pub record AllAtRest (plan : Plan) (history : List Entry) : Type 0 where
-  pub calls : (c : ℕ) → c < plan.processors → IsWhole 0 (entries_of c history)
-  pub turns : MakesTurns plan plan.daemon history
+pub record AllAtRest (script : Script) (history : List Entry) : Type 0 where
+  pub calls : (c : ℕ) → c < script.processors → IsWhole 0 (entries_of c history)
+  pub turns : MakesTurns script script.daemon history
 
 -- its answers that are left are the calls that are awaited
 abbrev pub RestShown : ℕ → List Line → Awaited → List Entry → Type 0

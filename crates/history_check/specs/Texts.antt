@@ -5,7 +5,7 @@ use Rattle.history_text.specs.declared.fault.HistoryFault.TheVariants as faults
 use Rattle.history_text.specs.HistoryText.{IsHistoryText}
 use Rattle.history_text.specs.Refusals.{IsRefused, end_in}
 use Rattle.pager_model.specs.declared.entry.Numbered.{Numbered}
-use Rattle.pager_model.specs.Plans.{Plan}
+use Rattle.pager_model.specs.Scripts.{Script}
 use Rattle.pager_model.specs.TraceText.{IsTextOf}
 use Rattle.trace_reader.specs.declared.fault.TraceFault.{TraceFault}
 use Rattle.trace_reader.specs.declared.fault.TraceFault.TheVariants.{ReadFault, TooLong, TooFewStores, OneProcessor, HistoryLine, HistoryNoEnd, NoMemory}
@@ -16,16 +16,16 @@ abbrev pub most_bytes : ℕ
 most_bytes = 67108864
 
 -- The bytes are the text of a trace, and behind it that of a history of the trace.
-pub record AreTexts (bytes : List ℕ) (plan : Plan) (history : List Numbered) : Type 0 where
+pub record AreTexts (bytes : List ℕ) (script : Script) (history : List Numbered) : Type 0 where
   pub text : List ℕ
   pub rest : List ℕ
   pub are : bytes ≡ text ++ rest
-  pub trace : IsTextOf text plan
-  pub history_text : IsHistoryText plan rest history
+  pub trace : IsTextOf text script
+  pub history_text : IsHistoryText script rest history
 
 -- a history can be judged by these bytes: they are the texts of a trace and a history, and no more than may be read
 abbrev pub IsJudgeable : List ℕ → Type 0
-IsJudgeable bytes = (length bytes ≤ most_bytes) × ((plan : Plan) × (history : List Numbered) × AreTexts bytes plan history)
+IsJudgeable bytes = (length bytes ≤ most_bytes) × ((script : Script) × (history : List Numbered) × AreTexts bytes script history)
 
 -- how many bytes a trace's text has: up to and with the first line `end`, and all of them where there is no such line
 abbrev pub trace_length : List ℕ → ℕ
@@ -40,8 +40,8 @@ told_fault faults.NoMemory = NoMemory
 -- the bytes up to the first line `end` are a trace's text, and those behind it are refused so as a history's
 abbrev pub HasBadHistory : List ℕ → TraceFault → Type 0
 HasBadHistory bytes fault =
-    (plan : Plan) × IsTextOf (take (trace_length bytes) bytes) plan
-    × (bad : HistoryFault) × IsRefused plan (drop (trace_length bytes) bytes) bad × (fault ≡ told_fault bad)
+    (script : Script) × IsTextOf (take (trace_length bytes) bytes) script
+    × (bad : HistoryFault) × IsRefused script (drop (trace_length bytes) bytes) bad × (fault ≡ told_fault bad)
 
 -- the bytes are refused so: as too many, as no trace's text up to their first line `end`, or as no history's behind it
 abbrev pub AreRefused : List ℕ → TraceFault → Type 0

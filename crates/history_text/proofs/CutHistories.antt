@@ -16,7 +16,7 @@ use Rattle.pager_model.specs.declared.entry.What.TheVariants.{Answer, Out, Faile
 use Rattle.pager_model.specs.declared.reply.Reply.{Reply}
 use Rattle.pager_model.specs.declared.reply.Reply.TheVariants.{Done, Value, Clean, Written, Unmapped, Denied, Overlap, OutOfSpace, NotGrowing, RegionsFull, NoFrames, StoreFault, NoMemory, Busy}
 use Rattle.pager_model.specs.Legal.{entries_in}
-use Rattle.pager_model.specs.Plans.{Plan}
+use Rattle.pager_model.specs.Scripts.{Script}
 use Rattle.pager_model.specs.PrintedText.{flag_word, history_line, history_text, hit_word, need_words, part_word, reply_words, size_words, what_words, writing_word, written_word}
 use Rattle.pager_model.specs.TraceText.{line_of_words}
 use Rattle.trace_lines.specs.Words.{words_of}
@@ -177,35 +177,35 @@ entry_again n e es =
 
 -- ---- no refusal
 
-from_entries : (plan : Plan) (n : ℕ) (es : List Entry) (fault : HistoryFault) → AllByRecursion (IsEntryOf plan) es
-    → RefusedFrom plan n (lines_of (entries_text n es)) fault → ⊥
-from_entries plan n [] fault are refused =
-    let at_end : RefusedFrom plan n (codes "end" ∷ [] ∷ []) fault = subst (λ ls. RefusedFrom plan n ls fault) (no_entry n) refused in
+from_entries : (script : Script) (n : ℕ) (es : List Entry) (fault : HistoryFault) → AllByRecursion (IsEntryOf script) es
+    → RefusedFrom script n (lines_of (entries_text n es)) fault → ⊥
+from_entries script n [] fault are refused =
+    let at_end : RefusedFrom script n (codes "end" ∷ [] ∷ []) fault = subst (λ ls. RefusedFrom script n ls fault) (no_entry n) refused in
     elim at_end [
       | inl ends ↦ ends.1
       | inr goes ↦ elim goes [ inl bad ↦ false≢true (sym bad.0) | inr good ↦ false≢true (sym good.0) ]
     ]
-from_entries plan n (e ∷ es) fault are refused =
+from_entries script n (e ∷ es) fault are refused =
     let p = some_piece 10 (entries_text (suc n) es) in
-    let at_line : RefusedFrom plan n (entry_line n e ∷ p.0 ∷ p.1) fault =
-    subst (λ ls. RefusedFrom plan n ls fault) (entry_again n e es ∙ ap (λ ls. entry_line n e ∷ ls) p.2) refused in
+    let at_line : RefusedFrom script n (entry_line n e ∷ p.0 ∷ p.1) fault =
+    subst (λ ls. RefusedFrom script n ls fault) (entry_again n e es ∙ ap (λ ls. entry_line n e ∷ ls) p.2) refused in
     elim at_line [
       | inl ends ↦ false≢true (sym (entry_is_not_end n e) ∙ ends.0)
       | inr goes ↦ elim goes [
         | inl bad ↦ bad.1 (record { entry = e; is = are.0; words = entry_words_again n e })
         | inr good ↦
-            from_entries plan (suc n) es fault are.1
-            (subst (λ ls. RefusedFrom plan (suc n) ls fault) (sym p.2)
-            (subst (λ k. RefusedFrom plan k (p.0 ∷ p.1) fault) (add-one n) good.2))
+            from_entries script (suc n) es fault are.1
+            (subst (λ ls. RefusedFrom script (suc n) ls fault) (sym p.2)
+            (subst (λ k. RefusedFrom script k (p.0 ∷ p.1) fault) (add-one n) good.2))
       ]
     ]
 
-pub text_is : (plan : Plan) (text : List ℕ) (history : List Numbered) → IsHistoryText plan text history
+pub text_is : (script : Script) (text : List ℕ) (history : List Numbered) → IsHistoryText script text history
     → text ≡ entries_text 0 (entries_in history)
-text_is plan text history is = is.1 ∙ ap text_of_history is.0.numbered
+text_is script text history is = is.1 ∙ ap text_of_history is.0.numbered
 
-pub not_refused : (plan : Plan) (text : List ℕ) (history : List Numbered) (fault : HistoryFault) → IsHistoryText plan text history
-    → IsRefused plan text fault → ⊥
-not_refused plan text history fault is refused =
-    from_entries plan 0 (entries_in history) fault (recursion_from_All _ (entries_in history) is.0.entries)
-    (subst (λ t. RefusedFrom plan 0 (lines_of t) fault) (text_is plan text history is) refused)
+pub not_refused : (script : Script) (text : List ℕ) (history : List Numbered) (fault : HistoryFault) → IsHistoryText script text history
+    → IsRefused script text fault → ⊥
+not_refused script text history fault is refused =
+    from_entries script 0 (entries_in history) fault (recursion_from_All _ (entries_in history) is.0.entries)
+    (subst (λ t. RefusedFrom script 0 (lines_of t) fault) (text_is script text history is) refused)

@@ -9,7 +9,7 @@ use Rattle.std.proofs.Math.ListN.{length-set, set}
 use Rattle.std.proofs.Math.Seq.{get_or-append_seam}
 use Rattle.pager_model.specs.declared.call.Call.{Call}
 use Rattle.pager_model.specs.declared.call.Line.{Line}
-use Rattle.pager_model.specs.Plans.{Plan}
+use Rattle.pager_model.specs.Scripts.{Script}
 use Rattle.pager_model.specs.Showing.{calls_of}
 use Rattle.pager_model.specs.TraceText.{HasText, IsLine}
 use Rattle.pager_model.proofs.Histories.{filter-push_in, filter-push_out}
@@ -84,10 +84,10 @@ past_all version processors spaces c (l ∷ lines) are past =
     rw (ne_eqb l.processor c (λ same. omega (arith, are.0.0, same, past))) (past_all version processors spaces c lines are.1 past)
 
 -- none but the processors make calls
-pub past_processors : (plan : Plan) (c n : ℕ) → HasText plan → plan.processors ≤ c → call_at plan c n ≡ None
-past_processors plan c n has past =
+pub past_processors : (script : Script) (c n : ℕ) → HasText script → script.processors ≤ c → call_at script c n ≡ None
+past_processors script c n has past =
     ap (λ (l : List Call). slice_get l n)
-    (past_all plan.version plan.processors plan.spaces c plan.calls (recursion_from_All _ plan.calls has.lines) past)
+    (past_all script.version script.processors script.spaces c script.calls (recursion_from_All _ script.calls has.lines) past)
 
 few_of : (c : ℕ) (lines : List Line) → length (calls_of c lines) ≤ length lines
 few_of c [] = omega arith
@@ -97,9 +97,9 @@ few_of c (l ∷ lines) = elim (cases_Bool (l.processor == c)) [
 ]
 
 -- their numbers are small
-pub small_number : (plan : Plan) (c n : ℕ) → HasText plan → call_at plan c n ≢ None → n < 2 ^ 32
-small_number plan c n has there =
-    elim (cases_lt n (length (calls_of c plan.calls))) [
-      | inl below ↦ omega (arith, below, few_of c plan.calls, has.few)
-      | inr past ↦ absurd (there (slice_get_past (calls_of c plan.calls) n past))
+pub small_number : (script : Script) (c n : ℕ) → HasText script → call_at script c n ≢ None → n < 2 ^ 32
+small_number script c n has there =
+    elim (cases_lt n (length (calls_of c script.calls))) [
+      | inl below ↦ omega (arith, below, few_of c script.calls, has.few)
+      | inr past ↦ absurd (there (slice_get_past (calls_of c script.calls) n past))
     ]

@@ -6,7 +6,7 @@ use Rattle.std.proofs.lemmas.Option.{none-some, same_Some}
 use Rattle.std.proofs.lemmas.Slice.Eq.{bytes_eq-Decides}
 use Rattle.pager_model.specs.declared.entry.What.{What}
 use Rattle.pager_model.specs.declared.entry.What.TheVariants as whats
-use Rattle.pager_model.specs.Plans.{Plan}
+use Rattle.pager_model.specs.Scripts.{Script}
 use Rattle.pager_model.specs.PrintedText.{what_words}
 use Rattle.history_text.specs.declared.name.Name.{Name}
 use Rattle.history_text.specs.declared.name.Name.TheVariants.{Answer, Out, Failed, Take, Give, Clear, Claim, UseHeld, Drop, Got, Unclaim, Refused, Pin, Kept, Rest}
@@ -73,30 +73,30 @@ begins (whats.Kept a len page frame) = refl
 begins (whats.Rest short) = refl
 
 -- nothing of this kind that fits has the words
-refutes : (plan : Plan) (c : ℕ) (words : List (List ℕ)) (what : What) → NoneHas plan c words (name_of_what what) → FitsWhat plan c what
+refutes : (script : Script) (c : ℕ) (words : List (List ℕ)) (what : What) → NoneHas script c words (name_of_what what) → FitsWhat script c what
     → words ≡ others (what_words what) → ⊥
-refutes plan c words (whats.Answer number call answered) none fits is =
+refutes script c words (whats.Answer number call answered) none fits is =
     none number answered fits.1 fits.2 (λ absent. none-some call (sym absent ∙ fits.0)) is
-refutes plan c words (whats.Out page written) none fits is = none page written fits is
-refutes plan c words (whats.Failed page writing count) none fits is = none page writing count fits.0 fits.1 is
-refutes plan c words (whats.Take page frame want) none fits is = none page frame want fits.0 fits.1 fits.2 is
-refutes plan c words (whats.Give page frame) none fits is = none page frame fits.0 fits.1 is
-refutes plan c words (whats.Clear a len) none fits is = none a len fits.0 fits.1 is
-refutes plan c words (whats.Claim victim page frame need) none fits is = none victim page frame need fits.0 fits.1 fits.2 fits.3 is
-refutes plan c words (whats.UseHeld page frame want) none fits is = none page frame want fits.0 fits.1 fits.2 is
-refutes plan c words (whats.DropHeld frame) none fits is = none frame fits is
-refutes plan c words (whats.Got frame) none fits is = none frame fits is
-refutes plan c words (whats.Unclaim frame) none fits is = none frame fits is
-refutes plan c words (whats.Refused wired claimed held) none fits is = none wired claimed held fits.0 fits.1 fits.2 is
-refutes plan c words (whats.Pin a len wired) none fits is = none a len wired fits.0 fits.1 is
-refutes plan c words (whats.Kept a len page frame) none fits is = none a len page frame fits.0 fits.1 fits.2 fits.3 is
-refutes plan c words (whats.Rest short) none fits is = none short is
+refutes script c words (whats.Out page written) none fits is = none page written fits is
+refutes script c words (whats.Failed page writing count) none fits is = none page writing count fits.0 fits.1 is
+refutes script c words (whats.Take page frame want) none fits is = none page frame want fits.0 fits.1 fits.2 is
+refutes script c words (whats.Give page frame) none fits is = none page frame fits.0 fits.1 is
+refutes script c words (whats.Clear a len) none fits is = none a len fits.0 fits.1 is
+refutes script c words (whats.Claim victim page frame need) none fits is = none victim page frame need fits.0 fits.1 fits.2 fits.3 is
+refutes script c words (whats.UseHeld page frame want) none fits is = none page frame want fits.0 fits.1 fits.2 is
+refutes script c words (whats.DropHeld frame) none fits is = none frame fits is
+refutes script c words (whats.Got frame) none fits is = none frame fits is
+refutes script c words (whats.Unclaim frame) none fits is = none frame fits is
+refutes script c words (whats.Refused wired claimed held) none fits is = none wired claimed held fits.0 fits.1 fits.2 is
+refutes script c words (whats.Pin a len wired) none fits is = none a len wired fits.0 fits.1 is
+refutes script c words (whats.Kept a len page frame) none fits is = none a len page frame fits.0 fits.1 fits.2 fits.3 is
+refutes script c words (whats.Rest short) none fits is = none short is
 
-pub none_says : (plan : Plan) (c : ℕ) (words : List (List ℕ)) (name : Name) → NoneHas plan c words name → (what : What) → FitsWhat plan c what
+pub none_says : (script : Script) (c : ℕ) (words : List (List ℕ)) (name : Name) → NoneHas script c words name → (what : What) → FitsWhat script c what
     → word_of_name name ∷ words ≡ what_words what → ⊥
-none_says plan c words name none what fits is =
+none_says script c words name none what fits is =
     let same : name ≡ name_of_what what = one_name name (name_of_what what) (ap first is ∙ begins what) in
-    refutes plan c words what (subst (NoneHas plan c words) same none) fits (ap others is)
+    refutes script c words what (subst (NoneHas script c words) same none) fits (ap others is)
 
 -- a word that is no name begins nothing
 pub unnamed_says : (word : List ℕ) (words : List (List ℕ)) → ((name : Name) → bytes_eq word (word_of_name name) ≡ false) → (what : What)
@@ -106,7 +106,7 @@ unnamed_says word words unnamed what is =
     false≢true (sym (unnamed (name_of_what what)) ∙ (bytes_eq-Decides word (word_of_name (name_of_what what))).1 named)
 
 -- a kind's clause, where the name is that kind's
-pub none_of : (o : Option What) (plan : Plan) (c : ℕ) (words : List (List ℕ)) (name kind : Name) → name ≡ kind
-    → IfNone o ((p : Plan) (k : ℕ) → NoneHas p k words kind) → IfNone o (NoneHas plan c words name)
-none_of None plan c words name kind is none = subst (NoneHas plan c words) (sym is) (none plan c)
-none_of (Some what) plan c words name kind is none = none
+pub none_of : (o : Option What) (script : Script) (c : ℕ) (words : List (List ℕ)) (name kind : Name) → name ≡ kind
+    → IfNone o ((p : Script) (k : ℕ) → NoneHas p k words kind) → IfNone o (NoneHas script c words name)
+none_of None script c words name kind is none = subst (NoneHas script c words) (sym is) (none script c)
+none_of (Some what) script c words name kind is none = none

@@ -19,7 +19,7 @@ use Rattle.pager_model.specs.declared.reply.Answered.{Answered}
 use Rattle.pager_model.specs.declared.reply.Reply.{Reply}
 use Rattle.pager_model.specs.declared.reply.Reply.TheVariants.{Done, Value, Clean, Written, Unmapped, Denied, Overlap, OutOfSpace, NotGrowing, RegionsFull, NoFrames, StoreFault, NoMemory, Busy}
 use Rattle.pager_model.specs.Legal.{entries_in}
-use Rattle.pager_model.specs.Plans.{Plan}
+use Rattle.pager_model.specs.Scripts.{Script}
 use Rattle.pager_model.specs.PrintedText.{answered_words, flag_word, hit_word, need_words, part_word, reply_words, size_words, what_words, writing_word, written_word}
 use Rattle.pager_model.specs.TraceText.{HasText}
 use Rattle.pager_model.proofs.Actors.{actors_few}
@@ -156,40 +156,40 @@ call_back None = SyncCall 0 0
 call_back (Some call) = call
 
 -- what happened of a kind, by the words behind its name
-abbrev what_back : Plan → ℕ → Name → List (List ℕ) → What
-what_back plan c Answer words =
-    whats.Answer (number_back words 0) (call_back (call_at plan c (number_back words 0))) (answered_back (drop 1 words))
-what_back plan c Out words = whats.Out (number_back words 0) (word_back words 1 (codes "written"))
-what_back plan c Failed words = whats.Failed (number_back words 0) (word_back words 1 (codes "write")) (number_back words 2)
-what_back plan c Take words = whats.Take (number_back words 0) (number_back words 1) (want_back words)
-what_back plan c Give words = whats.Give (number_back words 0) (number_back words 1)
-what_back plan c Clear words = whats.Clear (number_back words 0) (number_back words 1)
-what_back plan c Claim words = whats.Claim (number_back words 0) (number_back words 1) (number_back words 2) (need_back (drop 3 words))
-what_back plan c UseHeld words = whats.UseHeld (number_back words 0) (number_back words 1) (want_back words)
-what_back plan c Drop words = whats.DropHeld (number_back words 0)
-what_back plan c Got words = whats.Got (number_back words 0)
-what_back plan c Unclaim words = whats.Unclaim (number_back words 0)
-what_back plan c Refused words = whats.Refused (number_back words 0) (number_back words 1) (number_back words 2)
-what_back plan c Pin words = whats.Pin (number_back words 0) (number_back words 1) (word_back words 2 (codes "1"))
-what_back plan c Kept words = whats.Kept (number_back words 0) (number_back words 1) (number_back words 2) (number_back words 3)
-what_back plan c Rest words = whats.Rest (word_back words 0 (codes "1"))
+abbrev what_back : Script → ℕ → Name → List (List ℕ) → What
+what_back script c Answer words =
+    whats.Answer (number_back words 0) (call_back (call_at script c (number_back words 0))) (answered_back (drop 1 words))
+what_back script c Out words = whats.Out (number_back words 0) (word_back words 1 (codes "written"))
+what_back script c Failed words = whats.Failed (number_back words 0) (word_back words 1 (codes "write")) (number_back words 2)
+what_back script c Take words = whats.Take (number_back words 0) (number_back words 1) (want_back words)
+what_back script c Give words = whats.Give (number_back words 0) (number_back words 1)
+what_back script c Clear words = whats.Clear (number_back words 0) (number_back words 1)
+what_back script c Claim words = whats.Claim (number_back words 0) (number_back words 1) (number_back words 2) (need_back (drop 3 words))
+what_back script c UseHeld words = whats.UseHeld (number_back words 0) (number_back words 1) (want_back words)
+what_back script c Drop words = whats.DropHeld (number_back words 0)
+what_back script c Got words = whats.Got (number_back words 0)
+what_back script c Unclaim words = whats.Unclaim (number_back words 0)
+what_back script c Refused words = whats.Refused (number_back words 0) (number_back words 1) (number_back words 2)
+what_back script c Pin words = whats.Pin (number_back words 0) (number_back words 1) (word_back words 2 (codes "1"))
+what_back script c Kept words = whats.Kept (number_back words 0) (number_back words 1) (number_back words 2) (number_back words 3)
+what_back script c Rest words = whats.Rest (word_back words 0 (codes "1"))
 
 small_is : (n : ℕ) → n < 2 ^ 32 → digits_value 10 (decimal n) ≡ n
 small_is n small = decimal_value n (omega arith)
 
-what_is_back : (plan : Plan) (c : ℕ) (what : What) → HasText plan → FitsWhat plan c what
-    → what_back plan c (name_of_what what) (others (what_words what)) ≡ what
-what_is_back plan c (whats.Answer number call answered) has fits =
-    let there : call_at plan c number ≢ None = λ none. cc (fits.0, none) in
+what_is_back : (script : Script) (c : ℕ) (what : What) → HasText script → FitsWhat script c what
+    → what_back script c (name_of_what what) (others (what_words what)) ≡ what
+what_is_back script c (whats.Answer number call answered) has fits =
+    let there : call_at script c number ≢ None = λ none. cc (fits.0, none) in
     rw (
-      small_is number (small_number plan c number has there),
+      small_is number (small_number script c number has there),
       fits.0,
       answered_is_back answered fits.1 fits.2,
     ) refl
-what_is_back plan c (whats.Out page written) has fits = rw (small_is page fits, written_again written) refl
-what_is_back plan c (whats.Failed page writing count) has fits =
+what_is_back script c (whats.Out page written) has fits = rw (small_is page fits, written_again written) refl
+what_is_back script c (whats.Failed page writing count) has fits =
     rw (small_is page fits.0, writing_again writing, decimal_value count fits.1) refl
-what_is_back plan c (whats.Take page frame want) has fits =
+what_is_back script c (whats.Take page frame want) has fits =
     rw (
       small_is page fits.0,
       small_is frame fits.1,
@@ -198,11 +198,11 @@ what_is_back plan c (whats.Take page frame want) has fits =
       small_is want.cap fits.2.2,
       flag_again want.wired,
     ) refl
-what_is_back plan c (whats.Give page frame) has fits = rw (small_is page fits.0, small_is frame fits.1) refl
-what_is_back plan c (whats.Clear a len) has fits = rw (small_is a fits.0, small_is len fits.1) refl
-what_is_back plan c (whats.Claim victim page frame need) has fits =
+what_is_back script c (whats.Give page frame) has fits = rw (small_is page fits.0, small_is frame fits.1) refl
+what_is_back script c (whats.Clear a len) has fits = rw (small_is a fits.0, small_is len fits.1) refl
+what_is_back script c (whats.Claim victim page frame need) has fits =
     rw (small_is victim fits.0, small_is page fits.1, small_is frame fits.2, need_is_back need fits.3) refl
-what_is_back plan c (whats.UseHeld page frame want) has fits =
+what_is_back script c (whats.UseHeld page frame want) has fits =
     rw (
       small_is page fits.0,
       small_is frame fits.1,
@@ -211,24 +211,24 @@ what_is_back plan c (whats.UseHeld page frame want) has fits =
       small_is want.cap fits.2.2,
       flag_again want.wired,
     ) refl
-what_is_back plan c (whats.DropHeld frame) has fits = rw (small_is frame fits) refl
-what_is_back plan c (whats.Got frame) has fits = rw (small_is frame fits) refl
-what_is_back plan c (whats.Unclaim frame) has fits = rw (small_is frame fits) refl
-what_is_back plan c (whats.Refused wired claimed held) has fits =
+what_is_back script c (whats.DropHeld frame) has fits = rw (small_is frame fits) refl
+what_is_back script c (whats.Got frame) has fits = rw (small_is frame fits) refl
+what_is_back script c (whats.Unclaim frame) has fits = rw (small_is frame fits) refl
+what_is_back script c (whats.Refused wired claimed held) has fits =
     rw (small_is wired fits.0, small_is claimed fits.1, small_is held fits.2) refl
-what_is_back plan c (whats.Pin a len wired) has fits = rw (small_is a fits.0, small_is len fits.1, flag_again wired) refl
-what_is_back plan c (whats.Kept a len page frame) has fits =
+what_is_back script c (whats.Pin a len wired) has fits = rw (small_is a fits.0, small_is len fits.1, flag_again wired) refl
+what_is_back script c (whats.Kept a len page frame) has fits =
     rw (small_is a fits.0, small_is len fits.1, small_is page fits.2, small_is frame fits.3) refl
-what_is_back plan c (whats.Rest short) has fits = rw (flag_again short) refl
+what_is_back script c (whats.Rest short) has fits = rw (flag_again short) refl
 
-one_what : (plan : Plan) (c : ℕ) (a b : What) → HasText plan → FitsWhat plan c a → FitsWhat plan c b → what_words a ≡ what_words b → a ≡ b
-one_what plan c a b has fits also same =
+one_what : (script : Script) (c : ℕ) (a b : What) → HasText script → FitsWhat script c a → FitsWhat script c b → what_words a ≡ what_words b → a ≡ b
+one_what script c a b has fits also same =
     let name : name_of_what a ≡ name_of_what b =
     one_name (name_of_what a) (name_of_what b) (sym (begins a) ∙ ap first same ∙ begins b) in
-    sym (what_is_back plan c a has fits)
-    ∙ ap (λ k. what_back plan c k (others (what_words a))) name
-    ∙ ap (λ words. what_back plan c (name_of_what b) (others words)) same
-    ∙ what_is_back plan c b has also
+    sym (what_is_back script c a has fits)
+    ∙ ap (λ k. what_back script c k (others (what_words a))) name
+    ∙ ap (λ words. what_back script c (name_of_what b) (others words)) same
+    ∙ what_is_back script c b has also
 
 -- ---- parts
 
@@ -252,46 +252,46 @@ one_part spaces (Some s) (Some t) false false few is also same =
 
 -- ---- entries
 
-one_entry : (plan : Plan) (n m : ℕ) (a b : Entry) → HasText plan → IsEntryOf plan a → IsEntryOf plan b → entry_words n a ≡ entry_words m b → a ≡ b
-one_entry plan n m a b has is also same =
-    let few = actors_few plan has in
+one_entry : (script : Script) (n m : ℕ) (a b : Entry) → HasText script → IsEntryOf script a → IsEntryOf script b → entry_words n a ≡ entry_words m b → a ≡ b
+one_entry script n m a b has is also same =
+    let few = actors_few script has in
     let words : decimal a.processor ≡ decimal b.processor = cc in
     let parts : part_word a.space a.frames ≡ part_word b.space b.frames = cc in
     let whats_are : what_words a.what ≡ what_words b.what = cc in
     let processor : a.processor ≡ b.processor = one_number (decimal a.processor) a.processor b.processor (omega (arith, few, is.processor))
     (omega (arith, few, also.processor)) refl words in
-    let part = one_part plan.spaces a.space b.space a.frames b.frames (omega (arith, has.spaces_in)) is.part also.part parts in
-    let what : a.what ≡ b.what = one_what plan a.processor a.what b.what has is.what
-    (subst (λ c. FitsWhat plan c b.what) (sym processor) also.what) whats_are in
+    let part = one_part script.spaces a.space b.space a.frames b.frames (omega (arith, has.spaces_in)) is.part also.part parts in
+    let what : a.what ≡ b.what = one_what script a.processor a.what b.what has is.what
+    (subst (λ c. FitsWhat script c b.what) (sym processor) also.what) whats_are in
     λ i. record { processor = processor i; space = part.0 i; frames = part.1 i; what = what i }
 
-one_line : (plan : Plan) (n m : ℕ) (a b : Entry) → HasText plan → IsEntryOf plan a → IsEntryOf plan b → entry_line n a ≡ entry_line m b → a ≡ b
-one_line plan n m a b has is also same =
-    one_entry plan n m a b has is also (sym (entry_words_again n a) ∙ ap words_of same ∙ entry_words_again m b)
+one_line : (script : Script) (n m : ℕ) (a b : Entry) → HasText script → IsEntryOf script a → IsEntryOf script b → entry_line n a ≡ entry_line m b → a ≡ b
+one_line script n m a b has is also same =
+    one_entry script n m a b has is also (sym (entry_words_again n a) ∙ ap words_of same ∙ entry_words_again m b)
 
 -- the first line of some, and those behind it
 abbrev top : List (List ℕ) → List ℕ
 top lines = get_or lines 0 []
 
-same_entries : (plan : Plan) (n : ℕ) (es fs : List Entry) → HasText plan → AllByRecursion (IsEntryOf plan) es → AllByRecursion (IsEntryOf plan) fs
+same_entries : (script : Script) (n : ℕ) (es fs : List Entry) → HasText script → AllByRecursion (IsEntryOf script) es → AllByRecursion (IsEntryOf script) fs
     → lines_of (entries_text n es) ≡ lines_of (entries_text n fs) → es ≡ fs
-same_entries plan n [] [] has are also same = refl
-same_entries plan n [] (b ∷ fs) has are also same =
+same_entries script n [] [] has are also same = refl
+same_entries script n [] (b ∷ fs) has are also same =
     let line : codes "end" ≡ entry_line n b = ap top (sym (no_entry n) ∙ same ∙ entry_again n b fs) in
     absurd (false≢true (sym (entry_is_not_end n b) ∙ ap (λ l. bytes_eq l (codes "end")) (sym line)))
-same_entries plan n (a ∷ es) [] has are also same =
+same_entries script n (a ∷ es) [] has are also same =
     let line : codes "end" ≡ entry_line n a = ap top (sym (no_entry n) ∙ sym same ∙ entry_again n a es) in
     absurd (false≢true (sym (entry_is_not_end n a) ∙ ap (λ l. bytes_eq l (codes "end")) (sym line)))
-same_entries plan n (a ∷ es) (b ∷ fs) has are also same =
+same_entries script n (a ∷ es) (b ∷ fs) has are also same =
     let lines = sym (entry_again n a es) ∙ same ∙ entry_again n b fs in
-    let one : a ≡ b = one_line plan n n a b has are.0 also.0 (ap top lines) in
-    let more : es ≡ fs = same_entries plan (suc n) es fs has are.1 also.1 (ap (drop 1) lines) in
+    let one : a ≡ b = one_line script n n a b has are.0 also.0 (ap top lines) in
+    let more : es ≡ fs = same_entries script (suc n) es fs has are.1 also.1 (ap (drop 1) lines) in
     λ i. one i ∷ more i
 
-pub one_history : (plan : Plan) (text : List ℕ) (a b : List Numbered) → HasText plan → IsHistoryText plan text a → IsHistoryText plan text b → a ≡ b
-one_history plan text a b has is also =
+pub one_history : (script : Script) (text : List ℕ) (a b : List Numbered) → HasText script → IsHistoryText script text a → IsHistoryText script text b → a ≡ b
+one_history script text a b has is also =
     let entries : entries_in a ≡ entries_in b =
-    same_entries plan 0 (entries_in a) (entries_in b) has (recursion_from_All _ (entries_in a) is.0.entries)
+    same_entries script 0 (entries_in a) (entries_in b) has (recursion_from_All _ (entries_in a) is.0.entries)
     (recursion_from_All _ (entries_in b) also.0.entries)
-    (ap lines_of (sym (text_is plan text a is) ∙ text_is plan text b also)) in
+    (ap lines_of (sym (text_is script text a is) ∙ text_is script text b also)) in
     is.0.numbered ∙ ap (placed_from 0) entries ∙ sym also.0.numbered

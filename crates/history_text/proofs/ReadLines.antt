@@ -13,7 +13,7 @@ use Rattle.run_history.specs.Kept.{placed_from}
 use Rattle.pager_model.specs.declared.entry.Entry.{Entry}
 use Rattle.pager_model.specs.declared.entry.Numbered.{Numbered}
 use Rattle.pager_model.specs.Legal.{entries_in}
-use Rattle.pager_model.specs.Plans.{Plan}
+use Rattle.pager_model.specs.Scripts.{Script}
 use Rattle.pager_model.specs.PrintedText.{history_line, history_text}
 use Rattle.pager_model.specs.TraceText.{line_of_words}
 use Rattle.trace_lines.specs.Words.{words_of}
@@ -37,13 +37,13 @@ placed-push n (x ∷ es) e =
     ap (λ rest. record { number = n; entry = x } ∷ rest)
     (placed-push (suc n) es e ∙ ap (λ k. placed_from (suc n) es ++ record { number = k; entry = e } ∷ []) (omega arith))
 
-pub no_entries : (plan : Plan) → IsHistoryOf plan []
+pub no_entries : (script : Script) → IsHistoryOf script []
 unfolding placed_from
-no_entries plan = record { numbered = refl; entries = All-nil (IsEntryOf plan) }
+no_entries script = record { numbered = refl; entries = All-nil (IsEntryOf script) }
 
-one_more : (plan : Plan) (history : List Numbered) (e : Entry) → IsHistoryOf plan history → IsEntryOf plan e
-    → IsHistoryOf plan (history ++ record { number = length history; entry = e } ∷ [])
-one_more plan history e so_far is =
+one_more : (script : Script) (history : List Numbered) (e : Entry) → IsHistoryOf script history → IsEntryOf script e
+    → IsHistoryOf script (history ++ record { number = length history; entry = e } ∷ [])
+one_more script history e so_far is =
     let last : Numbered = record { number = length history; entry = e } in
     let entries : entries_in (history ++ last ∷ []) ≡ entries_in history ++ e ∷ [] = map_push (λ (n : Numbered). n.entry) history last in
     let many : length (entries_in history) ≡ length history = length-map history (λ (n : Numbered). n.entry) in
@@ -53,7 +53,7 @@ one_more plan history e so_far is =
           ∙ ap (λ k. placed_from 0 (entries_in history) ++ record { number = k; entry = e } ∷ []) (omega (arith, many))
           ∙ sym (placed-push 0 (entries_in history) e)
           ∙ ap (placed_from 0) (sym entries);
-      entries = subst (All (IsEntryOf plan)) (sym entries) (All-push (IsEntryOf plan) (entries_in history) e so_far.entries is);
+      entries = subst (All (IsEntryOf script)) (sym entries) (All-push (IsEntryOf script) (entries_in history) e so_far.entries is);
     }
 
 -- ---- the text so far
@@ -75,27 +75,27 @@ parts_more bytes rest line after history e so_far cut words =
 -- ---- what the next line decides
 
 -- no line is left
-pub no_line : (plan : Plan) (n : ℕ) (rest : List ℕ) → lines_of rest ≡ rest ∷ [] → RefusedFrom plan n (lines_of rest) NoEnd
-no_line plan n rest last = rw last refl
+pub no_line : (script : Script) (n : ℕ) (rest : List ℕ) → lines_of rest ≡ rest ∷ [] → RefusedFrom script n (lines_of rest) NoEnd
+no_line script n rest last = rw last refl
 
-pub at_end : (plan : Plan) (n : ℕ) (rest line after : List ℕ) (fault : HistoryFault) → lines_of rest ≡ line ∷ lines_of after
-    → bytes_eq line (codes "end") ≡ true → RefusedAtEnd (n + 1) (lines_of after) fault → RefusedFrom plan n (lines_of rest) fault
-at_end plan n rest line after fault first same refused =
+pub at_end : (script : Script) (n : ℕ) (rest line after : List ℕ) (fault : HistoryFault) → lines_of rest ≡ line ∷ lines_of after
+    → bytes_eq line (codes "end") ≡ true → RefusedAtEnd (n + 1) (lines_of after) fault → RefusedFrom script n (lines_of rest) fault
+at_end script n rest line after fault first same refused =
     let p = some_piece 10 after in
     rw (first, p.2) (inl (same, subst (λ ls. RefusedAtEnd (n + 1) ls fault) p.2 refused))
 
-bad_line : (plan : Plan) (n : ℕ) (rest line after : List ℕ) → lines_of rest ≡ line ∷ lines_of after → bytes_eq line (codes "end") ≡ false
-    → (MayStand plan n line → ⊥) → RefusedFrom plan n (lines_of rest) (Line (n + 1))
-bad_line plan n rest line after first other never =
+bad_line : (script : Script) (n : ℕ) (rest line after : List ℕ) → lines_of rest ≡ line ∷ lines_of after → bytes_eq line (codes "end") ≡ false
+    → (MayStand script n line → ⊥) → RefusedFrom script n (lines_of rest) (Line (n + 1))
+bad_line script n rest line after first other never =
     let p = some_piece 10 after in
     rw (first, p.2) (inr (inl (other, never, refl)))
 
-good_line : (plan : Plan) (n : ℕ) (rest line after : List ℕ) (fault : HistoryFault) → lines_of rest ≡ line ∷ lines_of after
-    → bytes_eq line (codes "end") ≡ false → MayStand plan n line → RefusedFrom plan (n + 1) (lines_of after) fault
-    → RefusedFrom plan n (lines_of rest) fault
-good_line plan n rest line after fault first other may refused =
+good_line : (script : Script) (n : ℕ) (rest line after : List ℕ) (fault : HistoryFault) → lines_of rest ≡ line ∷ lines_of after
+    → bytes_eq line (codes "end") ≡ false → MayStand script n line → RefusedFrom script (n + 1) (lines_of after) fault
+    → RefusedFrom script n (lines_of rest) fault
+good_line script n rest line after fault first other may refused =
     let p = some_piece 10 after in
-    rw (first, p.2) (inr (inr (other, may, subst (λ ls. RefusedFrom plan (n + 1) ls fault) p.2 refused)))
+    rw (first, p.2) (inr (inr (other, may, subst (λ ls. RefusedFrom script (n + 1) ls fault) p.2 refused)))
 
 -- behind the line `end` something stands
 something : (number : ℕ) (text first : List ℕ) (others : List (List ℕ)) → lines_of text ≡ first ∷ others → text ≢ []
@@ -112,57 +112,57 @@ behind_end number text some =
 -- ---- the reader's loop
 
 -- what is known before a line
-pub record ReadSoFar (plan : Plan) (bytes : List ℕ) (history : List Numbered) (rest : List ℕ) : Type 0 where
-  pub history_is : IsHistoryOf plan history
+pub record ReadSoFar (script : Script) (bytes : List ℕ) (history : List Numbered) (rest : List ℕ) : Type 0 where
+  pub history_is : IsHistoryOf script history
   pub parts : bytes ≡ history_text history ++ rest
-  pub refusal : (fault : HistoryFault) → RefusedFrom plan (length history) (lines_of rest) fault → RefusedFrom plan 0 (lines_of bytes) fault
+  pub refusal : (fault : HistoryFault) → RefusedFrom script (length history) (lines_of rest) fault → RefusedFrom script 0 (lines_of bytes) fault
 
-pub nothing_read : (plan : Plan) (bytes : List ℕ) (history : List Numbered) → history ≡ [] → ReadSoFar plan bytes history bytes
-nothing_read plan bytes history none = rw none (record { history_is = no_entries plan; parts = refl; refusal = λ fault refused. refused })
+pub nothing_read : (script : Script) (bytes : List ℕ) (history : List Numbered) → history ≡ [] → ReadSoFar script bytes history bytes
+nothing_read script bytes history none = rw none (record { history_is = no_entries script; parts = refl; refusal = λ fault refused. refused })
 
-pub read_on : (plan : Plan) (bytes : List ℕ) (before after : List Numbered) (rest line behind : List ℕ) → ReadSoFar plan bytes before rest
+pub read_on : (script : Script) (bytes : List ℕ) (before after : List Numbered) (rest line behind : List ℕ) → ReadSoFar script bytes before rest
     → rest ≡ line ++ 10 ∷ behind → lines_of rest ≡ line ∷ lines_of behind → bytes_eq line (codes "end") ≡ false
-    → Keeps plan before line after → ReadSoFar plan bytes after behind
-read_on plan bytes before after rest line behind so_far cut first other keeps =
+    → Keeps script before line after → ReadSoFar script bytes after behind
+read_on script bytes before after rest line behind so_far cut first other keeps =
     let many : length after ≡ length before + 1 =
     ap length keeps.kept ∙ length-append before _ in
     record {
-      history_is = subst (IsHistoryOf plan) (sym keeps.kept) (one_more plan before keeps.entry so_far.history_is keeps.is);
+      history_is = subst (IsHistoryOf script) (sym keeps.kept) (one_more script before keeps.entry so_far.history_is keeps.is);
       parts = subst (λ (l : List Numbered). bytes ≡ history_text l ++ behind) (sym keeps.kept)
           (parts_more bytes rest line behind before keeps.entry so_far.parts cut keeps.words);
       refusal = λ fault refused. so_far.refusal fault
-          (good_line plan (length before) rest line behind fault first other
+          (good_line script (length before) rest line behind fault first other
           (record { entry = keeps.entry; is = keeps.is; words = keeps.words })
-          (subst (λ (n : ℕ). RefusedFrom plan n (lines_of behind) fault) many refused));
+          (subst (λ (n : ℕ). RefusedFrom script n (lines_of behind) fault) many refused));
     }
 
 -- a line that isn't kept
-pub refused_there : (plan : Plan) (bytes : List ℕ) (history : List Numbered) (rest line behind : List ℕ) (fault : HistoryFault)
-    → ReadSoFar plan bytes history rest → lines_of rest ≡ line ∷ lines_of behind → bytes_eq line (codes "end") ≡ false
-    → IsLineCause plan (length history) line fault → IsCause plan bytes fault
-refused_there plan bytes history rest line behind NoMemory so_far first other cause = tt
-refused_there plan bytes history rest line behind NoEnd so_far first other cause = so_far.refusal NoEnd
-    (subst (RefusedFrom plan (length history) (lines_of rest)) (sym cause.0) (bad_line plan (length history) rest line behind first other cause.1))
-refused_there plan bytes history rest line behind (Line number) so_far first other cause = so_far.refusal (Line number)
-    (subst (RefusedFrom plan (length history) (lines_of rest)) (sym cause.0) (bad_line plan (length history) rest line behind first other cause.1))
+pub refused_there : (script : Script) (bytes : List ℕ) (history : List Numbered) (rest line behind : List ℕ) (fault : HistoryFault)
+    → ReadSoFar script bytes history rest → lines_of rest ≡ line ∷ lines_of behind → bytes_eq line (codes "end") ≡ false
+    → IsLineCause script (length history) line fault → IsCause script bytes fault
+refused_there script bytes history rest line behind NoMemory so_far first other cause = tt
+refused_there script bytes history rest line behind NoEnd so_far first other cause = so_far.refusal NoEnd
+    (subst (RefusedFrom script (length history) (lines_of rest)) (sym cause.0) (bad_line script (length history) rest line behind first other cause.1))
+refused_there script bytes history rest line behind (Line number) so_far first other cause = so_far.refusal (Line number)
+    (subst (RefusedFrom script (length history) (lines_of rest)) (sym cause.0) (bad_line script (length history) rest line behind first other cause.1))
 
 -- nothing but the line `end` is left
-pub whole_text : (plan : Plan) (bytes : List ℕ) (history : List Numbered) (rest line behind : List ℕ) → ReadSoFar plan bytes history rest
-    → rest ≡ line ++ 10 ∷ behind → bytes_eq line (codes "end") ≡ true → behind ≡ [] → IsHistoryText plan bytes history
-whole_text plan bytes history rest line behind so_far cut same none =
+pub whole_text : (script : Script) (bytes : List ℕ) (history : List Numbered) (rest line behind : List ℕ) → ReadSoFar script bytes history rest
+    → rest ≡ line ++ 10 ∷ behind → bytes_eq line (codes "end") ≡ true → behind ≡ [] → IsHistoryText script bytes history
+whole_text script bytes history rest line behind so_far cut same none =
     let is_end : line ≡ codes "end" = (bytes_eq-Decides line (codes "end")).0 same in
     let left : rest ≡ codes "end\n" = cut ∙ ap (λ (x : List ℕ). x ++ 10 ∷ behind) is_end ∙ ap (λ (x : List ℕ). codes "end" ++ 10 ∷ x) none in
     (so_far.history_is, so_far.parts ∙ ap (λ (x : List ℕ). history_text history ++ x) left)
 
 -- the last line is `end`, and behind it something stands
-pub refused_behind : (plan : Plan) (bytes : List ℕ) (history : List Numbered) (rest line behind : List ℕ) (fault : HistoryFault)
-    → ReadSoFar plan bytes history rest → lines_of rest ≡ line ∷ lines_of behind → bytes_eq line (codes "end") ≡ true
-    → RefusedAtEnd (length history + 1) (lines_of behind) fault → IsCause plan bytes fault
-refused_behind plan bytes history rest line behind NoMemory so_far first same refused = tt
-refused_behind plan bytes history rest line behind NoEnd so_far first same refused =
-    so_far.refusal NoEnd (at_end plan (length history) rest line behind NoEnd first same refused)
-refused_behind plan bytes history rest line behind (Line number) so_far first same refused =
-    so_far.refusal (Line number) (at_end plan (length history) rest line behind (Line number) first same refused)
+pub refused_behind : (script : Script) (bytes : List ℕ) (history : List Numbered) (rest line behind : List ℕ) (fault : HistoryFault)
+    → ReadSoFar script bytes history rest → lines_of rest ≡ line ∷ lines_of behind → bytes_eq line (codes "end") ≡ true
+    → RefusedAtEnd (length history + 1) (lines_of behind) fault → IsCause script bytes fault
+refused_behind script bytes history rest line behind NoMemory so_far first same refused = tt
+refused_behind script bytes history rest line behind NoEnd so_far first same refused =
+    so_far.refusal NoEnd (at_end script (length history) rest line behind NoEnd first same refused)
+refused_behind script bytes history rest line behind (Line number) so_far first same refused =
+    so_far.refusal (Line number) (at_end script (length history) rest line behind (Line number) first same refused)
 
 -- ---- as many entries as bytes at most
 
@@ -175,8 +175,8 @@ few_lines (n ∷ history) =
     let whole = ap length (flat_map-cons history_line n history) ∙ length-append (history_line n) (history_text history) in
     omega (arith, whole, few_lines history, line_is_some n)
 
-pub few_entries : (plan : Plan) (bytes : List ℕ) (history : List Numbered) → IsHistoryText plan bytes history → length history ≤ length bytes
-few_entries plan bytes history is =
+pub few_entries : (script : Script) (bytes : List ℕ) (history : List Numbered) → IsHistoryText script bytes history → length history ≤ length bytes
+few_entries script bytes history is =
     let whole = ap length is.1 ∙ length-append (history_text history) (line_of_words (codes "end" ∷ [])) in
     omega (arith, whole, few_lines history)
 

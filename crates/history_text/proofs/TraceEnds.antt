@@ -8,7 +8,7 @@ use Rattle.std.proofs.lemmas.List.Elements.{recursion_from_All}
 use Rattle.std.proofs.lemmas.Slice.Eq.{bytes_eq-Decides}
 use Rattle.pager_model.specs.declared.call.Line.{Line}
 use Rattle.pager_model.specs.declared.trace.Daemon.{Daemon}
-use Rattle.pager_model.specs.Plans.{Plan}
+use Rattle.pager_model.specs.Scripts.{Script}
 use Rattle.pager_model.specs.TraceText.{HasText, IsDaemon, IsLine, call_line, daemon_words, first_words, line_of_words, line_words, sizes_word, text_of}
 use Rattle.trace_lines.specs.Words.{words_of}
 use Rattle.trace_reader.specs.Refusals.{lines_of}
@@ -67,17 +67,17 @@ behind_end version processors spaces (Some d) calls more some few is are =
     (calls_end version processors spaces calls more some few are)
     ∙ ap Some (sym long)
 
-pub trace_ends : (plan : Plan) (more : List ℕ) → HasText plan → end_in (lines_of (text_of plan ++ more)) ≡ Some (length (text_of plan))
-trace_ends plan more has =
-    let words = first_words plan.version plan.frames plan.processors plan.spaces plan.sizes in
-    let behind = behind_text plan.daemon plan.calls in
-    let whole = text_is plan in
+pub trace_ends : (script : Script) (more : List ℕ) → HasText script → end_in (lines_of (text_of script ++ more)) ≡ Some (length (text_of script))
+trace_ends script more has =
+    let words = first_words script.version script.frames script.processors script.spaces script.sizes in
+    let behind = behind_text script.daemon script.calls in
+    let whole = text_is script in
     let long = ap length whole ∙ length-append (line_of_words words) behind in
     ap (λ (x : List ℕ). end_in (lines_of (x ++ more))) whole
     ∙ ap (λ (x : List ℕ). end_in (lines_of x)) (append_assoc (line_of_words words) behind more)
-    ∙ passed words (behind ++ more) (length behind) (first_words_are plan has)
-    (not_end (codes "trace") (decimal plan.version) (decimal plan.frames ∷ decimal plan.processors ∷ decimal plan.spaces ∷
-    (if plan.version == 1 then [] else sizes_word plan.sizes ∷ [])) (first_words_are plan has))
-    (behind_end plan.version plan.processors plan.spaces plan.daemon plan.calls more (omega (arith, has.processors_in))
-    (omega (arith, has.spaces_in)) has.daemon_in (recursion_from_All _ plan.calls has.lines))
+    ∙ passed words (behind ++ more) (length behind) (first_words_are script has)
+    (not_end (codes "trace") (decimal script.version) (decimal script.frames ∷ decimal script.processors ∷ decimal script.spaces ∷
+    (if script.version == 1 then [] else sizes_word script.sizes ∷ [])) (first_words_are script has))
+    (behind_end script.version script.processors script.spaces script.daemon script.calls more (omega (arith, has.processors_in))
+    (omega (arith, has.spaces_in)) has.daemon_in (recursion_from_All _ script.calls has.lines))
     ∙ ap Some (sym long)

@@ -5,7 +5,7 @@ use Rattle.pager_model.specs.declared.entry.Want.{Want}
 use Rattle.pager_model.specs.declared.entry.What.{What}
 use Rattle.pager_model.specs.declared.entry.What.TheVariants as whats
 use Rattle.pager_model.specs.declared.reply.Answered.{Answered}
-use Rattle.pager_model.specs.Plans.{Plan}
+use Rattle.pager_model.specs.Scripts.{Script}
 use Rattle.pager_model.specs.PrintedText.{answered_words, flag_word, need_words, want_words, writing_word, written_word}
 use Rattle.history_text.specs.declared.name.Name.{Name}
 use Rattle.history_text.specs.declared.name.Name.TheVariants.{Answer, Out, Failed, Take, Give, Clear, Claim, UseHeld, Drop, Got, Unclaim, Refused, Pin, Kept, Rest}
@@ -46,30 +46,30 @@ name_of_what (whats.Kept first len page frame) = Kept
 name_of_what (whats.Rest short) = Rest
 
 -- no numbers of a kind have these words
-abbrev pub NoneHas : Plan → ℕ → List (List ℕ) → Name → Type 0
-NoneHas plan c words Answer =
+abbrev pub NoneHas : Script → ℕ → List (List ℕ) → Name → Type 0
+NoneHas script c words Answer =
     (number : ℕ) (answered : Answered) → FitsReply answered.reply → FitsSize answered.hit answered.size
-    → call_at plan c number ≢ None → words ≢ decimal number ∷ answered_words answered
-NoneHas plan c words Out = (page : ℕ) (written : Bool) → IsSmall page → words ≢ decimal page ∷ written_word written ∷ []
-NoneHas plan c words Failed =
+    → call_at script c number ≢ None → words ≢ decimal number ∷ answered_words answered
+NoneHas script c words Out = (page : ℕ) (written : Bool) → IsSmall page → words ≢ decimal page ∷ written_word written ∷ []
+NoneHas script c words Failed =
     (page : ℕ) (writing : Bool) (count : ℕ) → IsSmall page → IsLarge count → words ≢ decimal page ∷ writing_word writing ∷ decimal count ∷ []
-NoneHas plan c words Take =
+NoneHas script c words Take =
     (page frame : ℕ) (want : Want) → IsSmall page → IsSmall frame → FitsWant want → words ≢ decimal page ∷ decimal frame ∷ want_words want
-NoneHas plan c words Give = (page frame : ℕ) → IsSmall page → IsSmall frame → words ≢ decimal page ∷ decimal frame ∷ []
-NoneHas plan c words Clear = (first len : ℕ) → IsSmall first → IsSmall len → words ≢ decimal first ∷ decimal len ∷ []
-NoneHas plan c words Claim =
+NoneHas script c words Give = (page frame : ℕ) → IsSmall page → IsSmall frame → words ≢ decimal page ∷ decimal frame ∷ []
+NoneHas script c words Clear = (first len : ℕ) → IsSmall first → IsSmall len → words ≢ decimal first ∷ decimal len ∷ []
+NoneHas script c words Claim =
     (victim page frame : ℕ) (need : Option Need) → IsSmall victim → IsSmall page → IsSmall frame → FitsNeed need
     → words ≢ decimal victim ∷ decimal page ∷ decimal frame ∷ need_words need
-NoneHas plan c words UseHeld =
+NoneHas script c words UseHeld =
     (page frame : ℕ) (want : Want) → IsSmall page → IsSmall frame → FitsWant want → words ≢ decimal page ∷ decimal frame ∷ want_words want
-NoneHas plan c words Drop = (frame : ℕ) → IsSmall frame → words ≢ decimal frame ∷ []
-NoneHas plan c words Got = (frame : ℕ) → IsSmall frame → words ≢ decimal frame ∷ []
-NoneHas plan c words Unclaim = (frame : ℕ) → IsSmall frame → words ≢ decimal frame ∷ []
-NoneHas plan c words Refused =
+NoneHas script c words Drop = (frame : ℕ) → IsSmall frame → words ≢ decimal frame ∷ []
+NoneHas script c words Got = (frame : ℕ) → IsSmall frame → words ≢ decimal frame ∷ []
+NoneHas script c words Unclaim = (frame : ℕ) → IsSmall frame → words ≢ decimal frame ∷ []
+NoneHas script c words Refused =
     (wired claimed held : ℕ) → IsSmall wired → IsSmall claimed → IsSmall held → words ≢ decimal wired ∷ decimal claimed ∷ decimal held ∷ []
-NoneHas plan c words Pin =
+NoneHas script c words Pin =
     (first len : ℕ) (wired : Bool) → IsSmall first → IsSmall len → words ≢ decimal first ∷ decimal len ∷ flag_word wired ∷ []
-NoneHas plan c words Kept =
+NoneHas script c words Kept =
     (first len page frame : ℕ) → IsSmall first → IsSmall len → IsSmall page → IsSmall frame
     → words ≢ decimal first ∷ decimal len ∷ decimal page ∷ decimal frame ∷ []
-NoneHas plan c words Rest = (short : Bool) → words ≢ flag_word short ∷ []
+NoneHas script c words Rest = (short : Bool) → words ≢ flag_word short ∷ []

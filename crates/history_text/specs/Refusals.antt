@@ -3,7 +3,7 @@ use Rattle.std.specs.Prelude.{ℕ, ◌≡◌, ◌+◌, true, false, ◌⊎◌, L
 use Rattle.std.specs.Str.{bytes_eq}
 use Rattle.pager_model.specs.declared.entry.Entry.{Entry}
 use Rattle.pager_model.specs.declared.entry.Numbered.{Numbered}
-use Rattle.pager_model.specs.Plans.{Plan}
+use Rattle.pager_model.specs.Scripts.{Script}
 use Rattle.trace_lines.specs.Words.{words_of}
 use Rattle.trace_reader.specs.Refusals.{lines_of}
 use Rattle.history_text.specs.declared.fault.HistoryFault.{HistoryFault}
@@ -11,9 +11,9 @@ use Rattle.history_text.specs.declared.fault.HistoryFault.TheVariants.{Line, NoE
 use Rattle.history_text.specs.HistoryText.{IsEntryOf, entry_words}
 
 -- the line may stand as that of the entry of this number
-pub record MayStand (plan : Plan) (n : ℕ) (line : List ℕ) : Type 0 where
+pub record MayStand (script : Script) (n : ℕ) (line : List ℕ) : Type 0 where
   pub entry : Entry
-  pub is : IsEntryOf plan entry
+  pub is : IsEntryOf script entry
   pub words : words_of line ≡ entry_words n entry
 
 -- behind the line `end`, which has this number from 1, nothing may stand
@@ -22,21 +22,21 @@ RefusedAtEnd number ([] ∷ []) fault = ⊥
 RefusedAtEnd number lines fault = fault ≡ Line (number + 1)
 
 -- from the line of the entry of this number on; what stands behind the last line feed is no line
-abbrev pub RefusedFrom : Plan → ℕ → List (List ℕ) → HistoryFault → Type 0
-RefusedFrom plan n (line ∷ next ∷ lines) fault =
+abbrev pub RefusedFrom : Script → ℕ → List (List ℕ) → HistoryFault → Type 0
+RefusedFrom script n (line ∷ next ∷ lines) fault =
     ((bytes_eq line (codes "end") ≡ true) × RefusedAtEnd (n + 1) (next ∷ lines) fault)
-    ⊎ ((bytes_eq line (codes "end") ≡ false) × (MayStand plan n line → ⊥) × (fault ≡ Line (n + 1)))
-    ⊎ ((bytes_eq line (codes "end") ≡ false) × MayStand plan n line × RefusedFrom plan (n + 1) (next ∷ lines) fault)
-RefusedFrom plan n lines fault = fault ≡ NoEnd
+    ⊎ ((bytes_eq line (codes "end") ≡ false) × (MayStand script n line → ⊥) × (fault ≡ Line (n + 1)))
+    ⊎ ((bytes_eq line (codes "end") ≡ false) × MayStand script n line × RefusedFrom script (n + 1) (next ∷ lines) fault)
+RefusedFrom script n lines fault = fault ≡ NoEnd
 
 -- the text is refused so
-abbrev pub IsRefused : Plan → List ℕ → HistoryFault → Type 0
-IsRefused plan bytes fault = RefusedFrom plan 0 (lines_of bytes) fault
+abbrev pub IsRefused : Script → List ℕ → HistoryFault → Type 0
+IsRefused script bytes fault = RefusedFrom script 0 (lines_of bytes) fault
 
 -- what a reader's fault says of the text: a refusal is the text's own. Want of memory says nothing of it.
-abbrev pub IsCause : Plan → List ℕ → HistoryFault → Type 0
-IsCause plan bytes NoMemory = Unit {0}
-IsCause plan bytes fault = IsRefused plan bytes fault
+abbrev pub IsCause : Script → List ℕ → HistoryFault → Type 0
+IsCause script bytes NoMemory = Unit {0}
+IsCause script bytes fault = IsRefused script bytes fault
 
 -- how many bytes the lines have up to and with the first line `end`
 abbrev pub end_in : List (List ℕ) → Option ℕ
@@ -45,13 +45,13 @@ end_in (line ∷ next ∷ lines) =
 end_in lines = None
 
 -- what such a fault says of the line of the entry of this number, where those before it stand
-abbrev pub IsLineCause : Plan → ℕ → List ℕ → HistoryFault → Type 0
-IsLineCause plan n line NoMemory = Unit {0}
-IsLineCause plan n line fault = (fault ≡ Line (n + 1)) × (MayStand plan n line → ⊥)
+abbrev pub IsLineCause : Script → ℕ → List ℕ → HistoryFault → Type 0
+IsLineCause script n line NoMemory = Unit {0}
+IsLineCause script n line fault = (fault ≡ Line (n + 1)) × (MayStand script n line → ⊥)
 
 -- behind these entries the line's own is kept, with its number
-pub record Keeps (plan : Plan) (before : List Numbered) (line : List ℕ) (after : List Numbered) : Type 0 where
+pub record Keeps (script : Script) (before : List Numbered) (line : List ℕ) (after : List Numbered) : Type 0 where
   pub entry : Entry
-  pub is : IsEntryOf plan entry
+  pub is : IsEntryOf script entry
   pub words : words_of line ≡ entry_words (length before) entry
   pub kept : after ≡ before ++ record { number = length before; entry = entry } ∷ []

@@ -38,25 +38,25 @@ fn answered(words: &[&[u8]]) -> Option<Answered>
     ensures none { IfNone result ((a : Told) → FitsReply a.reply → FitsSize a.hit a.size → seen words.now ≢ answered_words a) }
 {
     let (reply, others) = reply(words)?;
-    let Found { hit, size } = found_by(others)?;
+    let Translated { hit, size } = translated_by(others)?;
     Some(Answered { reply, hit, size })
 }
 
 /// What an access found in its processor's translations: whether it hit, and the size, where there is one.
 #[derive(Clone, Copy)]
-struct Found {
+struct Translated {
     hit: bool,
     size: Option<Size>,
 }
 
 /// What these words say that an access found.
-fn found_by(words: &[&[u8]]) -> Option<Found>
+fn translated_by(words: &[&[u8]]) -> Option<Translated>
     ensures some { IfSome result (λ f. seen words.now ≡ size_words f.hit f.size) }
     ensures fits { IfSome result (λ f. FitsSize f.hit f.size) }
     ensures none { IfNone result ((hit : Bool) (size : Option ℕ) → FitsSize hit size → seen words.now ≢ size_words hit size) }
 {
     match words {
-        [] => Some(Found {
+        [] => Some(Translated {
             hit: false,
             size: None,
         }),
@@ -64,7 +64,7 @@ fn found_by(words: &[&[u8]]) -> Option<Found>
             let hit = hit(word)?;
             let level = below(level, 4)?;
             let size = Size::at_level(level as u8);
-            Some(Found {
+            Some(Translated {
                 hit,
                 size: Some(size),
             })

@@ -23,10 +23,10 @@ pub struct TraceCalls<'a> {
 }
 
 impl<'a> Model for TraceCalls<'a> {
-    ghost use Rattle.pager_model.specs.Plans.{Plan};
+    ghost use Rattle.pager_model.specs.Scripts.{Script};
     ghost use Rattle.history_text.specs.Calls.{AreDealt};
 
-    ghost Value = { Plan };
+    ghost Value = { Script };
 
     ghost view = { λ t. t.trace.now };
 

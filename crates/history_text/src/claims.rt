@@ -3,7 +3,7 @@
 ghost use Rattle.std.specs.Prelude.{◌≡◌, ◌≢◌, ◌∷◌, [], ℕ, Option, Some, IfSome, IfNone};
 ghost use Rattle.trace_lines.specs.Words.{seen};
 ghost use Rattle.pager_model.specs.declared.entry.Need.{Need as Needed};
-ghost use Rattle.pager_model.specs.Plans.{Plan};
+ghost use Rattle.pager_model.specs.Scripts.{Script};
 ghost use Rattle.pager_model.specs.PrintedText.{need_words, what_words};
 ghost use Rattle.history_text.specs.HistoryText.{FitsNeed, FitsWhat};
 ghost use Rattle.history_text.specs.Lines.{NoneHas, word_of_name};
@@ -16,8 +16,8 @@ use pager_model::{Need, What};
 /// What is said of a page whose frame was claimed.
 pub fn claim(words: &[&[u8]]) -> Option<What>
     ensures some { IfSome result (λ what. word_of_name Name.Claim ∷ seen words.now ≡ what_words what) }
-    ensures fits { IfSome result (λ what. (plan : Plan) (c : ℕ) → FitsWhat plan c what) }
-    ensures none { IfNone result ((plan : Plan) (c : ℕ) → NoneHas plan c (seen words.now) Name.Claim) }
+    ensures fits { IfSome result (λ what. (script : Script) (c : ℕ) → FitsWhat script c what) }
+    ensures none { IfNone result ((script : Script) (c : ℕ) → NoneHas script c (seen words.now) Name.Claim) }
 {
     let [space, page, frame, others @ ..] = words else {
         return None;
@@ -64,8 +64,8 @@ fn needed(word: &[u8], page: &[u8], kind: &[u8]) -> Option<Need>
 /// What is said of a held frame that went free.
 pub fn drop_held(words: &[&[u8]]) -> Option<What>
     ensures some { IfSome result (λ what. word_of_name Name.Drop ∷ seen words.now ≡ what_words what) }
-    ensures fits { IfSome result (λ what. (plan : Plan) (c : ℕ) → FitsWhat plan c what) }
-    ensures none { IfNone result ((plan : Plan) (c : ℕ) → NoneHas plan c (seen words.now) Name.Drop) }
+    ensures fits { IfSome result (λ what. (script : Script) (c : ℕ) → FitsWhat script c what) }
+    ensures none { IfNone result ((script : Script) (c : ℕ) → NoneHas script c (seen words.now) Name.Drop) }
 {
     let frame = one(words)?;
     Some(What::DropHeld { frame })
@@ -74,8 +74,8 @@ pub fn drop_held(words: &[&[u8]]) -> Option<What>
 /// What is said of a claimed frame that was found in hand.
 pub fn got(words: &[&[u8]]) -> Option<What>
     ensures some { IfSome result (λ what. word_of_name Name.Got ∷ seen words.now ≡ what_words what) }
-    ensures fits { IfSome result (λ what. (plan : Plan) (c : ℕ) → FitsWhat plan c what) }
-    ensures none { IfNone result ((plan : Plan) (c : ℕ) → NoneHas plan c (seen words.now) Name.Got) }
+    ensures fits { IfSome result (λ what. (script : Script) (c : ℕ) → FitsWhat script c what) }
+    ensures none { IfNone result ((script : Script) (c : ℕ) → NoneHas script c (seen words.now) Name.Got) }
 {
     let frame = one(words)?;
     Some(What::Got { frame })
@@ -84,8 +84,8 @@ pub fn got(words: &[&[u8]]) -> Option<What>
 /// What is said of a frame that is claimed no longer.
 pub fn unclaim(words: &[&[u8]]) -> Option<What>
     ensures some { IfSome result (λ what. word_of_name Name.Unclaim ∷ seen words.now ≡ what_words what) }
-    ensures fits { IfSome result (λ what. (plan : Plan) (c : ℕ) → FitsWhat plan c what) }
-    ensures none { IfNone result ((plan : Plan) (c : ℕ) → NoneHas plan c (seen words.now) Name.Unclaim) }
+    ensures fits { IfSome result (λ what. (script : Script) (c : ℕ) → FitsWhat script c what) }
+    ensures none { IfNone result ((script : Script) (c : ℕ) → NoneHas script c (seen words.now) Name.Unclaim) }
 {
     let frame = one(words)?;
     Some(What::Unclaim { frame })
@@ -94,8 +94,8 @@ pub fn unclaim(words: &[&[u8]]) -> Option<What>
 /// What is said where no frame could be had.
 pub fn refused(words: &[&[u8]]) -> Option<What>
     ensures some { IfSome result (λ what. word_of_name Name.Refused ∷ seen words.now ≡ what_words what) }
-    ensures fits { IfSome result (λ what. (plan : Plan) (c : ℕ) → FitsWhat plan c what) }
-    ensures none { IfNone result ((plan : Plan) (c : ℕ) → NoneHas plan c (seen words.now) Name.Refused) }
+    ensures fits { IfSome result (λ what. (script : Script) (c : ℕ) → FitsWhat script c what) }
+    ensures none { IfNone result ((script : Script) (c : ℕ) → NoneHas script c (seen words.now) Name.Refused) }
 {
     let [wired, claimed, held] = words else {
         return None;
@@ -111,8 +111,8 @@ pub fn refused(words: &[&[u8]]) -> Option<What>
 /// What is said of a turn's end.
 pub fn rest(words: &[&[u8]]) -> Option<What>
     ensures some { IfSome result (λ what. word_of_name Name.Rest ∷ seen words.now ≡ what_words what) }
-    ensures fits { IfSome result (λ what. (plan : Plan) (c : ℕ) → FitsWhat plan c what) }
-    ensures none { IfNone result ((plan : Plan) (c : ℕ) → NoneHas plan c (seen words.now) Name.Rest) }
+    ensures fits { IfSome result (λ what. (script : Script) (c : ℕ) → FitsWhat script c what) }
+    ensures none { IfNone result ((script : Script) (c : ℕ) → NoneHas script c (seen words.now) Name.Rest) }
 {
     let [word] = words else {
         return None;

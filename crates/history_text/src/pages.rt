@@ -3,7 +3,7 @@
 ghost use Rattle.std.specs.Prelude.{◌≡◌, ◌≢◌, ◌∷◌, [], ℕ, IfSome, IfNone, decimal};
 ghost use Rattle.trace_lines.specs.Words.{seen};
 ghost use Rattle.pager_model.specs.declared.entry.Want.{Want as Wanted};
-ghost use Rattle.pager_model.specs.Plans.{Plan};
+ghost use Rattle.pager_model.specs.Scripts.{Script};
 ghost use Rattle.pager_model.specs.PrintedText.{want_words, what_words};
 ghost use Rattle.history_text.specs.HistoryText.{FitsWant, FitsWhat, IsSmall};
 ghost use Rattle.history_text.specs.Lines.{NoneHas, word_of_name};
@@ -16,8 +16,8 @@ use pager_model::{Want, What};
 /// What is said of a page that was paged out.
 pub fn out(words: &[&[u8]]) -> Option<What>
     ensures some { IfSome result (λ what. word_of_name Name.Out ∷ seen words.now ≡ what_words what) }
-    ensures fits { IfSome result (λ what. (plan : Plan) (c : ℕ) → FitsWhat plan c what) }
-    ensures none { IfNone result ((plan : Plan) (c : ℕ) → NoneHas plan c (seen words.now) Name.Out) }
+    ensures fits { IfSome result (λ what. (script : Script) (c : ℕ) → FitsWhat script c what) }
+    ensures none { IfNone result ((script : Script) (c : ℕ) → NoneHas script c (seen words.now) Name.Out) }
 {
     let [page, word] = words else {
         return None;
@@ -30,8 +30,8 @@ pub fn out(words: &[&[u8]]) -> Option<What>
 /// What is said of a failure of the backing store.
 pub fn failed(words: &[&[u8]]) -> Option<What>
     ensures some { IfSome result (λ what. word_of_name Name.Failed ∷ seen words.now ≡ what_words what) }
-    ensures fits { IfSome result (λ what. (plan : Plan) (c : ℕ) → FitsWhat plan c what) }
-    ensures none { IfNone result ((plan : Plan) (c : ℕ) → NoneHas plan c (seen words.now) Name.Failed) }
+    ensures fits { IfSome result (λ what. (script : Script) (c : ℕ) → FitsWhat script c what) }
+    ensures none { IfNone result ((script : Script) (c : ℕ) → NoneHas script c (seen words.now) Name.Failed) }
 {
     let [page, word, count] = words else {
         return None;
@@ -49,8 +49,8 @@ pub fn failed(words: &[&[u8]]) -> Option<What>
 /// What is said of a page that got a frame.
 pub fn take(words: &[&[u8]]) -> Option<What>
     ensures some { IfSome result (λ what. word_of_name Name.Take ∷ seen words.now ≡ what_words what) }
-    ensures fits { IfSome result (λ what. (plan : Plan) (c : ℕ) → FitsWhat plan c what) }
-    ensures none { IfNone result ((plan : Plan) (c : ℕ) → NoneHas plan c (seen words.now) Name.Take) }
+    ensures fits { IfSome result (λ what. (script : Script) (c : ℕ) → FitsWhat script c what) }
+    ensures none { IfNone result ((script : Script) (c : ℕ) → NoneHas script c (seen words.now) Name.Take) }
 {
     let filled = filled_by(words)?;
     Some(What::Take {
@@ -63,8 +63,8 @@ pub fn take(words: &[&[u8]]) -> Option<What>
 /// What is said of a page that got a frame in place of a held one.
 pub fn use_held(words: &[&[u8]]) -> Option<What>
     ensures some { IfSome result (λ what. word_of_name Name.UseHeld ∷ seen words.now ≡ what_words what) }
-    ensures fits { IfSome result (λ what. (plan : Plan) (c : ℕ) → FitsWhat plan c what) }
-    ensures none { IfNone result ((plan : Plan) (c : ℕ) → NoneHas plan c (seen words.now) Name.UseHeld) }
+    ensures fits { IfSome result (λ what. (script : Script) (c : ℕ) → FitsWhat script c what) }
+    ensures none { IfNone result ((script : Script) (c : ℕ) → NoneHas script c (seen words.now) Name.UseHeld) }
 {
     let filled = filled_by(words)?;
     Some(What::UseHeld {
@@ -129,8 +129,8 @@ fn want_of(low: &[u8], high: &[u8], cap: &[u8], wired: &[u8]) -> Option<Want>
 /// What is said of a page that gave its frame up.
 pub fn give(words: &[&[u8]]) -> Option<What>
     ensures some { IfSome result (λ what. word_of_name Name.Give ∷ seen words.now ≡ what_words what) }
-    ensures fits { IfSome result (λ what. (plan : Plan) (c : ℕ) → FitsWhat plan c what) }
-    ensures none { IfNone result ((plan : Plan) (c : ℕ) → NoneHas plan c (seen words.now) Name.Give) }
+    ensures fits { IfSome result (λ what. (script : Script) (c : ℕ) → FitsWhat script c what) }
+    ensures none { IfNone result ((script : Script) (c : ℕ) → NoneHas script c (seen words.now) Name.Give) }
 {
     let (page, frame) = two(words)?;
     Some(What::Give { page, frame })
@@ -139,8 +139,8 @@ pub fn give(words: &[&[u8]]) -> Option<What>
 /// What is said of a range whose pages gave their frames up.
 pub fn clear(words: &[&[u8]]) -> Option<What>
     ensures some { IfSome result (λ what. word_of_name Name.Clear ∷ seen words.now ≡ what_words what) }
-    ensures fits { IfSome result (λ what. (plan : Plan) (c : ℕ) → FitsWhat plan c what) }
-    ensures none { IfNone result ((plan : Plan) (c : ℕ) → NoneHas plan c (seen words.now) Name.Clear) }
+    ensures fits { IfSome result (λ what. (script : Script) (c : ℕ) → FitsWhat script c what) }
+    ensures none { IfNone result ((script : Script) (c : ℕ) → NoneHas script c (seen words.now) Name.Clear) }
 {
     let (first, length) = two(words)?;
     Some(What::Clear { first, length })
@@ -149,8 +149,8 @@ pub fn clear(words: &[&[u8]]) -> Option<What>
 /// What is said of a range whose frames were wired, or were no longer.
 pub fn pin(words: &[&[u8]]) -> Option<What>
     ensures some { IfSome result (λ what. word_of_name Name.Pin ∷ seen words.now ≡ what_words what) }
-    ensures fits { IfSome result (λ what. (plan : Plan) (c : ℕ) → FitsWhat plan c what) }
-    ensures none { IfNone result ((plan : Plan) (c : ℕ) → NoneHas plan c (seen words.now) Name.Pin) }
+    ensures fits { IfSome result (λ what. (script : Script) (c : ℕ) → FitsWhat script c what) }
+    ensures none { IfNone result ((script : Script) (c : ℕ) → NoneHas script c (seen words.now) Name.Pin) }
 {
     let [first, length, wired] = words else {
         return None;
@@ -168,8 +168,8 @@ pub fn pin(words: &[&[u8]]) -> Option<What>
 /// What is said of a range that wasn't wired, and of the page for which it wasn't.
 pub fn kept(words: &[&[u8]]) -> Option<What>
     ensures some { IfSome result (λ what. word_of_name Name.Kept ∷ seen words.now ≡ what_words what) }
-    ensures fits { IfSome result (λ what. (plan : Plan) (c : ℕ) → FitsWhat plan c what) }
-    ensures none { IfNone result ((plan : Plan) (c : ℕ) → NoneHas plan c (seen words.now) Name.Kept) }
+    ensures fits { IfSome result (λ what. (script : Script) (c : ℕ) → FitsWhat script c what) }
+    ensures none { IfNone result ((script : Script) (c : ℕ) → NoneHas script c (seen words.now) Name.Kept) }
 {
     let [first, length, others @ ..] = words else {
         return None;

@@ -3,7 +3,8 @@ use Rattle.std.proofs.Common.{◌≡◌, ℕ, suc, ◌+◌, Bool, true, false, e
 use Rattle.pager_model.specs.declared.entry.Entry.{Entry}
 use Rattle.pager_model.specs.Entries.{names_space, names_frames, is_of, entries_of}
 use Rattle.pager_model.specs.Legal.{entries_in}
-use Rattle.journal_core.specs.Parts.{part_list, names_part, numbered_from, numbered, is_numbered_of, own_list}
+use Rattle.journal_core.specs.Parts.{part_list, names_part, is_numbered_of, own_list}
+use Rattle.pager_model.specs.Legal.{numbered_from, numbered}
 use Rattle.pager_model.proofs.Histories.{filter-push_in, filter-push_out}
 
 part_list-push_by : (spaces part : ℕ) (b : Bool) (history : List Entry) (e : Entry) → (eqb part spaces ≡ b)

@@ -9,7 +9,8 @@ use Rattle.pager_model.specs.declared.entry.Numbered.{Numbered}
 use Rattle.pager_model.specs.Entries.{entries_of}
 use Rattle.pager_model.specs.Legal.{entries_in}
 use Rattle.journal_core.specs.Journals.{PassState}
-use Rattle.journal_core.specs.Parts.{numbered_from, numbered, is_numbered_of, own_list}
+use Rattle.journal_core.specs.Parts.{is_numbered_of, own_list}
+use Rattle.pager_model.specs.Legal.{numbered_from, numbered}
 use Rattle.journal_core.specs.Places.{put, placed, placed_all}
 use Rattle.journal_core.proofs.HistoryLength.{up_from, count_of}
 use Rattle.journal_core.proofs.HistoryLists.{own_entries}
@@ -78,13 +79,6 @@ length-numbered_from place (e ∷ es) = ap suc (length-numbered_from (suc place)
 
 pub length-numbered : (history : List Entry) → length (numbered history) ≡ length history
 length-numbered history = length-numbered_from 0 history
-
-entries_in-numbered_from : (place : ℕ) (es : List Entry) → entries_in (numbered_from place es) ≡ es
-entries_in-numbered_from place [] = refl
-entries_in-numbered_from place (e ∷ es) = ap (λ l. e ∷ l) (entries_in-numbered_from (suc place) es)
-
-pub entries_in-numbered : (history : List Entry) → entries_in (numbered history) ≡ history
-entries_in-numbered history = entries_in-numbered_from 0 history
 
 has_more : (i c : ℕ) (n : Numbered) (ns : List Numbered) (b : Bool) → is_numbered_of c n ≡ b → HasPlace i (filter (is_numbered_of c) ns)
     → HasPlace i (filter (is_numbered_of c) (n ∷ ns))

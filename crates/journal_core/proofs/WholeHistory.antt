@@ -11,13 +11,15 @@ use Rattle.journal_core.specs.declared.view.Part.{Part}
 use Rattle.journal_core.specs.declared.view.Own.{Own}
 use Rattle.journal_core.specs.Clauses.{IsHistory, IsPartOf, IsOwnOf}
 use Rattle.journal_core.specs.Journals.{JournalName, AuthorState, PassState}
-use Rattle.journal_core.specs.Parts.{part_list, numbered, own_list}
+use Rattle.journal_core.specs.Parts.{part_list, own_list}
+use Rattle.pager_model.specs.Legal.{numbered}
 use Rattle.journal_core.specs.Places.{placed_all, IsPlaced}
 use Rattle.journal_core.specs.Seats.{part_of, own_of, whole_view}
 use Rattle.journal_core.specs.Views.{Meets, rest_view}
 use Rattle.journal_core.proofs.HistoryLength.{length_by_processors, processors_of}
 use Rattle.journal_core.proofs.HistoryLists.{own_entries}
-use Rattle.journal_core.proofs.MergedEntries.{each_unreverse, each_unmap, IsAt, Owns, own_at, length-numbered, entries_in-numbered, logs_of, logs_at, all_in, counts_fit, placed_is}
+use Rattle.journal_core.proofs.MergedEntries.{each_unreverse, each_unmap, IsAt, Owns, own_at, length-numbered, logs_of, logs_at, all_in, counts_fit, placed_is}
+use Rattle.pager_model.proofs.Histories.{entries_in-numbered}
 
 -- first the authors board, and then the passes: what the last seat meets
 pub whole_meets : (g : Given) (authors : List AuthorState) (passes : List PassState) (n : ℕ) (s t u : Me Unit View) → s ≡ (rest_view g, [])

@@ -72,7 +72,7 @@ pub fn merge(mut history: Vec<Numbered>, long: u64, logs: &[Vec<Numbered>]) -> V
     ensures { (start : List Numbered) × (length start ≡ long) × (result.items ≡ placed_all start (map (λ v. v.items) logs.now)) }
 {
     fill(&mut history, long);
-    place_all(history.as_mut_slice(), logs);
+    scatter_all(history.as_mut_slice(), logs);
     history
 }
 
@@ -101,17 +101,17 @@ fn push_blank(history: &mut Vec<Numbered>)
 }
 
 /// Puts each entry at its place.
-fn place_all(history: &mut [Numbered], logs: &[Vec<Numbered>])
+fn scatter_all(history: &mut [Numbered], logs: &[Vec<Numbered>])
     requires { All (λ v. IsPlaced (length history.old) v.items) logs.now }
     ensures { history.new ≡ placed_all history.old (map (λ v. v.items) logs.now) }
 {
     for log in logs {
-        place(history, log);
+        scatter(history, log);
     }
 }
 
 /// Puts each entry of a log at its number.
-fn place(history: &mut [Numbered], log: &[Numbered])
+fn scatter(history: &mut [Numbered], log: &[Numbered])
     requires { IsPlaced (length history.old) log.now }
     ensures { history.new ≡ placed history.old log.now }
 {

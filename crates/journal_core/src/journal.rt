@@ -6,7 +6,7 @@ ghost use Rattle.pager_model.specs.Legal.{SpaceJudges, FramesJudge, KeepsOrder, 
 ghost use Rattle.pager_model.specs.declared.entry.Entry.{Entry};
 ghost use Rattle.journal_core.specs.Clauses.{NamesOnly, AllowedAfter, IsHistory, IsPartOf, IsOwnOf, AreOf, AreOfTwo, AreSpaceAndFrames};
 ghost use Rattle.journal_core.specs.Journals.{new_author, new_passes, written, kept};
-ghost use Rattle.journal_core.specs.Parts.{numbered};
+ghost use Rattle.pager_model.specs.Legal.{numbered};
 ghost use Rattle.journal_core.specs.Seats.{name_of};
 ghost use Rattle.journal_core.specs.Views.{blank_part, blank_own, word_count};
 

@@ -18,7 +18,7 @@ use Rattle.pager_model.specs.Legal.{frames_at, frames_state, space_at, state_of_
 use Rattle.pager_model.specs.Settings.{Given, faults_at_entry, is_told}
 use Rattle.pager_model.specs.SpaceStates.{SpaceState, empty_state, pages_after, pages_of, space_after}
 use Rattle.pager_model.specs.Tiles.{demotions_in, promotions_in}
-use Rattle.step_log.specs.Counting.{evictions_in, is_eviction}
+use Rattle.flight_core.specs.Counting.{evictions_in, is_eviction}
 
 -- Promotions and demotions.
 

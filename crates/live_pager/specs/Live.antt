@@ -15,42 +15,42 @@ use Rattle.pager_model.specs.FrameStates.{FrameState, frame_of}
 use Rattle.pager_model.specs.Headline.{AllAnswered, IsAnswered, IsNeverShort, KeepsRightly, PreemptsOldest, RefusesRightly}
 use Rattle.pager_model.specs.Laws.{KeepsLawsAllAlong}
 use Rattle.pager_model.specs.Legal.{frames_at, space_at}
-use Rattle.pager_model.specs.Plans.{Plan}
+use Rattle.pager_model.specs.Scripts.{Script}
 use Rattle.pager_model.specs.Settings.{Given}
 use Rattle.pager_model.specs.Showing.{IsSequence}
 use Rattle.pager_model.specs.SizeSets.{SizeSet}
 use Rattle.pager_model.specs.SpaceStates.{served_page}
 use Rattle.pager_model.specs.Stored.{Stored}
 use Rattle.pager_model.specs.Stores.{setting_over}
-use Rattle.step_log.specs.Counting.{evictions_in}
+use Rattle.flight_core.specs.Counting.{evictions_in}
 use Rattle.stream_core.specs.Streaming.{IsAfter, Streaming}
 use Rattle.live_pager.specs.declared.told.Told.{Told}
 
 -- a pager of so many frames, processors and spaces and of these page sizes: a trace without a daemon, which may have every call, and of which no call
 -- is known
-abbrev pub plan_of : (frames processors spaces : ℕ) → SizeSet → Plan
-plan_of frames processors spaces z =
+abbrev pub script_of : (frames processors spaces : ℕ) → SizeSet → Script
+script_of frames processors spaces z =
     record { version = 3; frames = frames; processors = processors; spaces = spaces; sizes = z; daemon = None; calls = [] }
 
 -- After these calls, over these stores: this is a legal history of them, one sequence a call in their order, and nothing else.
-pub record IsLive (plan : Plan) (stores : List Stored) (calls : List Line) (h : List Entry) (s : Streaming) : Type 0 where
-  pub after : IsAfter plan stores calls h s
-  pub version : plan.version ≡ 3
-  pub alone : plan.daemon ≡ None
+pub record IsLive (script : Script) (stores : List Stored) (calls : List Line) (h : List Entry) (s : Streaming) : Type 0 where
+  pub after : IsAfter script stores calls h s
+  pub version : script.version ≡ 3
+  pub alone : script.daemon ≡ None
 
 -- it stands so after some calls
 pub record WasLive (s : Streaming) : Type 0 where
-  pub plan : Plan
+  pub script : Script
   pub stores : List Stored
   pub calls : List Line
   pub history : List Entry
-  pub live : IsLive plan stores calls history s
+  pub live : IsLive script stores calls history s
 
 -- it stands so after some calls, and these are its counts
 pub record IsCounted (s : Streaming) (summary : Summary) : Type 0 where
   pub was : WasLive s
-  pub counts_are : (plan : Plan) (stores : List Stored) (calls : List Line) (h : List Entry) → IsLive plan stores calls h s
-      → summary ≡ counts (setting_over plan stores) h
+  pub counts_are : (script : Script) (stores : List Stored) (calls : List Line) (h : List Entry) → IsLive script stores calls h s
+      → summary ≡ counts (setting_over script stores) h
 
 -- What a call is told.
 
@@ -89,11 +89,11 @@ pub record AreMoves (g : Given) (h piece : List Entry) (told : Told) : Type 0 wh
   pub evictions : evictions_in (h ++ piece) ≡ evictions_in h + told.evictions
 
 -- The history went on by the call's sequence alone, and what is told is of that: the answer, the frame afterwards, and what it did.
-pub record IsTold (plan : Plan) (stores : List Stored) (calls : List Line) (line : Line) (h : List Entry) (told : Told) (s : Streaming) : Type 0 where
+pub record IsTold (script : Script) (stores : List Stored) (calls : List Line) (line : Line) (h : List Entry) (told : Told) (s : Streaming) : Type 0 where
   pub piece : List Entry
-  pub live : IsLive plan stores (calls ++ line ∷ []) (h ++ piece) s
+  pub live : IsLive script stores (calls ++ line ∷ []) (h ++ piece) s
   pub sequence : IsSequence line piece
-  pub answered : IsAnsweredBy (setting_over plan stores) h piece line.call told.answered
-  pub keeps : KeepsAll (setting_over plan stores) (h ++ piece)
-  pub frame : told.frame ≡ frame_told (frames_at (setting_over plan stores) (h ++ piece)) line.call told.answered.reply
-  pub moves : AreMoves (setting_over plan stores) h piece told
+  pub answered : IsAnsweredBy (setting_over script stores) h piece line.call told.answered
+  pub keeps : KeepsAll (setting_over script stores) (h ++ piece)
+  pub frame : told.frame ≡ frame_told (frames_at (setting_over script stores) (h ++ piece)) line.call told.answered.reply
+  pub moves : AreMoves (setting_over script stores) h piece told

@@ -5,13 +5,13 @@ ghost use Rattle.pager_model.specs.Bounds.{most_frames, most_processors, most_sp
 ghost use Rattle.pager_model.specs.declared.call.Line.{Line as CallLine};
 ghost use Rattle.pager_model.specs.declared.entry.Entry.{Entry};
 ghost use Rattle.pager_model.specs.Counts.{counts};
-ghost use Rattle.pager_model.specs.Plans.{Plan};
+ghost use Rattle.pager_model.specs.Scripts.{Script};
 ghost use Rattle.pager_model.specs.SpaceStates.{served_page};
 ghost use Rattle.pager_model.specs.Stored.{Stored};
 ghost use Rattle.pager_model.specs.Stores.{setting_over};
 ghost use Rattle.pager_model.specs.TraceText.{IsCall, IsLine};
 ghost use Rattle.stream_core.specs.Streaming.{IsRunTo, most_calls_made};
-ghost use Rattle.live_pager.specs.Live.{IsLive, IsTold, frame_told, plan_of};
+ghost use Rattle.live_pager.specs.Live.{IsLive, IsTold, frame_told, script_of};
 
 use crate::told::Told;
 use pager_model::{Call, Line, Reply, Sizes, Summary, Trace, page_of};
@@ -56,7 +56,7 @@ impl<S: Store + Send + Drop> LivePager<S> {
         requires processors { (1 ≤ processors) × (processors ≤ most_processors) }
         requires spaces { (1 ≤ spaces) × (spaces ≤ most_spaces) }
         requires enough { spaces ≤ length stores.items }
-        ensures starts { IfOk result (λ s. IsLive (plan_of frames processors spaces sizes) (map S.seen stores.items) [] [] s) }
+        ensures starts { IfOk result (λ s. IsLive (script_of frames processors spaces sizes) (map S.seen stores.items) [] [] s) }
         ensures back { IfErr result (λ back. map S.seen back.items ≡ map S.seen stores.items) }
     {
         let opening = Trace::of(3, frames, processors, spaces, sizes, None, Vec::new(alloc));
@@ -73,8 +73,8 @@ impl<S: Store + Send + Drop> LivePager<S> {
     pub fn call(&mut self, line: Line) -> Told
         requires line { IsLine 3 self.old.processors (length self.old.spaces) line }
         requires few { self.old.calls < most_calls_made }
-        ensures { (plan : Plan) (stores : List Stored) (calls : List CallLine) (h : List Entry) → IsLive plan stores calls h self.old
-            → IsTold plan stores calls line h result self.new }
+        ensures { (script : Script) (stores : List Stored) (calls : List CallLine) (h : List Entry) → IsLive script stores calls h self.old
+            → IsTold script stores calls line h result self.new }
     {
         let before = self.counts;
         let evicted = self.stream.counted().evictions;
@@ -117,16 +117,16 @@ impl<S: Store + Send + Drop> LivePager<S> {
 
     /// The counts so far.
     pub fn counts(&self) -> Summary
-        ensures { (plan : Plan) (stores : List Stored) (calls : List CallLine) (h : List Entry) → IsLive plan stores calls h self.now
-            → result ≡ counts (setting_over plan stores) h }
+        ensures { (script : Script) (stores : List Stored) (calls : List CallLine) (h : List Entry) → IsLive script stores calls h self.now
+            → result ≡ counts (setting_over script stores) h }
     {
         self.counts
     }
 
     /// Ends it: the stores, in their order.
     pub fn close(self) -> Vec<S>
-        ensures { (plan : Plan) (stores : List Stored) (calls : List CallLine) (h : List Entry) → IsLive plan stores calls h self
-            → IsRunTo plan stores calls h (map S.seen result.items) }
+        ensures { (script : Script) (stores : List Stored) (calls : List CallLine) (h : List Entry) → IsLive script stores calls h self
+            → IsRunTo script stores calls h (map S.seen result.items) }
     {
         self.stream.stop()
     }

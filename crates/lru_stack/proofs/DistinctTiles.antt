@@ -9,7 +9,7 @@ use Rattle.std.proofs.lemmas.List.Sums.{sum_by-cons, sum_by-set}
 use Rattle.pager_model.specs.declared.tile.Tile.{Tile}
 use Rattle.pager_model.specs.Tiles.{same_tile}
 use Rattle.pager_model.proofs.TileParts.{same_tile-true}
-use Rattle.lru_stack.specs.Stacks.{AreDistinct, IsKept, Kept, Passes, hole_at, is_at, kept_at, left_by, moved_down, place_of, shifted}
+use Rattle.lru_stack.specs.Stacks.{AreDistinct, IsKept, Kept, Passes, hole_at, is_at, kept_at, left_by, moved_down, position_of, shifted}
 
 abbrev weight : Bool → ℕ
 weight b = cond b 1 0
@@ -56,7 +56,7 @@ hole-left t places distinct =
 
 -- so where the tile was found as the one before
 pub hole-found : (t : Tile) (before : Option Tile) (places : List (Option Tile)) → AreDistinct places → is_at t before ≡ true
-    → hole_at (place_of before places) places ≡ map (left_by t) places
+    → hole_at (position_of before places) places ≡ map (left_by t) places
 hole-found t (Some u) places distinct same =
     subst (λ v. hole_at (position (is_at v) places) places ≡ map (left_by t) places) (same_tile-true t u same) (hole-left t places distinct)
 hole-found t None places distinct same = cc

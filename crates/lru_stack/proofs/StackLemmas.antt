@@ -10,7 +10,7 @@ use Rattle.pager_model.specs.declared.tile.Tile.{Tile}
 use Rattle.pager_model.specs.Tiles.{same_tile}
 use Rattle.lru_stack.specs.declared.stack.Use.{Use}
 use Rattle.lru_stack.specs.Followers.{without}
-use Rattle.lru_stack.specs.Stacks.{Kept, Passes, found_at, is_at, left_by, kept_after, kept_at, moved_down, place_of, tiles_in}
+use Rattle.lru_stack.specs.Stacks.{Kept, Passes, found_at, is_at, left_by, kept_after, kept_at, moved_down, position_of, tiles_in}
 
 -- a row of places has at most so many tiles
 pub length-tiles_in : (places : List (Option Tile)) → length (tiles_in places) ≤ length places
@@ -144,7 +144,7 @@ map-same test places all = map_fixed (kept_at test) places (λ k d below. kept-s
 pub kept_used : (test : Tile → Bool) (kept : Kept) (used : Option Use) (u : Use) (places : List (Option Tile)) (found : List ℕ) (uses : ℕ)
     → used ≡ Some u
     → places ≡ moved_down u.after (Some u.after) (map (kept_at test) kept.places)
-    → found ≡ found_at (place_of u.before kept.places) kept.found → uses ≡ kept.uses + 1
+    → found ≡ found_at (position_of u.before kept.places) kept.found → uses ≡ kept.uses + 1
     → record { places = places; found = found; uses = uses } ≡ kept_after test used kept
 kept_used test kept used u places found uses is moved counted more = rw is
     (λ i. record { places = moved i; found = counted i; uses = more i })

@@ -15,7 +15,7 @@ use Rattle.pager_model.specs.Tiles.{same_tile, is_tile_in}
 use Rattle.pager_laws.proofs.ImageTiles.{tile_in-is_tile}
 use Rattle.lru_stack.specs.declared.stack.Use.{Use}
 use Rattle.lru_stack.specs.Followers.{Follower, begun, follow, page_used, image_after, missed, without}
-use Rattle.lru_stack.specs.Stacks.{Kept, Passes, Stands, is_at, kept_at, tiles_in, moved_down, found_at, place_of, kept_after, StandsAt, StandsFor, IsUse}
+use Rattle.lru_stack.specs.Stacks.{Kept, Passes, Stands, is_at, kept_at, tiles_in, moved_down, found_at, position_of, kept_after, StandsAt, StandsFor, IsUse}
 use Rattle.lru_stack.proofs.StackLemmas.{tiles_in-kept, moved_down-some, length-moved_down, All-kept, All-moved}
 
 -- what stands at a place is in the image of a capacity exactly where the place comes before it
@@ -50,10 +50,10 @@ hit-place t places k within =
           (ap (is_found k) (cond-false (nat_lt n (length places)) (Some n) None (le-ltb n (length places) past)))
     ]
 
-hit-place_of : (before : Option Tile) (places : List (Option Tile)) (k : ℕ) → k ≤ length places
-    → is_in_image (tiles_in (take k places)) before ≡ is_found k (place_of before places)
-hit-place_of None places k within = refl
-hit-place_of (Some t) places k within = hit-place t places k within
+hit-position_of : (before : Option Tile) (places : List (Option Tile)) (k : ℕ) → k ≤ length places
+    → is_in_image (tiles_in (take k places)) before ≡ is_found k (position_of before places)
+hit-position_of None places k within = refl
+hit-position_of (Some t) places k within = hit-place t places k within
 
 -- one use more at a place counts for each capacity past it
 take-set_lt : (k : ℕ) (xs : List ℕ) (i y : ℕ) → i < k → take k (set xs i y) ≡ set (take k xs) i y
@@ -109,14 +109,14 @@ after_use z k kept used old new (Some page) within long is =
     let kept_row : filter test (tiles_in (take k kept.places)) ≡ tiles_in (take k row) = sym (tiles_in-kept test kept.places k) in
     let moved : tiles_in (take k (moved_down t (Some t) row)) ≡ take k (t ∷ without t (tiles_in (take k row))) =
     moved_down-some t t row k (omega (arith, length-map kept.places (kept_at test))) in
-    let hit : is_in_image (tiles_in (take k kept.places)) was ≡ is_found k (place_of was kept.places) =
-    hit-place_of was kept.places k within in
+    let hit : is_in_image (tiles_in (take k kept.places)) was ≡ is_found k (position_of was kept.places) =
+    hit-position_of was kept.places k within in
     rw (is.2) (record {
       same = rw (is.1) (ap (λ ts. take k (t ∷ without t ts)) kept_row ∙ sym moved);
       counts = omega (
         arith,
-        sum-found k (place_of was kept.places) kept.found (omega arith),
-        missed-counts page (is_found k (place_of was kept.places)),
+        sum-found k (position_of was kept.places) kept.found (omega arith),
+        missed-counts page (is_found k (position_of was kept.places)),
         ap (missed (Some page)) hit,
       );
     })

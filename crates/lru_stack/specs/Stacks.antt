@@ -65,9 +65,9 @@ found_at None found = found
 found_at (Some place) found = slice_set found place (slice_index found place + 1)
 
 -- where the tile stands
-abbrev pub place_of : Option Tile → List (Option Tile) → Option ℕ
-place_of None places = None
-place_of (Some t) places = position (is_at t) places
+abbrev pub position_of : Option Tile → List (Option Tile) → Option ℕ
+position_of None places = None
+position_of (Some t) places = position (is_at t) places
 
 -- The stack stands for an image of this capacity of a space, and its misses: the image is what stands at the places up to the capacity, and
 -- the uses are the misses and the uses that found their tile at one of these.
@@ -92,7 +92,7 @@ kept_after test None kept = record { places = map (kept_at test) kept.places; fo
 kept_after test (Some use') kept =
     record {
       places = moved_down use'.after (Some use'.after) (map (kept_at test) kept.places);
-      found = found_at (place_of use'.before kept.places) kept.found;
+      found = found_at (position_of use'.before kept.places) kept.found;
       uses = kept.uses + 1;
     }
 

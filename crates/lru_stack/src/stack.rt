@@ -9,7 +9,7 @@ ghost use Rattle.pager_model.specs.declared.entry.Entry.{Entry};
 ghost use Rattle.pager_model.specs.SizeSets.{SizeSet};
 ghost use Rattle.pager_model.specs.SpaceStates.{SpaceState, space_after};
 ghost use Rattle.lru_stack.specs.Followers.{Follower, follow};
-ghost use Rattle.lru_stack.specs.Stacks.{is_at, kept_at, left_by, moved_down, hole_at, shifted, found_at, place_of, kept_after, missed_at, AreDistinct, IsBlank, Stands, Passes, AnswersFor, Tells, TellsSame};
+ghost use Rattle.lru_stack.specs.Stacks.{is_at, kept_at, left_by, moved_down, hole_at, shifted, found_at, position_of, kept_after, missed_at, AreDistinct, IsBlank, Stands, Passes, AnswersFor, Tells, TellsSame};
 
 use pager_model::{NoMemory, Tile};
 use std::alloc::Global;
@@ -60,14 +60,14 @@ fn take_out(places: &mut [Option<Tile>], tile: &Tile)
     requires distinct { AreDistinct places.old }
     ensures { places.new ≡ map (left_by tile.now) places.old }
 {
-    let place = place_of(places, tile);
+    let place = position_of(places, tile);
     make_hole(places, place);
 }
 
 /// Takes out the tile of a use. Where it was the same before the use, it stands at the place that was found, and isn't searched for again.
 fn take_out_used(places: &mut [Option<Tile>], used: &Use, place: Option<usize>)
     requires distinct { AreDistinct places.old }
-    requires found { place ≡ place_of used.now.before places.old }
+    requires found { place ≡ position_of used.now.before places.old }
     ensures { places.new ≡ map (left_by used.now.after) places.old }
 {
     if is_at(&used.after, &used.before) {
@@ -103,18 +103,18 @@ fn retain<F: Fn(&Tile) -> bool>(places: &mut [Option<Tile>], is_tile: &F)
 }
 
 /// Where the tile stands, if it does.
-fn place_of(places: &[Option<Tile>], tile: &Tile) -> Option<usize>
+fn position_of(places: &[Option<Tile>], tile: &Tile) -> Option<usize>
     ensures { result ≡ position (is_at tile.now) places.now }
 {
     places.iter().position(|place| is_at(tile, place))
 }
 
 /// Where the tile stands, if there is one and it does.
-fn place_of_any(places: &[Option<Tile>], tile: Option<Tile>) -> Option<usize>
-    ensures { result ≡ place_of tile places.now }
+fn position_of_any(places: &[Option<Tile>], tile: Option<Tile>) -> Option<usize>
+    ensures { result ≡ position_of tile places.now }
 {
     match tile {
-        Some(tile) => place_of(places, &tile),
+        Some(tile) => position_of(places, &tile),
         None => None,
     }
 }
@@ -128,12 +128,12 @@ fn follow_use<F: Fn(&Tile) -> bool>(
 ) -> Option<usize>
     requires callable { F.IsAlwaysCallable is_tile.now }
     requires distinct { AreDistinct places.old }
-    ensures found { result ≡ place_of used.now.before places.old }
+    ensures found { result ≡ position_of used.now.before places.old }
     ensures after { (was test : Tile → Bool) → AnswersFor (FnReturnsAt F.Fn is_tile.now) was test → All (Passes was) places.old
         → places.new ≡ moved_down used.now.after (Some used.now.after) (map (kept_at test) places.old) }
     ensures distinct { AreDistinct places.new }
 {
-    let place = place_of_any(places, used.before);
+    let place = position_of_any(places, used.before);
     take_out_used(places, used, place);
     retain(places, is_tile);
     push_front(places, used.after);
@@ -143,11 +143,11 @@ fn follow_use<F: Fn(&Tile) -> bool>(
 /// The same of an entry after which every tile is one still.
 fn follow_use_same(places: &mut [Option<Tile>], used: &Use) -> Option<usize>
     requires distinct { AreDistinct places.old }
-    ensures found { result ≡ place_of used.now.before places.old }
+    ensures found { result ≡ position_of used.now.before places.old }
     ensures after { places.new ≡ moved_down used.now.after (Some used.now.after) places.old }
     ensures distinct { AreDistinct places.new }
 {
-    let place = place_of_any(places, used.before);
+    let place = position_of_any(places, used.before);
     take_out_used(places, used, place);
     push_front(places, used.after);
     place

@@ -13,7 +13,7 @@ use Rattle.pager_model.specs.declared.tile.Mapping.{Mapping}
 use Rattle.pager_model.specs.declared.tile.Tile.{Tile}
 use Rattle.pager_model.specs.Legal.{IsLegal, entries_in, space_at}
 use Rattle.pager_model.specs.Options.{is_that}
-use Rattle.pager_model.specs.Plans.{Plan}
+use Rattle.pager_model.specs.Scripts.{Script}
 use Rattle.pager_model.specs.Settings.{Given, is_told, faults_at_entry}
 use Rattle.pager_model.specs.Showing.{Shows, marks_of}
 use Rattle.pager_model.specs.SizeSets.{SizeSet}
@@ -181,9 +181,9 @@ FollowEach-new g spaces same new = record {
 }
 
 -- and so the stacks and the spaces of a run begin
-pub StandsFor-new : (plan : Plan) (g : Given) (c : Counting) → Begins plan g → c.sizes ≡ plan.sizes → StandAfter g c.rows []
-    → length c.spaces ≡ plan.spaces → All (IsNew plan.frames) c.spaces → StandsFor c g []
-StandsFor-new plan g c begins sizes stands same new = record {
+pub StandsFor-new : (script : Script) (g : Given) (c : Counting) → Begins script g → c.sizes ≡ script.sizes → StandAfter g c.rows []
+    → length c.spaces ≡ script.spaces → All (IsNew script.frames) c.spaces → StandsFor c g []
+StandsFor-new script g c begins sizes stands same new = record {
   legal = tt;
   keeps = record {
     sizes = begins.sizes ∙ sym sizes;
@@ -211,30 +211,30 @@ entries-more history i x known is =
     map_more (λ (n : Numbered). n.entry) history i x known ∙ ap (λ (n : Numbered). entries_in (take i history) ++ n.entry ∷ []) (sym is)
 
 -- each entry of a run comes so
-pub EachComes-run : (plan : Plan) (g : Given) (history : List Entry) → HasText plan → IsRunOf plan g history → EachComes g history
-EachComes-run plan g history text run = λ before after e is.
+pub EachComes-run : (script : Script) (g : Given) (history : List Entry) → HasText script → IsRunOf script g history → EachComes g history
+EachComes-run script g history text run = λ before after e is.
     let legal = subst (IsLegal g) is run.legal in
     let parts = IsLegal-at g before after e legal in
     record {
       legal = IsLegal-push g before e parts.0 parts.1;
-      line = AnswersLine-run plan g before after e text run.marks legal (subst (Shows plan) is run.shows);
+      line = AnswersLine-run script g before after e text run.marks legal (subst (Shows script) is run.shows);
     }
 
 -- with the marks of a trace of one processor this one alone answers
-answered_by : (plan : Plan) (g : Given) (before after : List Entry) (e : Entry) (what : What) → e.what ≡ what → IsDaemon plan.daemon
-    → g.marks ≡ marks_of plan → IsLegal g (before ++ e ∷ after) → is_answer what ≡ true → e.processor < plan.processors
-answered_by plan g before after e (Answer number call answered) is daemon marks legal answers =
-    processor-legal plan g before after e daemon marks legal number call answered is
-answered_by plan g before after e what is daemon marks legal answers = cc
+answered_by : (script : Script) (g : Given) (before after : List Entry) (e : Entry) (what : What) → e.what ≡ what → IsDaemon script.daemon
+    → g.marks ≡ marks_of script → IsLegal g (before ++ e ∷ after) → is_answer what ≡ true → e.processor < script.processors
+answered_by script g before after e (Answer number call answered) is daemon marks legal answers =
+    processor-legal script g before after e daemon marks legal number call answered is
+answered_by script g before after e what is daemon marks legal answers = cc
 
-pub AnswersAlone-legal : (plan : Plan) (g : Given) (history : List Entry) → IsDaemon plan.daemon → g.marks ≡ marks_of plan → IsLegal g history
-    → plan.processors ≡ 1 → AnswersAlone history
-AnswersAlone-legal plan g history daemon marks legal one = λ i d known answers.
+pub AnswersAlone-legal : (script : Script) (g : Given) (history : List Entry) → IsDaemon script.daemon → g.marks ≡ marks_of script → IsLegal g history
+    → script.processors ≡ 1 → AnswersAlone history
+AnswersAlone-legal script g history daemon marks legal one = λ i d known answers.
     let e = get_or history i d in
-    let below = answered_by plan g (take i history) (drop (suc i) history) e e.what refl daemon marks
+    let below = answered_by script g (take i history) (drop (suc i) history) e e.what refl daemon marks
     (subst (IsLegal g) (split_at history i d known) legal) answers in
     omega (arith, below, one)
 
 -- and it begins so
-pub Begins-run : (plan : Plan) (g : Given) (history : List Entry) → IsRunOf plan g history → Begins plan g
-Begins-run plan g history run = record { frames = run.frames; sizes = run.sizes; spaces = run.spaces }
+pub Begins-run : (script : Script) (g : Given) (history : List Entry) → IsRunOf script g history → Begins script g
+Begins-run script g history run = record { frames = run.frames; sizes = run.sizes; spaces = run.spaces }

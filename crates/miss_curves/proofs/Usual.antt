@@ -15,7 +15,7 @@ use Rattle.pager_model.specs.declared.tile.Mapping.{Mapping}
 use Rattle.pager_model.specs.declared.tile.Tile.{Tile}
 use Rattle.pager_model.specs.Counts.{is_miss_in, misses_in}
 use Rattle.pager_model.specs.Entries.{names_space, space_part, IsOn}
-use Rattle.pager_model.specs.Images.{image_room, is_in_image, touched_by, still_tiles}
+use Rattle.pager_model.specs.Images.{image_capacity, is_in_image, touched_by, still_tiles}
 use Rattle.pager_model.specs.Legal.{MayFollow, IsLegal, space_at}
 use Rattle.pager_model.specs.Options.{is_that}
 use Rattle.pager_model.specs.Settings.{Given, is_told, faults_at_entry}
@@ -30,13 +30,13 @@ use Rattle.miss_curves.proofs.AllStacks.{followed-named, followed-other}
 abbrev weight : Bool → ℕ
 weight b = cond b 1 0
 
-used-touched : (tile : Option Tile) (image : List Tile) → used_in image_room tile image ≡ touched_by tile image
+used-touched : (tile : Option Tile) (image : List Tile) → used_in image_capacity tile image ≡ touched_by tile image
 used-touched None image = refl
 used-touched (Some t) image = refl
 
 -- What an answer does, by the tile that its page has then, whose size it tells.
 record Same (st : SpaceState) (pages : ℕ → Option Mapping) (image : List Tile) (answered : Answered) (served page : Option ℕ) : Type 0 where
-  same : used_in image_room (tile_at st.sizes pages page) image ≡ touched_by (tile_at st.sizes pages served) image
+  same : used_in image_capacity (tile_at st.sizes pages page) image ≡ touched_by (tile_at st.sizes pages served) image
   counts : missed page (is_in_image (st.images 0) (tile_at st.sizes (pages_of st) page))
       ≡ weight (is_some answered.size && not answered.hit)
 
@@ -64,7 +64,7 @@ untouched false image = refl
 
 -- What an entry does to the image of processor 0, and whether it is a miss.
 record Step (st : SpaceState) (e : Entry) (what : What) : Type 0 where
-  image : image_after st.sizes image_room (pages_after st e.frames what) (page_used e.processor what) (st.images 0)
+  image : image_after st.sizes image_capacity (pages_after st e.frames what) (page_used e.processor what) (st.images 0)
       ≡ touched_by (if 0 == e.processor then used_tile st.sizes (pages_after st e.frames what) what else None)
       (still_tiles st.sizes (pages_after st e.frames what) (st.images 0))
   counts : missed (page_used e.processor what) (is_in_image (st.images 0) (tile_at st.sizes (pages_of st) (page_used e.processor what)))
@@ -113,15 +113,15 @@ pub record IsUsual (f : Follower) (st : SpaceState) (count : ℕ) : Type 0 where
 
 step : (f : Follower) (st : SpaceState) (count : ℕ) (e : Entry) → IsUsual f st count → (is_answer e.what ≡ true → e.processor ≡ 0)
     → SpaceAllows st e
-    → IsUsual (follow st.sizes image_room f e) (space_after st e) (count + weight (is_miss_in e.what))
+    → IsUsual (follow st.sizes image_capacity f e) (space_after st e) (count + weight (is_miss_in e.what))
 step f st count e usual own allowed =
     let both : Step st e e.what = step_what st e e.what own allowed.1 in
     let used : Option ℕ = page_used e.processor e.what in
     record {
       space = ap (λ s. space_after s e) usual.space;
       image =
-          ap (λ s. image_after st.sizes image_room (pages_after s e.frames e.what) used f.image) usual.space
-          ∙ ap (λ ts. image_after st.sizes image_room (pages_after st e.frames e.what) used ts) usual.image
+          ap (λ s. image_after st.sizes image_capacity (pages_after s e.frames e.what) used f.image) usual.space
+          ∙ ap (λ ts. image_after st.sizes image_capacity (pages_after st e.frames e.what) used ts) usual.image
           ∙ both.image;
       misses_are =
           let missed_is : missed used (is_in_image f.image (tile_at st.sizes (pages_of f.space) used)) ≡ weight (is_miss_in e.what) =
@@ -168,11 +168,11 @@ pub sizes-of : (g : Given) (history : List Entry) (s : ℕ) → (space_at g hist
 sizes-of g history s = sizes-kept (empty_state g.sizes (is_told g s) (faults_at_entry g s)) (space_part s history)
 
 abbrev pub usual_at : Given → List Entry → ℕ → Follower
-usual_at g history s = followed g.sizes g s (space_part s history) image_room
+usual_at g history s = followed g.sizes g s (space_part s history) image_capacity
 
 pub record AreUsual (g : Given) (history : List Entry) : Type 0 where
   pub each : (s : ℕ) → (count : ℕ) × IsUsual (usual_at g history s) (space_at g history s) count
-  pub all : misses g history image_room ≡ misses_in history
+  pub all : misses g history image_capacity ≡ misses_in history
 
 alone-before : (history : List Entry) (e : Entry) → AnswersAlone (history ++ e ∷ []) → AnswersAlone history
 alone-before history e alone = λ k d below.
@@ -212,15 +212,15 @@ module _ (g : Given) (history : List Entry) (e : Entry) (may : MayFollow g histo
   other_space s other =
       rw (space_at-other g history e s other)
       (subst (λ f. IsUsual f (space_at g history s) (usual.each s).0)
-      (ap (λ (fs : ℕ → Follower). fs image_room) (sym (followed-other g.sizes g history e s other))) (usual.each s).1)
+      (ap (λ (fs : ℕ → Follower). fs image_capacity) (sym (followed-other g.sizes g history e s other))) (usual.each s).1)
 
   own_space : (s : ℕ) → names_space s e ≡ true → SpaceAllows (space_at g history s) e
       → IsUsual (usual_at g (history ++ e ∷ []) s) (space_at g (history ++ e ∷ []) s) ((usual.each s).0 + w)
   own_space s named allowed =
       rw (space_at-named g history e s named)
       (subst (λ f. IsUsual f (space_after (space_at g history s) e) ((usual.each s).0 + w))
-      (ap (λ z. follow z image_room (usual_at g history s) e) (sizes-of g history s)
-      ∙ ap (λ (fs : ℕ → Follower). fs image_room) (sym (followed-named g.sizes g history e s named)))
+      (ap (λ z. follow z image_capacity (usual_at g history s) e) (sizes-of g history s)
+      ∙ ap (λ (fs : ℕ → Follower). fs image_capacity) (sym (followed-named g.sizes g history e s named)))
       (step (usual_at g history s) (space_at g history s) (usual.each s).0 e (usual.each s).1 own allowed))
 
   each_after : (s : ℕ) → (count : ℕ) × IsUsual (usual_at g (history ++ e ∷ []) s) (space_at g (history ++ e ∷ []) s) count
@@ -235,20 +235,20 @@ module _ (g : Given) (history : List Entry) (e : Entry) (may : MayFollow g histo
       allowed_of (Some t) s named holds = subst (λ n. SpaceAllows (space_at g history n) e) (eqb-true t s named) holds
 
   same_misses : (s : ℕ) → names_space s e ≡ false → (usual_at g (history ++ e ∷ []) s).misses ≡ (usual_at g history s).misses
-  same_misses s other = ap (λ (fs : ℕ → Follower). (fs image_room).misses) (followed-other g.sizes g history e s other)
+  same_misses s other = ap (λ (fs : ℕ → Follower). (fs image_capacity).misses) (followed-other g.sizes g history e s other)
 
   more_misses : (s : ℕ) → names_space s e ≡ true → SpaceAllows (space_at g history s) e
       → (usual_at g (history ++ e ∷ []) s).misses ≡ (usual_at g history s).misses + w
   more_misses s named allowed = omega (arith, (own_space s named allowed).misses_are, (usual.each s).1.misses_are)
 
-  all_after : (o : Option ℕ) → e.space ≡ o → misses g (history ++ e ∷ []) image_room ≡ misses g history image_room + w
+  all_after : (o : Option ℕ) → e.space ≡ o → misses g (history ++ e ∷ []) image_capacity ≡ misses g history image_capacity + w
   all_after None none =
       let silent : is_miss_in e.what ≡ false = miss-named e.space e.frames e.what may.parts none in
-      let same : misses g (history ++ e ∷ []) image_room ≡ misses g history image_room =
+      let same : misses g (history ++ e ∷ []) image_capacity ≡ misses g history image_capacity =
       sum-below (λ s. (usual_at g history s).misses) (λ s. (usual_at g (history ++ e ∷ []) s).misses) (length g.told) (length g.told)
       (omega arith)
       (λ s other. same_misses s (rw none refl)) in
-      same ∙ sym (ap (λ n. misses g history image_room + n) (ap weight silent) ∙ omega arith)
+      same ∙ sym (ap (λ n. misses g history image_capacity + n) (ap weight silent) ∙ omega arith)
   all_after (Some t) names =
       sum-one (λ s. (usual_at g history s).misses) (λ s. (usual_at g (history ++ e ∷ []) s).misses) t w (length g.told)
       (in_some (λ s. s < length g.told) e.space t names may.space)

@@ -4,7 +4,7 @@ use Rattle.followed_space.specs.Follows.{AnswersLine, Followed, Follows}
 use Rattle.pager_model.specs.declared.entry.Entry.{Entry}
 use Rattle.pager_model.specs.declared.tile.Tile.{Tile}
 use Rattle.pager_model.specs.Legal.{IsLegal, space_at}
-use Rattle.pager_model.specs.Plans.{Plan}
+use Rattle.pager_model.specs.Scripts.{Script}
 use Rattle.pager_model.specs.Settings.{Given}
 use Rattle.pager_model.specs.Showing.{Shows, marks_of}
 use Rattle.pager_model.specs.SizeSets.{SizeSet}
@@ -70,13 +70,13 @@ abbrev pub EachComes : Given → List Entry → Type 0
 EachComes g history = (before after : List Entry) (e : Entry) → history ≡ before ++ e ∷ after → Comes g before e
 
 -- a history of a run of a trace, whatever its stores tell and however often they had failed
-pub record IsRunOf (plan : Plan) (g : Given) (history : List Entry) : Type 0 where
-  pub frames : g.frames ≡ plan.frames
-  pub sizes : g.sizes ≡ plan.sizes
-  pub spaces : length g.told ≡ plan.spaces
-  pub marks : g.marks ≡ marks_of plan
+pub record IsRunOf (script : Script) (g : Given) (history : List Entry) : Type 0 where
+  pub frames : g.frames ≡ script.frames
+  pub sizes : g.sizes ≡ script.sizes
+  pub spaces : length g.told ≡ script.spaces
+  pub marks : g.marks ≡ marks_of script
   pub legal : IsLegal g history
-  pub shows : Shows plan history
+  pub shows : Shows script history
 
 -- A count of misses in progress: by these sizes, with these rows and these spaces.
 pub record Counting : Type 0 where
@@ -90,7 +90,7 @@ pub record StandsFor (c : Counting) (g : Given) (history : List Entry) : Type 0 
   pub keeps : KeepsUp c.sizes g c.rows c.spaces history
 
 -- the setting of a run of the trace, as far as the misses go by it
-pub record Begins (plan : Plan) (g : Given) : Type 0 where
-  pub frames : g.frames ≡ plan.frames
-  pub sizes : g.sizes ≡ plan.sizes
-  pub spaces : length g.told ≡ plan.spaces
+pub record Begins (script : Script) (g : Given) : Type 0 where
+  pub frames : g.frames ≡ script.frames
+  pub sizes : g.sizes ≡ script.sizes
+  pub spaces : length g.told ≡ script.spaces

@@ -1,7 +1,7 @@
 -- The text of a trace that a report is for, and for whose spaces there are stores enough, is run: it isn't refused.
 use Rattle.std.proofs.Common.{◌≡◌, ℕ, ◌<◌, ◌≤◌, ◌⊎◌, inl, inr, List, Option, Some, None, IfSome, IsSomeAnd, refl, sym, ap, subst, ◌∙◌, arith}
 use Rattle.std.proofs.lemmas.Option.{none-some, same_Some}
-use Rattle.pager_model.specs.Plans.{Plan}
+use Rattle.pager_model.specs.Scripts.{Script}
 use Rattle.pager_command.specs.declared.form.Report.{Report}
 use Rattle.pager_command.specs.declared.status.TheConstants.{REFUSED, READ_FAULT, MEMORY}
 use Rattle.pager_command.specs.Forms.{IsForOneProcessor, Admits}
@@ -10,10 +10,10 @@ use Rattle.trace_reader.specs.declared.fault.TraceFault.{TraceFault}
 use Rattle.trace_reader.specs.declared.fault.TraceFault.TheVariants.{ReadFault, TooLong, Line, LongLine, NoEnd, TooManyCalls, TooFewStores, OneProcessor, HistoryLine, HistoryNoEnd, NoMemory}
 use Rattle.trace_reader.specs.Refusals.{refusal_of, IsCause}
 use Rattle.trace_reader.proofs.CutTexts.{not_refused}
-use Rattle.trace_reader.proofs.UniqueTexts.{one_plan}
+use Rattle.trace_reader.proofs.UniqueTexts.{one_script}
 
 -- a trace that was read and has more spaces than there are stores is refused so
-pub refused_stores : (report : Report) (left after : Option (List ℕ)) (trace : Plan) (stores : ℕ) (refusal : Option TraceFault)
+pub refused_stores : (report : Report) (left after : Option (List ℕ)) (trace : Script) (stores : ℕ) (refusal : Option TraceFault)
     → WasRead trace left after → Admits report trace
     → (stores < trace.spaces) × (refusal ≡ Some (TooFewStores stores trace.spaces))
     → IfSome left (λ bytes. IsSomeAnd refusal (IsRefused report stores bytes))
@@ -22,7 +22,7 @@ refused_stores report (Some bytes) after trace stores refusal read takes few =
     subst (λ refusal. IsSomeAnd refusal (IsRefused report stores bytes)) (sym few.1) (inr (inr (trace, read.0, takes, few.0, refl)))
 
 -- and one that has more processors than one, with a report that is for one alone
-pub refused_processors : (report : Report) (left after : Option (List ℕ)) (trace : Plan) (stores : ℕ) (refusal : Option TraceFault)
+pub refused_processors : (report : Report) (left after : Option (List ℕ)) (trace : Script) (stores : ℕ) (refusal : Option TraceFault)
     → WasRead trace left after → IsForOneProcessor report
     → (1 < trace.processors) × (refusal ≡ Some (OneProcessor trace.processors))
     → IfSome left (λ bytes. IsSomeAnd refusal (IsRefused report stores bytes))
@@ -31,12 +31,12 @@ refused_processors report (Some bytes) after trace stores refusal read one more 
     subst (λ refusal. IsSomeAnd refusal (IsRefused report stores bytes)) (sym more.1) (inr (inl (trace, read.0, one, more.0, refl)))
 
 -- a trace whose text runs has stores enough, and the report is for it
-pub runs_read : (report : Report) (left after : Option (List ℕ)) (trace : Plan) (stores : ℕ) → IsSomeAnd left (IsRunnable report stores)
+pub runs_read : (report : Report) (left after : Option (List ℕ)) (trace : Script) (stores : ℕ) → IsSomeAnd left (IsRunnable report stores)
     → WasRead trace left after → Admits report trace × (trace.spaces ≤ stores)
 runs_read report None after trace stores runs read = absurd runs
 runs_read report (Some bytes) after trace stores runs read =
-    let same : runs.0 ≡ trace = one_plan runs.0 trace runs.1.0 read.0.0 (sym runs.1.1 ∙ read.0.1) in
-    subst (λ plan. Admits report plan × (plan.spaces ≤ stores)) same (runs.2, runs.3)
+    let same : runs.0 ≡ trace = one_script runs.0 trace runs.1.0 read.0.0 (sym runs.1.1 ∙ read.0.1) in
+    subst (λ script. Admits report script × (script.spaces ≤ stores)) same (runs.2, runs.3)
 
 -- a text that has no refusal is refused for a failed read or for want of memory alone
 pub without_refusal : (refusal : Option TraceFault) (fault : TraceFault) → refusal ≡ None → IsCause refusal fault → (fault ≡ ReadFault → ⊥)
@@ -99,10 +99,10 @@ status_told (HistoryLine number) = inl refl
 status_told HistoryNoEnd = inl refl
 
 -- a text that was read is one that can be run, where its trace is
-pub was_runnable : (report : Report) (stores : ℕ) (left after : Option (List ℕ)) (plan : Plan) → WasRead plan left after → Admits report plan
-    → plan.spaces ≤ stores → WasRunnable report stores left after
-was_runnable report stores None after plan read admitted enough = tt
-was_runnable report stores (Some bytes) after plan read admitted enough = ((plan, read.0, admitted, enough), read.1)
+pub was_runnable : (report : Report) (stores : ℕ) (left after : Option (List ℕ)) (script : Script) → WasRead script left after → Admits report script
+    → script.spaces ≤ stores → WasRunnable report stores left after
+was_runnable report stores None after script read admitted enough = tt
+was_runnable report stores (Some bytes) after script read admitted enough = ((script, read.0, admitted, enough), read.1)
 
 -- a refusal for want of stores, which are fewer than the spaces
 pub counts_stores : (refusal : Option TraceFault) (stores spaces : ℕ) → refusal ≡ Some (TooFewStores stores spaces) → stores < spaces

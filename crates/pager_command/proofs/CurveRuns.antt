@@ -16,13 +16,13 @@ use Rattle.pager_command.specs.Runs.{EndsRun, WasRun, setting_of}
 use Rattle.pager_command.specs.Views.{Replayed}
 
 -- the history of a run is one of a run of its trace, in the setting over its stores
-pub is_run : (run : Replayed) (summary : Summary) → WasRun run summary → IsRunOf run.plan (setting_of run) (entries_in run.history)
+pub is_run : (run : Replayed) (summary : Summary) → WasRun run summary → IsRunOf run.script (setting_of run) (entries_in run.history)
 is_run run summary ran =
     record {
       frames = refl;
       sizes = refl;
-      spaces = length-map (take run.plan.spaces run.stores) (λ (s : Stored). s.told)
-          ∙ length-take-le run.plan.spaces run.stores ran.enough;
+      spaces = length-map (take run.script.spaces run.stores) (λ (s : Stored). s.told)
+          ∙ length-take-le run.script.spaces run.stores ran.enough;
       marks = refl;
       legal = ran.legal;
       shows = ran.shows;
@@ -34,10 +34,10 @@ pub EndsRun-curves : {K : Type 0} (taken : K → Option (List ℕ)) (faults : K 
     → WasRun run summary
     → (status ≡ DONE) ⊎ ((status ≡ WRITE_FAULT) ⊎ (status ≡ MEMORY))
     → (status ≡ MEMORY → after ≡ before)
-    → (status ≡ DONE → (g : Given) → IsRunOf run.plan g (entries_in run.history)
+    → (status ≡ DONE → (g : Given) → IsRunOf run.script g (entries_in run.history)
     → (tiles : List ℕ) × (pages : List ℕ) × AreCurves history_capacities g (entries_in run.history) tiles pages
     × WroteAll (curves_text tiles pages) (taken before) (taken after))
-    → (status ≡ WRITE_FAULT → (g : Given) → IsRunOf run.plan g (entries_in run.history)
+    → (status ≡ WRITE_FAULT → (g : Given) → IsRunOf run.script g (entries_in run.history)
     → (tiles : List ℕ) × (pages : List ℕ) × AreCurves history_capacities g (entries_in run.history) tiles pages
     × WrotePart (curves_text tiles pages) (taken before) (taken after))
     → (status ≡ WRITE_FAULT → faults after ≡ one_more (faults before))

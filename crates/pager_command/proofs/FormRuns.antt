@@ -5,9 +5,9 @@ use Rattle.io_core.specs.Faults.{Rose}
 use Rattle.io_core.proofs.FaultCounts.{rose_by_one}
 use Rattle.pager_core.specs.declared.run_parts.Gathered.{Gathered}
 use Rattle.pager_model.specs.Legal.{entries_in}
-use Rattle.pager_model.specs.Plans.{Plan}
+use Rattle.pager_model.specs.Scripts.{Script}
 use Rattle.pager_model.specs.Stored.{Stored}
-use Rattle.replay_core.specs.Replays.{IsReplay, AreItsCounts}
+use Rattle.pager_core.specs.Replays.{IsReplay, AreItsCounts}
 use Rattle.pager_command.specs.declared.form.Order.{Order}
 use Rattle.pager_command.specs.declared.form.Report.{Report}
 use Rattle.pager_command.specs.declared.outcome.Outcome.{Outcome}
@@ -41,11 +41,11 @@ told_none status refusal none not_refused no_fault =
     }
 
 -- what was gathered of a replay over a store for each space at least can be told
-pub WasRun-gathered : {P : Type 0} (seen : P → Stored) (plan : Plan) (stores : List P) (gathered : Gathered P) → plan.spaces ≤ length stores
-    → IsReplay plan (map seen stores) gathered.history.items (map seen gathered.stores.items)
-    → AreItsCounts plan (map seen stores) gathered.history.items gathered.summary
-    → WasRun (replayed plan (map seen stores) gathered.history.items) gathered.summary
-WasRun-gathered seen plan stores gathered enough run counts =
+pub WasRun-gathered : {P : Type 0} (seen : P → Stored) (script : Script) (stores : List P) (gathered : Gathered P) → script.spaces ≤ length stores
+    → IsReplay script (map seen stores) gathered.history.items (map seen gathered.stores.items)
+    → AreItsCounts script (map seen stores) gathered.history.items gathered.summary
+    → WasRun (replayed script (map seen stores) gathered.history.items) gathered.summary
+WasRun-gathered seen script stores gathered enough run counts =
     record {
       enough = omega (arith, enough, length-map stores seen);
       legal = run.legal;
@@ -55,29 +55,29 @@ WasRun-gathered seen plan stores gathered enough run counts =
 
 -- and so a run was made, however it was told
 pub MadeRun-gathered : {K P : Type 0} (out : OutViews K P) (order : Order) (report : Report) (stores : List P) (end : Ending K P)
-    (plan : Plan) (gathered : Gathered P)
-    → plan.spaces ≤ length stores
-    → IsReplay plan (map out.seen stores) gathered.history.items (map out.seen gathered.stores.items)
-    → AreItsCounts plan (map out.seen stores) gathered.history.items gathered.summary
-    → ComesBy order plan (entries_in gathered.history.items)
+    (script : Script) (gathered : Gathered P)
+    → script.spaces ≤ length stores
+    → IsReplay script (map out.seen stores) gathered.history.items (map out.seen gathered.stores.items)
+    → AreItsCounts script (map out.seen stores) gathered.history.items gathered.summary
+    → ComesBy order script (entries_in gathered.history.items)
     → end.outcome.refusal ≡ None → end.outcome.history ≡ gathered.history → end.outcome.stores ≡ gathered.stores
-    → ((before : List Stored) → WasRun (replayed plan before gathered.history.items) gathered.summary
-    → EndsRun out.taken out.write_faults end.before end.after report (replayed plan before gathered.history.items) end.outcome.status)
-    → MadeRun out order report stores end plan
-MadeRun-gathered out order report stores end plan gathered enough run counts ordered refusal history kept ends =
+    → ((before : List Stored) → WasRun (replayed script before gathered.history.items) gathered.summary
+    → EndsRun out.taken out.write_faults end.before end.after report (replayed script before gathered.history.items) end.outcome.status)
+    → MadeRun out order report stores end script
+MadeRun-gathered out order report stores end script gathered enough run counts ordered refusal history kept ends =
     record {
       refusal = refusal;
       enough = enough;
       run = rw (history, kept) run;
       ordered = rw history ordered;
-      ends = rw history (ends (map out.seen stores) (WasRun-gathered out.seen plan stores gathered enough run counts));
+      ends = rw history (ends (map out.seen stores) (WasRun-gathered out.seen script stores gathered enough run counts));
     }
 
 -- there was no memory for a run of a text that was read
-stopped_for_memory : (report : Report) (left left' : Option (List ℕ)) (faults faults' stores : ℕ) (plan : Plan)
-    → WasRead plan left left' → faults' ≡ faults → Admits report plan → plan.spaces ≤ stores
+stopped_for_memory : (report : Report) (left left' : Option (List ℕ)) (faults faults' stores : ℕ) (script : Script)
+    → WasRead script left left' → faults' ≡ faults → Admits report script → script.spaces ≤ stores
     → IsStopped report left left' faults faults' stores MEMORY None
-stopped_for_memory report left left' faults faults' stores plan read same admitted enough =
+stopped_for_memory report left left' faults faults' stores script read same admitted enough =
     record {
       statuses = inr (inr refl);
       told = told_none MEMORY None refl (λ is. omega (arith, is)) (λ is. omega (arith, is));
@@ -86,7 +86,7 @@ stopped_for_memory report left left' faults faults' stores plan read same admitt
       refused = λ is. absurd (omega (arith, is));
       read_fault = λ is. absurd (omega (arith, is));
       no_fault = λ _. same;
-      memory = λ _ _. was_runnable report stores left left' plan read admitted enough;
+      memory = λ _ _. was_runnable report stores left left' script read admitted enough;
       complete = λ _ _. refl;
     }
 
@@ -111,16 +111,16 @@ module _ {T K P : Type 0} (views : Views T K P) (order : Order) (report : Report
   abbrev Unrun : Type 0
   Unrun = WasStopped views report ran.before ran.after ran.stores ran.outcome
 
-  abbrev Made : Plan → Type 0
-  Made plan = ReadAndMade views order report ran.before ran.after ran.stores ran.outcome plan
+  abbrev Made : Script → Type 0
+  Made script = ReadAndMade views order report ran.before ran.after ran.stores ran.outcome script
 
   -- one was made
-  pub RunsBy-made : (plan : Plan) → ran.outcome.trace ≡ Some plan
-      → WasRead plan (views.left ran.before.source) (views.left ran.after.source)
-      → views.read_faults ran.after.source ≡ views.read_faults ran.before.source → Admits report plan
-      → MadeRun views.out order report ran.stores (ending ran.before.sink ran.after.sink ran.outcome) plan → Promised
-  RunsBy-made plan trace read no_fault admitted made =
-      let all : Made plan = record { read = read; no_read_fault = no_fault; admitted = admitted; made = made } in
+  pub RunsBy-made : (script : Script) → ran.outcome.trace ≡ Some script
+      → WasRead script (views.left ran.before.source) (views.left ran.after.source)
+      → views.read_faults ran.after.source ≡ views.read_faults ran.before.source → Admits report script
+      → MadeRun views.out order report ran.stores (ending ran.before.sink ran.after.sink ran.outcome) script → Promised
+  RunsBy-made script trace read no_fault admitted made =
+      let all : Made script = record { read = read; no_read_fault = no_fault; admitted = admitted; made = made } in
       subst (λ t. MatchOption t Unrun Made) (sym trace) all
 
   unrun : Stopped (length ran.stores) ran.outcome.status ran.outcome.refusal → ran.outcome.history.items ≡ []
@@ -138,23 +138,23 @@ module _ {T K P : Type 0} (views : Views T K P) (order : Order) (report : Report
       subst (λ t. MatchOption t Unrun Made) (sym trace) (unrun why no_history same unwritten)
 
   -- none was made of a text that was read, for want of memory
-  pub RunsBy-unmade : (plan : Plan) → WasRead plan (views.left ran.before.source) (views.left ran.after.source)
-      → views.read_faults ran.after.source ≡ views.read_faults ran.before.source → plan.spaces ≤ length ran.stores → Admits report plan
+  pub RunsBy-unmade : (script : Script) → WasRead script (views.left ran.before.source) (views.left ran.after.source)
+      → views.read_faults ran.after.source ≡ views.read_faults ran.before.source → script.spaces ≤ length ran.stores → Admits report script
       → ran.outcome.status ≡ MEMORY → ran.outcome.refusal ≡ None → ran.outcome.trace ≡ None → ran.outcome.history.items ≡ []
       → map views.out.seen ran.outcome.stores.items ≡ map views.out.seen ran.stores → ran.after.sink ≡ ran.before.sink → Promised
-  RunsBy-unmade plan read no_fault enough admitted status_is refusal_is trace no_history same unwritten =
+  RunsBy-unmade script read no_fault enough admitted status_is refusal_is trace no_history same unwritten =
       let why : Stopped (length ran.stores) ran.outcome.status ran.outcome.refusal =
-      rw (status_is, refusal_is) (stopped_for_memory report _ _ _ _ _ plan read no_fault admitted enough) in
+      rw (status_is, refusal_is) (stopped_for_memory report _ _ _ _ _ script read no_fault admitted enough) in
       subst (λ t. MatchOption t Unrun Made) (sym trace) (unrun why no_history same unwritten)
 
   -- what follows where none was made, and where one was, follows
   either : (Q : Type 0) → Promised → (Stopped (length ran.stores) ran.outcome.status ran.outcome.refusal → Q)
-      → ((plan : Plan) → Made plan → Q) → Q
+      → ((script : Script) → Made script → Q) → Q
   either Q runs stopped made = by_trace ran.outcome.trace runs
     where
-      by_trace : (trace : Option Plan) → MatchOption trace Unrun Made → Q
+      by_trace : (trace : Option Script) → MatchOption trace Unrun Made → Q
       by_trace None holds = stopped holds.why
-      by_trace (Some plan) holds = made plan holds
+      by_trace (Some script) holds = made script holds
 
   pub RunsBy-status : Promised → IsStatus ran.outcome.status
   RunsBy-status runs = either (IsStatus ran.outcome.status) runs
@@ -162,16 +162,16 @@ module _ {T K P : Type 0} (views : Views T K P) (order : Order) (report : Report
         | inl refused ↦ inr (inr (inl refused))
         | inr other ↦ elim other [ inl fault ↦ inr (inr (inr (inl fault))) | inr memory ↦ inr (inr (inr (inr (inl memory)))) ]
       ])
-      (λ plan all. made_status ran.outcome.status (made_statuses report ran.outcome.status all.made.ends.ended))
+      (λ script all. made_status ran.outcome.status (made_statuses report ran.outcome.status all.made.ends.ended))
 
   pub RunsBy-command : Promised → ran.outcome.status ≢ USAGE
   RunsBy-command runs = either (ran.outcome.status ≢ USAGE) runs
       (λ stop is. (let which = stop.statuses in omega (arith, which, is)))
-      (λ plan all is. (let which = made_statuses report ran.outcome.status all.made.ends.ended in omega (arith, which, is)))
+      (λ script all is. (let which = made_statuses report ran.outcome.status all.made.ends.ended in omega (arith, which, is)))
 
   pub RunsBy-told : Promised → IsTold ran.outcome.status ran.outcome.refusal
   RunsBy-told runs = either (IsTold ran.outcome.status ran.outcome.refusal) runs (λ stop. stop.told)
-      (λ plan all. (let which = made_statuses report ran.outcome.status all.made.ends.ended in
+      (λ script all. (let which = made_statuses report ran.outcome.status all.made.ends.ended in
       told_none ran.outcome.status ran.outcome.refusal all.made.refusal (λ is. omega (arith, which, is)) (λ is. omega (arith, which, is))))
 
   pub RunsBy-complete : Promised → IsSomeAnd (views.left ran.before.source) (IsRunnable report (length ran.stores))
@@ -180,7 +180,7 @@ module _ {T K P : Type 0} (views : Views T K P) (order : Order) (report : Report
       → (ran.outcome.status ≡ DONE) ⊎ (ran.outcome.status ≡ MEMORY)
   RunsBy-complete runs text no_read no_write = either ((ran.outcome.status ≡ DONE) ⊎ (ran.outcome.status ≡ MEMORY)) runs
       (λ stop. inr (stop.complete text no_read))
-      (λ plan all. (let ends = all.made.ends in
+      (λ script all. (let ends = all.made.ends in
       elim (made_statuses report ran.outcome.status ends.ended) [
         | inl done ↦ inl done
         | inr other ↦ elim other [ inl failed ↦ absurd (no_write (rw (ends.write_fault failed) (rose_by_one (views.out.write_faults ran.before.sink)))) | inr memory ↦ inr memory ]

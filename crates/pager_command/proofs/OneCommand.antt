@@ -12,10 +12,10 @@ use Rattle.pager_command.specs.declared.form.Command.TheVariants.{Run, Make, Lar
 use Rattle.pager_command.specs.declared.form.Form.{Form}
 use Rattle.pager_command.specs.declared.form.Making.{Making}
 use Rattle.pager_command.specs.declared.form.Order.{Order}
-use Rattle.pager_command.specs.declared.form.Order.TheVariants.{InTurns, Threads}
+use Rattle.pager_command.specs.declared.form.Order.TheVariants.{InOneThread, Threads}
 use Rattle.pager_command.specs.declared.form.Report.{Report}
 use Rattle.pager_command.specs.declared.form.Report.TheVariants.{Answers as Answered, Plan as Planned, Curves}
-use Rattle.pager_command.specs.declared.form.Turns.TheVariants.{Lines, Drawn}
+use Rattle.pager_command.specs.declared.form.Schedule.TheVariants.{Lines, Drawn}
 use Rattle.pager_command.specs.Forms.{AreCheckWords, AreLargeWords, AreMakingWords, AreOfCommand, AreStreamWords, AreWords, IsSeedInRange, IsSizeInRange, Spell, are_of, large_words, making_words, parts_words, words_of}
 use Rattle.stream_run.specs.declared.report.StreamReport.{StreamReport}
 use Rattle.stream_run.specs.declared.report.StreamReport.TheVariants.{Counts as StreamCounts, Curves as StreamCurves}
@@ -44,32 +44,32 @@ letter words = get_or (get_or words 0 []) 0 0
 -- the form that words ask for, if they are a form's
 abbrev form_by : List (List ℕ) → Form
 form_by words =
-    if letter words == 111 then asked (InTurns Lines) (Answered (parts_by (drop 1 words)))
-    else if letter words == 116 then asked (InTurns (Drawn (digits_value 10 (get_or words 1 [])))) (Answered (parts_by (drop 2 words)))
+    if letter words == 111 then asked (InOneThread Lines) (Answered (parts_by (drop 1 words)))
+    else if letter words == 116 then asked (InOneThread (Drawn (digits_value 10 (get_or words 1 [])))) (Answered (parts_by (drop 2 words)))
     else if letter words == 114 then asked Threads (Answered (parts_by (drop 1 words)))
-    else if letter words == 112 then asked (InTurns Lines) (Planned (digits_value 10 (get_or words 1 [])))
-    else asked (InTurns Lines) Curves
+    else if letter words == 112 then asked (InOneThread Lines) (Planned (digits_value 10 (get_or words 1 [])))
+    else asked (InOneThread Lines) Curves
 
 back : (order : Order) (report : Report) (words : List (List ℕ)) → words_of order report ≡ Some words → IsSeedInRange order
     → IsSizeInRange report → form_by words ≡ asked order report
-back (InTurns Lines) (Answered parts) words are seed size =
+back (InOneThread Lines) (Answered parts) words are seed size =
     let same : codes "order" ∷ parts_words parts ≡ words = same_Some _ words are in
-    subst (λ ws. form_by ws ≡ asked (InTurns Lines) (Answered parts)) same (ap (λ p. asked (InTurns Lines) (Answered p)) (back_parts parts))
-back (InTurns (Drawn n)) (Answered parts) words are seed size =
+    subst (λ ws. form_by ws ≡ asked (InOneThread Lines) (Answered parts)) same (ap (λ p. asked (InOneThread Lines) (Answered p)) (back_parts parts))
+back (InOneThread (Drawn n)) (Answered parts) words are seed size =
     let same : codes "turns" ∷ decimal n ∷ parts_words parts ≡ words = same_Some _ words are in
-    subst (λ ws. form_by ws ≡ asked (InTurns (Drawn n)) (Answered parts)) same
-    (ap (λ k. asked (InTurns (Drawn k)) (Answered (parts_by (parts_words parts)))) (back_number n seed)
-    ∙ ap (λ p. asked (InTurns (Drawn n)) (Answered p)) (back_parts parts))
+    subst (λ ws. form_by ws ≡ asked (InOneThread (Drawn n)) (Answered parts)) same
+    (ap (λ k. asked (InOneThread (Drawn k)) (Answered (parts_by (parts_words parts)))) (back_number n seed)
+    ∙ ap (λ p. asked (InOneThread (Drawn n)) (Answered p)) (back_parts parts))
 back Threads (Answered parts) words are seed size =
     let same : codes "replay" ∷ parts_words parts ≡ words = same_Some _ words are in
     subst (λ ws. form_by ws ≡ asked Threads (Answered parts)) same (ap (λ p. asked Threads (Answered p)) (back_parts parts))
-back (InTurns Lines) (Planned n) words are seed size =
+back (InOneThread Lines) (Planned n) words are seed size =
     let same : codes "plan" ∷ decimal n ∷ [] ≡ words = same_Some _ words are in
-    subst (λ ws. form_by ws ≡ asked (InTurns Lines) (Planned n)) same
-    (ap (λ k. asked (InTurns Lines) (Planned k)) (back_number n (omega (arith, size.1))))
-back (InTurns Lines) Curves words are seed size =
+    subst (λ ws. form_by ws ≡ asked (InOneThread Lines) (Planned n)) same
+    (ap (λ k. asked (InOneThread Lines) (Planned k)) (back_number n (omega (arith, size.1))))
+back (InOneThread Lines) Curves words are seed size =
     let same : codes "curve" ∷ [] ≡ words = same_Some _ words are in
-    subst (λ ws. form_by ws ≡ asked (InTurns Lines) Curves) same refl
+    subst (λ ws. form_by ws ≡ asked (InOneThread Lines) Curves) same refl
 back order report words are seed size = absurd (none-some words are)
 
 back_form : (words : List (List ℕ)) (form : Form) → Spell words form → form_by words ≡ form
@@ -83,15 +83,15 @@ abbrev is_others : ℕ → Bool
 is_others n = (n == 108) || ((n == 109) || (n == 115))
 
 begins : (order : Order) (report : Report) (words : List (List ℕ)) → words_of order report ≡ Some words → is_others (letter words) ≡ false
-begins (InTurns Lines) (Answered parts) words are =
+begins (InOneThread Lines) (Answered parts) words are =
     ap (λ ws. is_others (letter ws)) (sym (same_Some (codes "order" ∷ parts_words parts) words are))
-begins (InTurns (Drawn n)) (Answered parts) words are =
+begins (InOneThread (Drawn n)) (Answered parts) words are =
     ap (λ ws. is_others (letter ws)) (sym (same_Some (codes "turns" ∷ decimal n ∷ parts_words parts) words are))
 begins Threads (Answered parts) words are =
     ap (λ ws. is_others (letter ws)) (sym (same_Some (codes "replay" ∷ parts_words parts) words are))
-begins (InTurns Lines) (Planned n) words are =
+begins (InOneThread Lines) (Planned n) words are =
     ap (λ ws. is_others (letter ws)) (sym (same_Some (codes "plan" ∷ decimal n ∷ []) words are))
-begins (InTurns Lines) Curves words are =
+begins (InOneThread Lines) Curves words are =
     ap (λ ws. is_others (letter ws)) (sym (same_Some (codes "curve" ∷ []) words are))
 begins order report words are = absurd (none-some words are)
 
@@ -159,15 +159,15 @@ abbrev second : List (List ℕ) → ℕ
 second words = get_or (get_or words 0 []) 1 0
 
 begins_otherwise : (order : Order) (report : Report) (words : List (List ℕ)) → words_of order report ≡ Some words → (second words == 104) ≡ false
-begins_otherwise (InTurns Lines) (Answered parts) words are =
+begins_otherwise (InOneThread Lines) (Answered parts) words are =
     ap (λ ws. second ws == 104) (sym (same_Some (codes "order" ∷ parts_words parts) words are))
-begins_otherwise (InTurns (Drawn n)) (Answered parts) words are =
+begins_otherwise (InOneThread (Drawn n)) (Answered parts) words are =
     ap (λ ws. second ws == 104) (sym (same_Some (codes "turns" ∷ decimal n ∷ parts_words parts) words are))
 begins_otherwise Threads (Answered parts) words are =
     ap (λ ws. second ws == 104) (sym (same_Some (codes "replay" ∷ parts_words parts) words are))
-begins_otherwise (InTurns Lines) (Planned n) words are =
+begins_otherwise (InOneThread Lines) (Planned n) words are =
     ap (λ ws. second ws == 104) (sym (same_Some (codes "plan" ∷ decimal n ∷ []) words are))
-begins_otherwise (InTurns Lines) Curves words are =
+begins_otherwise (InOneThread Lines) Curves words are =
     ap (λ ws. second ws == 104) (sym (same_Some (codes "curve" ∷ []) words are))
 begins_otherwise order report words are = absurd (none-some words are)
 

@@ -18,32 +18,32 @@ use Rattle.pager_command.specs.Runs.{EndsRun, WasRun, setting_of}
 use Rattle.pager_command.specs.Views.{Replayed}
 
 -- the history of a run is one over the frames of its trace
-pub is_over : (run : Replayed) (summary : Summary) → HasText run.plan → WasRun run summary
-    → IsOver run.plan.frames (setting_of run) (entries_in run.history)
+pub is_over : (run : Replayed) (summary : Summary) → HasText run.script → WasRun run summary
+    → IsOver run.script.frames (setting_of run) (entries_in run.history)
 is_over run summary has ran =
     record {
       frames_are = refl;
-      processors = actors_few run.plan has;
+      processors = actors_few run.script has;
       spaces = omega (
         arith,
         has.spaces_in.1,
-        length-map (take run.plan.spaces run.stores) (λ (s : Stored). s.told),
-        length-take run.plan.spaces run.stores,
+        length-map (take run.script.spaces run.stores) (λ (s : Stored). s.told),
+        length-take run.script.spaces run.stores,
       );
       legal = ran.legal;
     }
 
--- a plan of the frames at the end of a run was written, or a part of it, or there was no memory for it
+-- a script of the frames at the end of a run was written, or a part of it, or there was no memory for it
 pub EndsRun-planned : {K : Type 0} (taken : K → Option (List ℕ)) (faults : K → ℕ) (before after : K) (size : ℕ) (run : Replayed)
     (summary : Summary) (status : ℕ)
-    → HasText run.plan → WasRun run summary
+    → HasText run.script → WasRun run summary
     → (status ≡ DONE) ⊎ ((status ≡ WRITE_FAULT) ⊎ (status ≡ MEMORY))
     → (status ≡ MEMORY → after ≡ before)
-    → (status ≡ DONE → (g : Given) → IsOver run.plan.frames g (entries_in run.history)
-    → (planned : Option Emptying) × IsPlanned (frames_at g (entries_in run.history)) run.plan.frames size planned
+    → (status ≡ DONE → (g : Given) → IsOver run.script.frames g (entries_in run.history)
+    → (planned : Option Emptying) × IsPlanned (frames_at g (entries_in run.history)) run.script.frames size planned
     × WroteAll (plan_text planned) (taken before) (taken after))
-    → (status ≡ WRITE_FAULT → (g : Given) → IsOver run.plan.frames g (entries_in run.history)
-    → (planned : Option Emptying) × IsPlanned (frames_at g (entries_in run.history)) run.plan.frames size planned
+    → (status ≡ WRITE_FAULT → (g : Given) → IsOver run.script.frames g (entries_in run.history)
+    → (planned : Option Emptying) × IsPlanned (frames_at g (entries_in run.history)) run.script.frames size planned
     × WrotePart (plan_text planned) (taken before) (taken after))
     → (status ≡ WRITE_FAULT → faults after ≡ one_more (faults before))
     → (status ≢ WRITE_FAULT → faults after ≡ faults before)

@@ -13,11 +13,11 @@ use Rattle.pager_command.specs.Runs.{EndsRun, Prints, WasRun}
 use Rattle.pager_command.specs.Views.{Replayed}
 
 -- the text of the answers, of the history where the parts have it, and of the counts is what a report of these parts prints
-pub prints_answers : (parts : Parts) (run : Replayed) (summary : Summary) (processors : ℕ) → WasRun run summary → processors ≡ run.plan.processors
+pub prints_answers : (parts : Parts) (run : Replayed) (summary : Summary) (processors : ℕ) → WasRun run summary → processors ≡ run.script.processors
     → Prints (Answers parts) run (out_text (has_history parts) processors run.history summary)
 prints_answers parts run summary processors ran same =
     ap (λ n. out_text (has_history parts) n run.history summary) same
-    ∙ ap (λ (s : Summary). out_text (has_history parts) run.plan.processors run.history s) ran.counts
+    ∙ ap (λ (s : Summary). out_text (has_history parts) run.script.processors run.history s) ran.counts
 
 pub prints_counts : (run : Replayed) (summary : Summary) → WasRun run summary → Prints Counts run (summary_text summary)
 prints_counts run summary ran = ap summary_text ran.counts

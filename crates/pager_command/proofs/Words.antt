@@ -10,10 +10,10 @@ use Rattle.stream_run.specs.declared.report.StreamReport.{StreamReport}
 use Rattle.pager_command.specs.declared.form.Making.{Making}
 use Rattle.pager_command.specs.declared.form.Form.{Form}
 use Rattle.pager_command.specs.declared.form.Order.{Order}
-use Rattle.pager_command.specs.declared.form.Order.TheVariants.{InTurns, Threads}
+use Rattle.pager_command.specs.declared.form.Order.TheVariants.{InOneThread, Threads}
 use Rattle.pager_command.specs.declared.form.Report.{Report}
 use Rattle.pager_command.specs.declared.form.Report.TheVariants.{Answers as Answered, Plan as Planned, Curves}
-use Rattle.pager_command.specs.declared.form.Turns.TheVariants.{Lines, Drawn}
+use Rattle.pager_command.specs.declared.form.Schedule.TheVariants.{Lines, Drawn}
 use Rattle.pager_command.specs.Forms.{AreBehind, AreStreamWords, AreWords, IsForm, Spell, are_of, making_words, parts_words, words_of}
 
 -- a list of one word is this word exactly where the word's bytes are equal
@@ -127,11 +127,11 @@ none_of_five words d some not_order not_turns not_replay not_plan not_curve form
     first all same = word_at words d all 0 (omega (arith, some)) (sym (same_Some all (are_of words) same))
 
     none : (order : Order) (report : Report) → words_of order report ≡ Some (are_of words) → ⊥
-    none (InTurns Lines) (Answered parts) are = not_order (first (codes "order" ∷ parts_words parts) are)
-    none (InTurns (Drawn n)) (Answered parts) are = not_turns (first (codes "turns" ∷ decimal n ∷ parts_words parts) are)
+    none (InOneThread Lines) (Answered parts) are = not_order (first (codes "order" ∷ parts_words parts) are)
+    none (InOneThread (Drawn n)) (Answered parts) are = not_turns (first (codes "turns" ∷ decimal n ∷ parts_words parts) are)
     none Threads (Answered parts) are = not_replay (first (codes "replay" ∷ parts_words parts) are)
-    none (InTurns Lines) (Planned n) are = not_plan (first (codes "plan" ∷ decimal n ∷ []) are)
-    none (InTurns Lines) Curves are = not_curve (first (codes "curve" ∷ []) are)
+    none (InOneThread Lines) (Planned n) are = not_plan (first (codes "plan" ∷ decimal n ∷ []) are)
+    none (InOneThread Lines) Curves are = not_curve (first (codes "curve" ∷ []) are)
     none order report are = absurd (none-some (are_of words) are)
 
 -- what the word behind `stream` asks for, the words do

@@ -6,7 +6,7 @@ use Rattle.history_check.specs.declared.verdict.Verdict.TheVariants.{Yes, No}
 use Rattle.history_check.specs.Texts.{AreRefused, AreTexts, IsJudgeable, most_bytes}
 use Rattle.history_check.specs.Verdicts.{IsVerdict}
 use Rattle.pager_model.specs.Legal.{entries_in}
-use Rattle.pager_model.specs.Plans.{Plan}
+use Rattle.pager_model.specs.Scripts.{Script}
 use Rattle.report_text.specs.VerdictText.{verdict_text}
 use Rattle.report_text.specs.Written.{WroteAll, WrotePart}
 use Rattle.trace_reader.specs.declared.fault.TraceFault.{TraceFault}
@@ -39,13 +39,13 @@ bad_in (No entry) = Some entry
 -- and its line was written, or a part of it.
 pub record Judged {T K P : Type 0} (views : Views T K P) (before after : Ends T K) (stores : List P) (outcome : Outcome P) (verdict : Verdict)
     : Type 0 where
-  pub plan : Plan
-  pub trace : outcome.trace ≡ Some plan
+  pub script : Script
+  pub trace : outcome.trace ≡ Some script
   pub refusal : outcome.refusal ≡ None
   pub read : IfSome (views.left before.source)
-      (λ bytes. AreTexts bytes plan outcome.history.items × (length bytes ≤ most_bytes) × (views.left after.source ≡ Some []))
+      (λ bytes. AreTexts bytes script outcome.history.items × (length bytes ≤ most_bytes) × (views.left after.source ≡ Some []))
   pub no_read_fault : views.read_faults after.source ≡ views.read_faults before.source
-  pub is : IsVerdict plan (entries_in outcome.history.items) verdict
+  pub is : IsVerdict script (entries_in outcome.history.items) verdict
   pub same_stores : map views.out.seen outcome.stores.items ≡ map views.out.seen stores
   pub ended : (outcome.status ≡ DONE) ⊎ (outcome.status ≡ WRITE_FAULT)
   pub wrote : outcome.status ≡ DONE → WroteAll (verdict_text (bad_in verdict)) (views.out.taken before.sink) (views.out.taken after.sink)

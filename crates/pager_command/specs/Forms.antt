@@ -2,9 +2,9 @@
 use Rattle.std.specs.Prelude.{ℕ, ◌≡◌, ◌^◌, ◌<◌, ◌≤◌, List, [], ◌∷◌, map, Option, Some, None, codes, decimal}
 use Rattle.std.specs.Borrow.{Bor}
 use Rattle.pager_model.specs.declared.entry.Entry.{Entry}
-use Rattle.pager_model.specs.Plans.{Plan}
+use Rattle.pager_model.specs.Scripts.{Script}
 use Rattle.pager_model.specs.Showing.{IsFiled}
-use Rattle.pager_model.specs.TurnOrders.{IsSeeded}
+use Rattle.pager_model.specs.Schedules.{IsSeeded}
 use Rattle.report_text.specs.declared.report.Parts.{Parts}
 use Rattle.report_text.specs.declared.report.Parts.TheVariants.{Answers, AnswersAndHistory}
 use Rattle.pager_command.specs.declared.form.Command.{Command}
@@ -12,10 +12,10 @@ use Rattle.pager_command.specs.declared.form.Command.TheVariants.{Run, Make, Lar
 use Rattle.pager_command.specs.declared.form.Form.{Form}
 use Rattle.pager_command.specs.declared.form.Making.{Making}
 use Rattle.pager_command.specs.declared.form.Order.{Order}
-use Rattle.pager_command.specs.declared.form.Order.TheVariants.{InTurns, Threads}
+use Rattle.pager_command.specs.declared.form.Order.TheVariants.{InOneThread, Threads}
 use Rattle.pager_command.specs.declared.form.Report.{Report}
 use Rattle.pager_command.specs.declared.form.Report.TheVariants.{Answers as Answered, Counts, Plan as Planned, Curves}
-use Rattle.pager_command.specs.declared.form.Turns.TheVariants.{Lines, Drawn}
+use Rattle.pager_command.specs.declared.form.Schedule.TheVariants.{Lines, Drawn}
 use Rattle.stream_run.specs.declared.report.StreamReport.{StreamReport}
 use Rattle.stream_run.specs.declared.report.StreamReport.TheVariants.{Counts as StreamCounts, Curves as StreamCurves}
 use Rattle.trace_make.specs.Made.{CanMake}
@@ -27,17 +27,17 @@ parts_words AnswersAndHistory = codes "--history" ∷ []
 
 -- the words that ask for an order and a report together, where some do
 abbrev pub words_of : Order → Report → Option (List (List ℕ))
-words_of (InTurns Lines) (Answered parts) = Some (codes "order" ∷ parts_words parts)
-words_of (InTurns (Drawn seed)) (Answered parts) = Some (codes "turns" ∷ decimal seed ∷ parts_words parts)
+words_of (InOneThread Lines) (Answered parts) = Some (codes "order" ∷ parts_words parts)
+words_of (InOneThread (Drawn seed)) (Answered parts) = Some (codes "turns" ∷ decimal seed ∷ parts_words parts)
 words_of Threads (Answered parts) = Some (codes "replay" ∷ parts_words parts)
-words_of (InTurns Lines) (Planned size) = Some (codes "plan" ∷ decimal size ∷ [])
-words_of (InTurns Lines) Curves = Some (codes "curve" ∷ [])
+words_of (InOneThread Lines) (Planned size) = Some (codes "plan" ∷ decimal size ∷ [])
+words_of (InOneThread Lines) Curves = Some (codes "curve" ∷ [])
 words_of order report = None
 
 -- the seed of an order that has one has 64 bits
 abbrev pub IsSeedInRange : Order → Type 0
-IsSeedInRange (InTurns Lines) = Unit {0}
-IsSeedInRange (InTurns (Drawn seed)) = seed < 2 ^ 64
+IsSeedInRange (InOneThread Lines) = Unit {0}
+IsSeedInRange (InOneThread (Drawn seed)) = seed < 2 ^ 64
 IsSeedInRange Threads = Unit {0}
 
 -- the size of a report that has one is of more than a page
@@ -77,22 +77,22 @@ IsForOneProcessor (Planned size) = ⊥
 IsForOneProcessor Curves = Unit {0}
 
 -- the trace is one that the report is for
-abbrev pub Admits : Report → Plan → Type 0
-Admits report plan = IsForOneProcessor report → plan.processors ≡ 1
+abbrev pub Admits : Report → Script → Type 0
+Admits report script = IsForOneProcessor report → script.processors ≡ 1
 
--- the history comes in this order: of the lines, or of turns that are drawn from the seed; nothing is said of the order in which threads come
+-- the history comes in this order: of the lines, or one that is drawn from the seed; nothing is said of the order in which threads come
 -- to the locks
-abbrev pub ComesBy : Order → Plan → List Entry → Type 0
-ComesBy (InTurns Lines) plan history = IsFiled plan history
-ComesBy (InTurns (Drawn seed)) plan history = IsSeeded plan seed history
-ComesBy Threads plan history = Unit {0}
+abbrev pub ComesBy : Order → Script → List Entry → Type 0
+ComesBy (InOneThread Lines) script history = IsFiled script history
+ComesBy (InOneThread (Drawn seed)) script history = IsSeeded script seed history
+ComesBy Threads script history = Unit {0}
 
 -- the words that ask for a trace to be made: the number that it is made from, and how many calls, processors, spaces and frames it has
 abbrev pub making_words : Making → List (List ℕ)
 making_words m =
     codes "make" ∷ decimal m.number ∷ decimal m.calls ∷ decimal m.processors ∷ decimal m.spaces ∷ decimal m.frames ∷ []
 
--- the words that ask for a large trace to be made from a number and run in turns that are drawn from a seed
+-- the words that ask for a large trace to be made from a number and run by a schedule that is drawn from a seed
 abbrev pub large_words : (number seed : ℕ) → List (List ℕ)
 large_words number seed = codes "large" ∷ decimal number ∷ decimal seed ∷ []
 
@@ -102,7 +102,7 @@ pub record AreMakingWords (words : List (Bor (List ℕ))) (m : Making) : Type 0 
   pub number : m.number < 2 ^ 64
   pub can : CanMake m.calls m.processors m.spaces m.frames
 
--- The words ask for the large trace of this number to be run in turns that are drawn from this seed.
+-- The words ask for the large trace of this number to be run by a schedule that is drawn from this seed.
 pub record AreLargeWords (words : List (Bor (List ℕ))) (number seed : ℕ) : Type 0 where
   pub are : are_of words ≡ large_words number seed
   pub number_in : number < 2 ^ 64

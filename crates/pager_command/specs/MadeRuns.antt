@@ -1,16 +1,16 @@
 -- What the commands that make a trace promise.
 use Rattle.std.specs.Prelude.{ℕ, ◌≡◌, ◌≢◌, ◌<◌, ◌≤◌, ◌⊎◌, List, [], length, map, Option, Some, None, MatchOption}
 use Rattle.io_core.specs.Faults.{one_more, Rose}
-use Rattle.pager_model.specs.Plans.{Plan}
+use Rattle.pager_model.specs.Scripts.{Script}
 use Rattle.pager_model.specs.TraceText.{text_of}
 use Rattle.report_text.specs.Written.{WroteAll, WrotePart}
 use Rattle.trace_make.specs.Made.{made}
 use Rattle.trace_reader.specs.declared.fault.TraceFault.{TraceFault}
 use Rattle.trace_reader.specs.declared.fault.TraceFault.TheVariants.{TooFewStores}
 use Rattle.pager_command.specs.declared.form.Making.{Making}
-use Rattle.pager_command.specs.declared.form.Order.TheVariants.{InTurns}
+use Rattle.pager_command.specs.declared.form.Order.TheVariants.{InOneThread}
 use Rattle.pager_command.specs.declared.form.Report.TheVariants.{Counts}
-use Rattle.pager_command.specs.declared.form.Turns.TheVariants.{Drawn}
+use Rattle.pager_command.specs.declared.form.Schedule.TheVariants.{Drawn}
 use Rattle.pager_command.specs.declared.status.TheConstants.{DONE, REFUSED, MEMORY, WRITE_FAULT}
 use Rattle.pager_command.specs.Runs.{MadeNone, MadeRun}
 use Rattle.pager_command.specs.Views.{Ending, OutViews}
@@ -20,7 +20,7 @@ abbrev pub made_text : Making → List ℕ
 made_text m = text_of (made m.number m.calls m.processors m.spaces m.frames)
 
 -- the large trace of a number: 100,000 calls of four processors on four spaces, over 8,192 frames
-unfoldable pub large_trace : ℕ → Plan
+unfoldable pub large_trace : ℕ → Script
 large_trace number = made number 100000 4 4 8192
 
 -- What making a trace and writing its text promises.
@@ -54,10 +54,10 @@ LacksForLarge stores status refusal =
     ((stores < 4) × (status ≡ REFUSED) × (refusal ≡ Some (TooFewStores stores 4)))
     ⊎ ((4 ≤ stores) × (status ≡ MEMORY) × (refusal ≡ None))
 
--- What making the large trace, running it in drawn turns and writing the counts promises. Without a trace no run was made, and it is said why;
+-- What making the large trace, running it by a drawn schedule and writing the counts promises. Without a trace no run was made, and it is said why;
 -- with one it is the large one, and a run of it was made.
 abbrev pub RunsLarge : {K P : Type 0} → OutViews K P → (number seed : ℕ) → List P → Ending K P → Type 0
 RunsLarge out number seed stores end =
     MatchOption end.outcome.trace
     (LacksForLarge (length stores) end.outcome.status end.outcome.refusal × MadeNone out stores end)
-    (λ plan. (plan ≡ large_trace number) × MadeRun out (InTurns (Drawn seed)) Counts stores end plan)
+    (λ script. (script ≡ large_trace number) × MadeRun out (InOneThread (Drawn seed)) Counts stores end script)

@@ -7,13 +7,13 @@ use Rattle.miss_curves.specs.Curves.{AreCurves, history_capacities}
 use Rattle.pager_model.specs.declared.summary.Summary.{Summary}
 use Rattle.pager_model.specs.Counts.{counts}
 use Rattle.pager_model.specs.Legal.{IsLegal, entries_in, frames_at}
-use Rattle.pager_model.specs.Plans.{Plan}
+use Rattle.pager_model.specs.Scripts.{Script}
 use Rattle.pager_model.specs.PrintedText.{out_text, summary_text}
 use Rattle.pager_model.specs.Settings.{Given}
 use Rattle.pager_model.specs.Showing.{Shows}
 use Rattle.pager_model.specs.Stores.{setting_over}
 use Rattle.pager_model.specs.TraceText.{IsTextOf}
-use Rattle.replay_core.specs.Replays.{IsReplay, AreItsCounts}
+use Rattle.pager_core.specs.Replays.{IsReplay, AreItsCounts}
 use Rattle.report_text.specs.CurveText.{curves_text}
 use Rattle.report_text.specs.Parts.{has_history}
 use Rattle.report_text.specs.PlanText.{plan_text}
@@ -31,17 +31,17 @@ use Rattle.trace_reader.specs.Refusals.{refusal_of}
 
 -- the bytes are the text of a trace that the report is for, and for whose spaces there are stores enough
 abbrev pub IsRunnable : Report → ℕ → List ℕ → Type 0
-IsRunnable report stores bytes = (plan : Plan) × IsTextOf bytes plan × Admits report plan × (plan.spaces ≤ stores)
+IsRunnable report stores bytes = (script : Script) × IsTextOf bytes script × Admits report script × (script.spaces ≤ stores)
 
 -- the bytes are the text of a trace of more processors than one, the report is for one alone, and the fault says how many
 abbrev pub HasTooManyProcessors : Report → List ℕ → TraceFault → Type 0
 HasTooManyProcessors report bytes fault =
-    (plan : Plan) × IsTextOf bytes plan × IsForOneProcessor report × (1 < plan.processors) × (fault ≡ OneProcessor plan.processors)
+    (script : Script) × IsTextOf bytes script × IsForOneProcessor report × (1 < script.processors) × (fault ≡ OneProcessor script.processors)
 
 -- the bytes are the text of a trace that the report is for and that has more spaces than there are stores, and the fault says how many
 abbrev pub HasTooFewStores : Report → ℕ → List ℕ → TraceFault → Type 0
 HasTooFewStores report stores bytes fault =
-    (plan : Plan) × IsTextOf bytes plan × Admits report plan × (stores < plan.spaces) × (fault ≡ TooFewStores stores plan.spaces)
+    (script : Script) × IsTextOf bytes script × Admits report script × (stores < script.spaces) × (fault ≡ TooFewStores stores script.spaces)
 
 -- the bytes are refused so: as no trace's text, for more processors than the report is for, or for want of stores
 abbrev pub IsRefused : Report → ℕ → List ℕ → TraceFault → Type 0
@@ -71,8 +71,8 @@ pub record IsTold (status : ℕ) (refusal : Option TraceFault) : Type 0 where
   pub read_fault : status ≡ READ_FAULT → IsSome refusal
 
 -- where the source tells its bytes, they were the text of the trace, and they were read to their end
-abbrev pub WasRead : Plan → Option (List ℕ) → Option (List ℕ) → Type 0
-WasRead plan before after = IfSome before (λ bytes. IsTextOf bytes plan × (after ≡ Some []))
+abbrev pub WasRead : Script → Option (List ℕ) → Option (List ℕ) → Type 0
+WasRead script before after = IfSome before (λ bytes. IsTextOf bytes script × (after ≡ Some []))
 
 -- where stores were wanted, the refusal says how many there were, and how many more spaces there are
 abbrev pub CountsStores : ℕ → Option TraceFault → Type 0
@@ -113,7 +113,7 @@ pub record DidNothing {T K P : Type 0} (views : Views T K P) (before after : End
 
 -- the setting of a run, and its counts
 abbrev pub setting_of : Replayed → Given
-setting_of run = setting_over run.plan run.stores
+setting_of run = setting_over run.script run.stores
 
 abbrev pub counts_of : Replayed → Summary
 counts_of run = counts (setting_of run) (entries_in run.history)
@@ -121,10 +121,10 @@ counts_of run = counts (setting_of run) (entries_in run.history)
 -- what a report prints of a run: each processor's answers, the history where it is asked for, and the counts; the counts alone; what is planned
 -- for the frames as they are at its end; or its miss curves
 abbrev pub Prints : Report → Replayed → List ℕ → Type 0
-Prints (Answers parts) run text = text ≡ out_text (has_history parts) run.plan.processors run.history (counts_of run)
+Prints (Answers parts) run text = text ≡ out_text (has_history parts) run.script.processors run.history (counts_of run)
 Prints Counts run text = text ≡ summary_text (counts_of run)
 Prints (Planned size) run text =
-    (planned : Option Emptying) × IsPlanned (frames_at (setting_of run) (entries_in run.history)) run.plan.frames size planned
+    (planned : Option Emptying) × IsPlanned (frames_at (setting_of run) (entries_in run.history)) run.script.frames size planned
     × (text ≡ plan_text planned)
 Prints Curves run text =
     (tiles : List ℕ) × (pages : List ℕ) × AreCurves history_capacities (setting_of run) (entries_in run.history) tiles pages × (text ≡ curves_text tiles pages)
@@ -161,21 +161,21 @@ pub record EndsRun {K : Type 0} (taken : K → Option (List ℕ)) (write_faults 
 
 -- A run of the trace was made over these stores, one for each space at least, in this order, and ended with this report.
 pub record MadeRun {K P : Type 0} (out : OutViews K P) (order : Order) (report : Report) (stores : List P) (end : Ending K P)
-    (plan : Plan) : Type 0 where
+    (script : Script) : Type 0 where
   pub refusal : end.outcome.refusal ≡ None
-  pub enough : plan.spaces ≤ length stores
-  pub run : IsReplay plan (map out.seen stores) end.outcome.history.items (map out.seen end.outcome.stores.items)
-  pub ordered : ComesBy order plan (entries_in end.outcome.history.items)
+  pub enough : script.spaces ≤ length stores
+  pub run : IsReplay script (map out.seen stores) end.outcome.history.items (map out.seen end.outcome.stores.items)
+  pub ordered : ComesBy order script (entries_in end.outcome.history.items)
   pub ends : EndsRun out.taken out.write_faults end.before end.after report
-      (replayed plan (map out.seen stores) end.outcome.history.items) end.outcome.status
+      (replayed script (map out.seen stores) end.outcome.history.items) end.outcome.status
 
 -- A trace was read to its end, without a fault, and is one that the report is for, and a run of it was made.
 pub record ReadAndMade {T K P : Type 0} (views : Views T K P) (order : Order) (report : Report) (before after : Ends T K) (stores : List P)
-    (outcome : Outcome P) (plan : Plan) : Type 0 where
-  pub read : WasRead plan (views.left before.source) (views.left after.source)
+    (outcome : Outcome P) (script : Script) : Type 0 where
+  pub read : WasRead script (views.left before.source) (views.left after.source)
   pub no_read_fault : views.read_faults after.source ≡ views.read_faults before.source
-  pub admitted : Admits report plan
-  pub made : MadeRun views.out order report stores (ending before.sink after.sink outcome) plan
+  pub admitted : Admits report script
+  pub made : MadeRun views.out order report stores (ending before.sink after.sink outcome) script
 
 -- No run of what is read was made: why, and what is as it was.
 pub record WasStopped {T K P : Type 0} (views : Views T K P) (report : Report) (before after : Ends T K) (stores : List P)
@@ -194,7 +194,7 @@ RunsBy views order report before after stores outcome =
 
 -- What is known of a run of a trace before it is told: it was made over these stores, one for each space at least, and these are its counts.
 pub record WasRun (run : Replayed) (summary : Summary) : Type 0 where
-  pub enough : run.plan.spaces ≤ length run.stores
+  pub enough : run.script.spaces ≤ length run.stores
   pub legal : IsLegal (setting_of run) (entries_in run.history)
-  pub shows : Shows run.plan (entries_in run.history)
-  pub counts : AreItsCounts run.plan run.stores run.history summary
+  pub shows : Shows run.script (entries_in run.history)
+  pub counts : AreItsCounts run.script run.stores run.history summary

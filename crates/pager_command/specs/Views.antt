@@ -1,7 +1,7 @@
 -- How a source, a sink and stores are seen, and how a call that reads and writes left them.
 use Rattle.std.specs.Prelude.{ℕ, List, Option}
 use Rattle.pager_model.specs.declared.entry.Numbered.{Numbered}
-use Rattle.pager_model.specs.Plans.{Plan}
+use Rattle.pager_model.specs.Scripts.{Script}
 use Rattle.pager_model.specs.Stored.{Stored}
 use Rattle.pager_command.specs.declared.outcome.Outcome.{Outcome}
 
@@ -43,9 +43,9 @@ ending before after outcome = record { before = before; after = after; outcome =
 
 -- A run that was made: its trace, the stores as they were before it, and its history.
 pub record Replayed : Type 0 where
-  pub plan : Plan
+  pub script : Script
   pub stores : List Stored
   pub history : List Numbered
 
-abbrev pub replayed : (plan : Plan) (stores : List Stored) (history : List Numbered) → Replayed
-replayed plan stores history = record { plan = plan; stores = stores; history = history }
+abbrev pub replayed : (script : Script) (stores : List Stored) (history : List Numbered) → Replayed
+replayed script stores history = record { script = script; stores = stores; history = history }

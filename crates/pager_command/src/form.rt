@@ -19,7 +19,7 @@ pub enum Command {
     Run(Form),
     /// To make a trace and write its text.
     Make(Making),
-    /// To make a large trace from this number, run it in turns that are drawn from this seed, and print the counts.
+    /// To make a large trace from this number, run it by a schedule that is drawn from this seed, and print the counts.
     Large { number: u64, seed: u64 },
     /// To read a trace and a history of it, and say whether the history is legal and shows the trace.
     Check,
@@ -37,18 +37,18 @@ pub struct Form {
 /// In which order the calls of a trace are run.
 #[derive(Clone, Copy)]
 pub enum Order {
-    /// By one thread, which makes the entries of all processors in turns.
-    InTurns(Turns),
+    /// By one thread, which makes the entries of all processors by a schedule.
+    InOneThread(Schedule),
     /// With a thread for each processor, in the order in which they come to the locks.
     Threads,
 }
 
 /// How one thread makes the entries of all processors.
 #[derive(Clone, Copy)]
-pub enum Turns {
+pub enum Schedule {
     /// In the order of the lines.
     Lines,
-    /// In an order of turns that is drawn from this seed.
+    /// In an order that is drawn from this seed.
     Drawn { seed: u64 },
 }
 
@@ -231,7 +231,7 @@ fn order_asked(words: &[&str]) -> Option<Form>
 {
     let parts = parts_asked(words)?;
     Some(Form {
-        order: Order::InTurns(Turns::Lines),
+        order: Order::InOneThread(Schedule::Lines),
         report: Report::Answers { parts },
     })
 }
@@ -247,7 +247,7 @@ fn turns_asked(words: &[&str]) -> Option<Form>
     let seed = number_of(seed)?;
     let parts = parts_asked(rest)?;
     Some(Form {
-        order: Order::InTurns(Turns::Drawn { seed }),
+        order: Order::InOneThread(Schedule::Drawn { seed }),
         report: Report::Answers { parts },
     })
 }
@@ -271,7 +271,7 @@ fn plan_asked(words: &[&str]) -> Option<Form>
 {
     let size = size_asked(words)?;
     Some(Form {
-        order: Order::InTurns(Turns::Lines),
+        order: Order::InOneThread(Schedule::Lines),
         report: Report::Plan { size },
     })
 }
@@ -283,7 +283,7 @@ fn curve_asked(words: &[&str]) -> Option<Form>
 {
     match words {
         [] => Some(Form {
-            order: Order::InTurns(Turns::Lines),
+            order: Order::InOneThread(Schedule::Lines),
             report: Report::Curves,
         }),
         _ => None,

@@ -3,8 +3,8 @@
 ghost use Rattle.std.specs.Prelude.{◌≡◌, ◌≤◌, true, None, IfOk, IfErr, length, map};
 ghost use Rattle.flight_core.specs.Lacking.{NoneLacked};
 ghost use Rattle.pager_model.specs.Legal.{entries_in};
-ghost use Rattle.pager_model.specs.TurnOrders.{IsSeeded};
-ghost use Rattle.replay_core.specs.Replays.{IsReplay, AreItsCounts};
+ghost use Rattle.pager_model.specs.Schedules.{IsSeeded};
+ghost use Rattle.pager_core.specs.Replays.{IsReplay, AreItsCounts};
 ghost use Rattle.trace_make.specs.Made.{CanMake};
 ghost use Rattle.pager_command.specs.MadeRuns.{MakesText, RunsLarge, large_trace};
 ghost use Rattle.pager_command.specs.Views.{ending, out_views};
@@ -15,7 +15,7 @@ use crate::printing::write_run;
 use crate::status::{MEMORY, REFUSED};
 use io_core::Sink;
 use pager_model::{NoMemory, Trace};
-use replay_core::{Gathered, replay_turns};
+use replay_core::{Gathered, replay_drawn};
 use run_history::History;
 use std::alloc::Global;
 use store_core::Store;
@@ -66,7 +66,7 @@ pub fn write_made<K: Sink, S: Store + Send + Drop>(
     }
 }
 
-/// Makes the large trace from a number, runs it in turns that are drawn from a seed, and writes the counts. It takes no handle, and so is
+/// Makes the large trace from a number, runs it by a schedule that is drawn from a seed, and writes the counts. It takes no handle, and so is
 /// proved to return.
 pub fn run_large<K: Sink, S: Store + Send + Drop>(
     alloc: Global,
@@ -113,7 +113,7 @@ fn replay_large<S: Store + Send + Drop>(
     let Ok(trace) = make_large(alloc, number) else {
         return Err(stores);
     };
-    let gathered = replay_turns(alloc, &trace, stores, seed)?;
+    let gathered = replay_drawn(alloc, &trace, stores, seed)?;
     Ok((trace, gathered))
 }
 

@@ -4,7 +4,7 @@ ghost use Rattle.std.specs.Prelude.{ℕ, ◌≡◌, ◌≢◌, ◌≤◌, ◌⊎
 ghost use Rattle.flight_core.specs.Lacking.{NoneLacked};
 ghost use Rattle.io_core.specs.Faults.{Rose};
 ghost use Rattle.pager_model.specs.Legal.{entries_in};
-ghost use Rattle.replay_core.specs.Replays.{IsReplay, AreItsCounts};
+ghost use Rattle.pager_core.specs.Replays.{IsReplay, AreItsCounts};
 ghost use Rattle.pager_command.specs.declared.form.Form.{Form as Asked};
 ghost use Rattle.pager_command.specs.declared.form.Making.{Making as ToMake};
 ghost use Rattle.stream_run.specs.declared.report.StreamReport.{StreamReport as Told};
@@ -16,7 +16,7 @@ ghost use Rattle.pager_command.specs.StreamRuns.{Streams};
 ghost use Rattle.pager_command.specs.Views.{ending, ends, out_views, views};
 
 use crate::checking::check_history;
-use crate::form::{Command, Form, Order, Report, Turns, command_of};
+use crate::form::{Command, Form, Order, Report, Schedule, command_of};
 use crate::making::{run_large, write_made};
 use crate::outcome::{Outcome, Stop, refused, stopped};
 use crate::printing::write_run;
@@ -24,7 +24,7 @@ use crate::status::{DONE, MEMORY, USAGE};
 use crate::streaming::stream_text;
 use io_core::{Sink, Source};
 use pager_model::Trace;
-use replay_core::{Gathered, replay, replay_file_order, replay_turns};
+use replay_core::{Gathered, replay, replay_drawn, replay_file_order};
 use std::alloc::Global;
 use std::sync::Wait;
 use std::thread::Threads;
@@ -37,7 +37,7 @@ use trace_reader::{TraceFault, read_trace};
 /// legal one of the trace. By `stream` it runs a trace as it is read, a line at a time, and writes the counts or the miss curves.
 ///
 /// The handle is for the order of threads alone, which starts threads and waits for locks: nothing is proved of when such a run returns. A
-/// run in turns is made by a function that takes no handle, and so is proved to return.
+/// run in one thread is made by a function that takes no handle, and so is proved to return.
 pub fn run<T: Source, K: Sink, S: Store + Send + Drop, R: Threads + Wait + Sync>(
     rt: &R,
     alloc: Global,
@@ -118,21 +118,23 @@ fn run_form<T: Source, K: Sink, S: Store + Send + Drop, R: Threads + Wait + Sync
 {
     let Form { order, report } = form;
     match order {
-        Order::InTurns(turns) => run_in_turns(alloc, turns, report, source, sink, stores),
+        Order::InOneThread(schedule) => run_in_one_thread(
+            alloc, schedule, report, source, sink, stores,
+        ),
         Order::Threads => run_in_threads(rt, alloc, report, source, sink, stores),
     }
 }
 
-/// Reads a trace and runs it in turns, by one thread. It takes no handle, and so is proved to return.
-fn run_in_turns<T: Source, K: Sink, S: Store + Send + Drop>(
+/// Reads a trace and runs it by one thread, in the order of a schedule. It takes no handle, and so is proved to return.
+fn run_in_one_thread<T: Source, K: Sink, S: Store + Send + Drop>(
     alloc: Global,
-    turns: Turns,
+    schedule: Schedule,
     report: Report,
     source: &mut T,
     sink: &mut K,
     stores: Vec<S>,
 ) -> Outcome<S>
-    ensures runs { RunsBy (views T.left T.faults K.taken K.faults S.seen) (Order.InTurns turns) report
+    ensures runs { RunsBy (views T.left T.faults K.taken K.faults S.seen) (Order.InOneThread schedule) report
         (ends source.old sink.old) (ends source.new sink.new) stores.items result }
     ensures lasting { S.lasts ≡ true → NoneLacked (entries_in result.history.items) }
     ensures no_verdict { result.verdict ≡ None }
@@ -141,7 +143,7 @@ fn run_in_turns<T: Source, K: Sink, S: Store + Send + Drop>(
         Ok(trace) => trace,
         Err(stop) => return stopped(alloc, stop.status, stop.refusal, stores),
     };
-    match replay_in_turns(alloc, turns, &trace, stores) {
+    match replay_scheduled(alloc, schedule, &trace, stores) {
         Ok(gathered) => write_run(alloc, sink, report, trace, gathered),
         Err(stores) => stopped(alloc, MEMORY, None, stores),
     }
@@ -203,22 +205,22 @@ fn trace_to_run<T: Source>(
     Ok(trace)
 }
 
-/// Replays the trace in turns.
-fn replay_in_turns<S: Store + Send + Drop>(
+/// Replays the trace by a schedule.
+fn replay_scheduled<S: Store + Send + Drop>(
     alloc: Global,
-    turns: Turns,
+    schedule: Schedule,
     trace: &Trace,
     stores: Vec<S>,
 ) -> Result<Gathered<S>, Vec<S>>
     requires enough { trace.now.spaces ≤ length stores.items }
     ensures run { IfOk result (λ g. IsReplay trace.now (map S.seen stores.items) g.history.items (map S.seen g.stores.items)) }
-    ensures ordered { IfOk result (λ g. ComesBy (Order.InTurns turns) trace.now (entries_in g.history.items)) }
+    ensures ordered { IfOk result (λ g. ComesBy (Order.InOneThread schedule) trace.now (entries_in g.history.items)) }
     ensures counts { IfOk result (λ g. AreItsCounts trace.now (map S.seen stores.items) g.history.items g.summary) }
     ensures lasting { S.lasts ≡ true → IfOk result (λ g. NoneLacked (entries_in g.history.items)) }
     ensures back { IfErr result (λ back. map S.seen back.items ≡ map S.seen stores.items) }
 {
-    match turns {
-        Turns::Lines => replay_file_order(alloc, trace, stores),
-        Turns::Drawn { seed } => replay_turns(alloc, trace, stores, seed),
+    match schedule {
+        Schedule::Lines => replay_file_order(alloc, trace, stores),
+        Schedule::Drawn { seed } => replay_drawn(alloc, trace, stores, seed),
     }
 }

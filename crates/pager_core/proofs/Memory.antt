@@ -16,12 +16,12 @@ use Rattle.flight_core.specs.Rows.{Outcome, Going, TurnEnded, Answered, has_ende
 use Rattle.flight_core.specs.Steps.{reply_said}
 use Rattle.flight_core.proofs.WantOfMemory.{replied}
 use Rattle.pager_laws.proofs.HistoryLists.{filter_map-push}
-use Rattle.step_log.specs.Logged.{Added}
+use Rattle.flight_core.specs.Logged.{Added}
 use Rattle.pager_core.specs.Machines.{HasMemory}
 use Rattle.pager_core.specs.Running.{Running, first_flights, flight_at, flight_for, flight_of, jobs_at}
 use Rattle.pager_core.proofs.Lists.{same_option}
-use Rattle.pager_core.proofs.MachineTurns.{MachineParts, Step, entries-push, run_after}
-use Rattle.pager_core.proofs.WholeTurns.{HasNext}
+use Rattle.pager_core.proofs.Advances.{MachineParts, Step, entries-push, run_after}
+use Rattle.pager_core.proofs.WholeAdvances.{HasNext}
 
 pub NoneLacked-push : (entries : List Entry) (e : Entry) → NoneLacked entries → reply_said e.what ≢ Some NoMemory → NoneLacked (entries ++ e ∷ [])
 NoneLacked-push [] e all has = (has, tt)
@@ -62,9 +62,9 @@ module _ (m : MachineParts) (step : Step) (o : Option Flight) where
         (slice_get (jobs_at m.run.jobs step.new.processor) (step.new.number + 1)) f (sym (next.next ended) ∙ is)
   ]
 
-  pub HasMemory-turned : HasMemory m.run → flight_at m.run.flights step.actor ≡ Some step.old → NeverLacks step.old.phase step.new.phase
+  pub HasMemory-advanced : HasMemory m.run → flight_at m.run.flights step.actor ≡ Some step.old → NeverLacks step.old.phase step.new.phase
       → Added step.old step.new (step.entry ∷ []) → HasNext m.run.jobs step.new o → HasMemory (run_after m.run step.actor step.entry o)
-  HasMemory-turned has flies never added next =
+  HasMemory-advanced has flies never added next =
       let still = never (has.flights step.actor step.old flies) in
       let reply : reply_said step.entry.what ≡ reply_in (row_of step.new).outcome =
       same_option (reply_said step.entry.what) (reply_in (row_of step.new).outcome)

@@ -10,7 +10,7 @@ use Rattle.pager_model.specs.Settings.{Given}
 use Rattle.pager_core.specs.declared.listed.Listed.{Listed}
 use Rattle.pager_core.specs.Listing.{IsListed}
 use Rattle.pager_core.specs.Running.{IsNumbered}
-use Rattle.pager_core.proofs.MachineTurns.{IsWhole, MachineParts, entries-push, numbered-push}
+use Rattle.pager_core.proofs.Advances.{IsWhole, MachineParts, entries-push, numbered-push}
 
 -- what a list stands for
 abbrev pub listed_for : Listed → Given → List Entry → Type 0

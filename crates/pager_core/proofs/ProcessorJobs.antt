@@ -11,7 +11,7 @@ use Rattle.pager_model.specs.declared.call.Line.{Line}
 use Rattle.pager_model.specs.declared.trace.Daemon.{Daemon}
 use Rattle.pager_model.specs.declared.trace.Job.{Job}
 use Rattle.pager_model.specs.declared.trace.Job.TheVariants.{Call as MakesCall}
-use Rattle.pager_model.specs.Plans.{Plan}
+use Rattle.pager_model.specs.Scripts.{Script}
 use Rattle.pager_model.specs.Showing.{actors, calls_of, daemon_marks, jobs_of, turns_of}
 use Rattle.pager_model.proofs.Lists.{map-alike}
 use Rattle.pager_model.proofs.Histories.{filter-push_in, filter-push_out}
@@ -19,7 +19,7 @@ use Rattle.pager_core.specs.Running.{jobs_at}
 use Rattle.pager_core.specs.TraceJobs.{AreOfLines, job_at, job_of, turns_behind}
 use Rattle.pager_core.proofs.Lists.{map_range-push}
 use Rattle.pager_core.proofs.StartMachines.{calls_within}
-use Rattle.pager_core.proofs.WholeTurns.{jobs_read}
+use Rattle.pager_core.proofs.WholeAdvances.{jobs_read}
 
 -- What a function gives at the places from one on.
 
@@ -107,61 +107,61 @@ none_behind most c lines known past = by (calls_of c lines) refl
     by (call ∷ calls) is =
         (let below = calls_within most c lines known 0 call (ap (λ l. slice_get l 0) is) in absurd (omega (arith, below, past)))
 
-count_actors : (plan : Plan) (o : Option Daemon) → plan.daemon ≡ o → actors plan ≡ plan.processors + length (daemon_marks o)
-count_actors plan o is =
-    ap (λ (x : Option Daemon). length (replicate plan.processors 0 ++ daemon_marks x)) is
-    ∙ length-append (replicate plan.processors 0) (daemon_marks o)
-    ∙ ap (λ n. n + length (daemon_marks o)) (length-replicate {A = ℕ} plan.processors 0)
+count_actors : (script : Script) (o : Option Daemon) → script.daemon ≡ o → actors script ≡ script.processors + length (daemon_marks o)
+count_actors script o is =
+    ap (λ (x : Option Daemon). length (replicate script.processors 0 ++ daemon_marks x)) is
+    ∙ length-append (replicate script.processors 0) (daemon_marks o)
+    ∙ ap (λ n. n + length (daemon_marks o)) (length-replicate {A = ℕ} script.processors 0)
 
 -- of those that make calls each has its calls
-callers : (plan : Plan)
-    → map (λ c. map MakesCall (calls_of c plan.calls)) (range_with_len 0 plan.processors)
-    ≡ map (λ c. jobs_of c plan) (range_with_len 0 plan.processors)
-callers plan =
-    map_range-same (λ c. map MakesCall (calls_of c plan.calls)) (λ c. jobs_of c plan) 0 plan.processors
-    (λ c below. sym (append-nil (map MakesCall (calls_of c plan.calls)))
-    ∙ ap (λ b. map MakesCall (calls_of c plan.calls) ++ cond b (turns_of plan.daemon) [])
-    (sym (ne_eqb c plan.processors (λ is. omega (arith, is, below)))))
+callers : (script : Script)
+    → map (λ c. map MakesCall (calls_of c script.calls)) (range_with_len 0 script.processors)
+    ≡ map (λ c. jobs_of c script) (range_with_len 0 script.processors)
+callers script =
+    map_range-same (λ c. map MakesCall (calls_of c script.calls)) (λ c. jobs_of c script) 0 script.processors
+    (λ c below. sym (append-nil (map MakesCall (calls_of c script.calls)))
+    ∙ ap (λ b. map MakesCall (calls_of c script.calls) ++ cond b (turns_of script.daemon) [])
+    (sym (ne_eqb c script.processors (λ is. omega (arith, is, below)))))
 
 -- without a daemon there are no others
-pub jobs-calls : (plan : Plan) (jobs : List (List Job)) → plan.daemon ≡ None
-    → jobs ≡ map (λ c. map MakesCall (calls_of c plan.calls)) (range_with_len 0 plan.processors)
-    → jobs ≡ map (λ c. jobs_of c plan) (range_with_len 0 (actors plan))
-jobs-calls plan jobs none are =
-    are ∙ callers plan ∙ ap (λ n. map (λ c. jobs_of c plan) (range_with_len 0 n))
-    (let count = count_actors plan None none in let e : plan.processors ≡ actors plan = omega (arith, count) in e)
+pub jobs-calls : (script : Script) (jobs : List (List Job)) → script.daemon ≡ None
+    → jobs ≡ map (λ c. map MakesCall (calls_of c script.calls)) (range_with_len 0 script.processors)
+    → jobs ≡ map (λ c. jobs_of c script) (range_with_len 0 (actors script))
+jobs-calls script jobs none are =
+    are ∙ callers script ∙ ap (λ n. map (λ c. jobs_of c script) (range_with_len 0 n))
+    (let count = count_actors script None none in let e : script.processors ≡ actors script = omega (arith, count) in e)
 
 -- and with one it is the last, and has its turns
-jobs-more : (plan : Plan) (jobs jobs' : List (List Job)) (d : Daemon) → plan.daemon ≡ Some d
-    → All (λ (l : Line). l.processor < plan.processors) plan.calls
-    → jobs' ≡ jobs ++ turns_of (Some d) ∷ [] → jobs ≡ map (λ c. map MakesCall (calls_of c plan.calls)) (range_with_len 0 plan.processors)
-    → jobs' ≡ map (λ c. jobs_of c plan) (range_with_len 0 (actors plan))
-jobs-more plan jobs jobs' d some known more are =
-    map_range-push (λ c. jobs_of c plan) jobs jobs' (turns_of (Some d)) plan.processors more (are ∙ callers plan)
+jobs-more : (script : Script) (jobs jobs' : List (List Job)) (d : Daemon) → script.daemon ≡ Some d
+    → All (λ (l : Line). l.processor < script.processors) script.calls
+    → jobs' ≡ jobs ++ turns_of (Some d) ∷ [] → jobs ≡ map (λ c. map MakesCall (calls_of c script.calls)) (range_with_len 0 script.processors)
+    → jobs' ≡ map (λ c. jobs_of c script) (range_with_len 0 (actors script))
+jobs-more script jobs jobs' d some known more are =
+    map_range-push (λ c. jobs_of c script) jobs jobs' (turns_of (Some d)) script.processors more (are ∙ callers script)
     (ap turns_of (sym some)
-    ∙ ap (λ b. cond b (turns_of plan.daemon) []) (sym (eq-eqb plan.processors plan.processors refl))
-    ∙ ap (λ calls. map MakesCall calls ++ cond (plan.processors == plan.processors) (turns_of plan.daemon) [])
-    (sym (none_behind plan.processors plan.processors plan.calls known (omega arith))))
-    ∙ ap (λ n. map (λ c. jobs_of c plan) (range_with_len 0 n)) (sym (count_actors plan (Some d) some))
+    ∙ ap (λ b. cond b (turns_of script.daemon) []) (sym (eq-eqb script.processors script.processors refl))
+    ∙ ap (λ calls. map MakesCall calls ++ cond (script.processors == script.processors) (turns_of script.daemon) [])
+    (sym (none_behind script.processors script.processors script.calls known (omega arith))))
+    ∙ ap (λ n. map (λ c. jobs_of c script) (range_with_len 0 n)) (sym (count_actors script (Some d) some))
 
-pub jobs-turns : {V : Type 0} (items : V → List Job) (plan : Plan) (vs vs' : List V) (v : V) (d : Daemon) → plan.daemon ≡ Some d
-    → All (λ (l : Line). l.processor < plan.processors) plan.calls
-    → vs' ≡ vs ++ v ∷ [] → map items vs ≡ map (λ c. map MakesCall (calls_of c plan.calls)) (range_with_len 0 plan.processors)
+pub jobs-turns : {V : Type 0} (items : V → List Job) (script : Script) (vs vs' : List V) (v : V) (d : Daemon) → script.daemon ≡ Some d
+    → All (λ (l : Line). l.processor < script.processors) script.calls
+    → vs' ≡ vs ++ v ∷ [] → map items vs ≡ map (λ c. map MakesCall (calls_of c script.calls)) (range_with_len 0 script.processors)
     → items v ≡ turns_of (Some d)
-    → map items vs' ≡ map (λ c. jobs_of c plan) (range_with_len 0 (actors plan))
-jobs-turns items plan vs vs' v d some known more are turns =
-    jobs-more plan (map items vs) (map items vs') d some known
+    → map items vs' ≡ map (λ c. jobs_of c script) (range_with_len 0 (actors script))
+jobs-turns items script vs vs' v d some known more are turns =
+    jobs-more script (map items vs) (map items vs') d some known
     (ap (map items) more ∙ map_push items vs v ∙ ap (λ own. map items vs ++ own ∷ []) turns) are
 
 -- with what stands behind the calls they are the trace's
-pub jobs-behind : (plan : Plan) (jobs : List (List Job)) → All (λ (l : Line). l.processor < plan.processors) plan.calls
-    → jobs ≡ map (λ c. map MakesCall (calls_of c plan.calls)) (range_with_len 0 plan.processors)
-    → jobs ++ turns_behind plan.daemon ≡ map (λ c. jobs_of c plan) (range_with_len 0 (actors plan))
-jobs-behind plan jobs known are = by plan.daemon refl
+pub jobs-behind : (script : Script) (jobs : List (List Job)) → All (λ (l : Line). l.processor < script.processors) script.calls
+    → jobs ≡ map (λ c. map MakesCall (calls_of c script.calls)) (range_with_len 0 script.processors)
+    → jobs ++ turns_behind script.daemon ≡ map (λ c. jobs_of c script) (range_with_len 0 (actors script))
+jobs-behind script jobs known are = by script.daemon refl
   where
-    by : (o : Option Daemon) → plan.daemon ≡ o → jobs ++ turns_behind o ≡ map (λ c. jobs_of c plan) (range_with_len 0 (actors plan))
-    by None is = append-nil jobs ∙ jobs-calls plan jobs is are
-    by (Some d) is = jobs-more plan jobs (jobs ++ turns_of (Some d) ∷ []) d is known refl are
+    by : (o : Option Daemon) → script.daemon ≡ o → jobs ++ turns_behind o ≡ map (λ c. jobs_of c script) (range_with_len 0 (actors script))
+    by None is = append-nil jobs ∙ jobs-calls script jobs is are
+    by (Some d) is = jobs-more script jobs (jobs ++ turns_of (Some d) ∷ []) d is known refl are
 
 -- The jobs by the numbers of their lines.
 

@@ -15,12 +15,12 @@ use Rattle.flight_core.specs.declared.flight.Needs.TheVariants.{Frames}
 use Rattle.flight_core.specs.Flights.{IsReady, IsAtRest}
 use Rattle.flight_core.specs.Rows.{own_space, row_of, space_under}
 use Rattle.flight_core.proofs.NextFlights.{anywhere, frames_needed, keeps_under}
-use Rattle.step_log.specs.Flying.{IsFlying as FliesOn, IsHere}
-use Rattle.step_log.proofs.Later.{later_none}
+use Rattle.flight_core.specs.Flying.{IsFlying as FliesOn, IsHere}
+use Rattle.flight_core.proofs.Later.{later_none}
 use Rattle.pager_core.specs.Running.{job_in, jobs_at, flight_at, entries_left, left_at, progress_by_flight, IsKeptByOther}
 use Rattle.pager_core.proofs.Lands.{mark_of_job}
 use Rattle.pager_core.proofs.Lists.{sum_by-within}
-use Rattle.pager_core.proofs.MachineTurns.{IsWhole, MachineParts, state_was}
+use Rattle.pager_core.proofs.Advances.{IsWhole, MachineParts, state_was}
 
 module _ (m : MachineParts) (c : ℕ) (f : Flight) (machine : IsWhole m) (flies : flight_at m.run.flights c ≡ Some f) where
   processor_within : c < length m.run.jobs

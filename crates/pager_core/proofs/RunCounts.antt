@@ -19,7 +19,7 @@ use Rattle.pager_model.specs.Tiles.{tile_in, tile_count_in, tile_size_in, begins
 use Rattle.space_core.specs.Standing.{Kept}
 use Rattle.space_core.specs.Tables.{mapping_in}
 use Rattle.tiles.proofs.Counting.{count_pages_most}
-use Rattle.step_log.specs.Counting.{most_in_history}
+use Rattle.flight_core.specs.Counting.{most_in_history}
 use Rattle.pager_core.specs.RunParts.{AreAtRest}
 use Rattle.pager_core.specs.Sums.{AreFewer, tiles_in, promotions_in, demotions_in}
 

@@ -14,10 +14,10 @@ use Rattle.flight_core.specs.Flights.{LeftBy}
 use Rattle.flight_core.specs.Rows.{Going, has_ended, reply_in, row_of, space_under}
 use Rattle.flight_core.specs.Steps.{SameSpace, answer_made}
 use Rattle.flight_core.proofs.EntrySteps.{same_space-on, unchanged}
-use Rattle.step_log.specs.Flying.{IsHere, HasLeft}
-use Rattle.step_log.specs.Logged.{Added, Stepped}
-use Rattle.step_log.proofs.FlightSteps.{going}
-use Rattle.step_log.proofs.WholeFlights.{Added-on}
+use Rattle.flight_core.specs.Flying.{IsHere, HasLeft}
+use Rattle.flight_core.specs.Logged.{Added, Stepped}
+use Rattle.flight_core.proofs.FlightSteps.{going}
+use Rattle.flight_core.proofs.WholeFlights.{Added-on}
 use Rattle.pager_core.proofs.Lists.{none_in}
 
 -- After any number of steps that made no entry the log stands for the same history, and the flight goes on in the space.

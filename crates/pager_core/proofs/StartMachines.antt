@@ -19,7 +19,7 @@ use Rattle.pager_model.specs.declared.trace.Job.TheVariants.{Call as MakesCall, 
 use Rattle.pager_model.specs.Flat.{space_of_call}
 use Rattle.pager_model.specs.FrameStates.{FrameState, start_frames}
 use Rattle.pager_model.specs.Order.{Progress, at_rest}
-use Rattle.pager_model.specs.Plans.{Plan}
+use Rattle.pager_model.specs.Scripts.{Script}
 use Rattle.pager_model.specs.Settings.{Given, mark_of}
 use Rattle.pager_model.specs.Showing.{actors, calls_of, jobs_of, marks_of, turns_of}
 use Rattle.pager_model.specs.TraceText.{HasText, IsCall, IsDaemon}
@@ -147,50 +147,50 @@ at_turns (suc n) turn zero job at = sym (same_Some turn job at)
 at_turns (suc n) turn (suc m) job at = at_turns n turn m job at
 
 -- the job is a turn of the daemon, whose processor comes behind the others
-abbrev IsDaemonTurn : Plan → ℕ → Job → Type 0
-IsDaemonTurn plan c job = (d : Daemon) × (plan.daemon ≡ Some d) × (c ≡ plan.processors) × (job ≡ Turn d.low)
+abbrev IsDaemonTurn : Script → ℕ → Job → Type 0
+IsDaemonTurn script c job = (d : Daemon) × (script.daemon ≡ Some d) × (c ≡ script.processors) × (job ≡ Turn d.low)
 
-turn_of : (plan : Plan) (c : ℕ) (job : Job) (o : Option Daemon) → plan.daemon ≡ o → c ≡ plan.processors → (m : ℕ)
-    → slice_get (turns_of o) m ≡ Some job → IsDaemonTurn plan c job
-turn_of plan c job None is here m at = cc
-turn_of plan c job (Some d) is here m at = (d, is, here, at_turns d.turns (Turn d.low) m job at)
+turn_of : (script : Script) (c : ℕ) (job : Job) (o : Option Daemon) → script.daemon ≡ o → c ≡ script.processors → (m : ℕ)
+    → slice_get (turns_of o) m ≡ Some job → IsDaemonTurn script c job
+turn_of script c job None is here m at = cc
+turn_of script c job (Some d) is here m at = (d, is, here, at_turns d.turns (Turn d.low) m job at)
 
-job_cases : (plan : Plan) (c n : ℕ) (job : Job) → slice_get (jobs_of c plan) n ≡ Some job
-    → ((call : Call) × (job ≡ MakesCall call) × (slice_get (calls_of c plan.calls) n ≡ Some call)) ⊎ IsDaemonTurn plan c job
-job_cases plan c n job at = elim (at_jobs (calls_of c plan.calls) (cond (c == plan.processors) (turns_of plan.daemon) []) n job at) [
+job_cases : (script : Script) (c n : ℕ) (job : Job) → slice_get (jobs_of c script) n ≡ Some job
+    → ((call : Call) × (job ≡ MakesCall call) × (slice_get (calls_of c script.calls) n ≡ Some call)) ⊎ IsDaemonTurn script c job
+job_cases script c n job at = elim (at_jobs (calls_of c script.calls) (cond (c == script.processors) (turns_of script.daemon) []) n job at) [
   | inl call ↦ inl call
-  | inr turn ↦ elim (cases_eq c plan.processors) [
-    | inl here ↦ inr (turn_of plan c job plan.daemon refl here turn.0
-        (sym (ap (λ b. slice_get (cond b (turns_of plan.daemon) []) turn.0) (eq-eqb c plan.processors here)) ∙ turn.1))
-    | inr other ↦ (let none : None ≡ Some job = sym (ap (λ b. slice_get (cond b (turns_of plan.daemon) []) turn.0)
-        (ne_eqb c plan.processors other)) ∙ turn.1 in cc)
+  | inr turn ↦ elim (cases_eq c script.processors) [
+    | inl here ↦ inr (turn_of script c job script.daemon refl here turn.0
+        (sym (ap (λ b. slice_get (cond b (turns_of script.daemon) []) turn.0) (eq-eqb c script.processors here)) ∙ turn.1))
+    | inr other ↦ (let none : None ≡ Some job = sym (ap (λ b. slice_get (cond b (turns_of script.daemon) []) turn.0)
+        (ne_eqb c script.processors other)) ∙ turn.1 in cc)
   ]
 ]
 
 -- The mark of a processor.
 
-pub kinds_of : (plan : Plan) → HasText plan → (c : ℕ) → AreOfMark (get_or (marks_of plan) c 0) (jobs_of c plan)
-kinds_of plan has c n job at = elim (job_cases plan c n job at) [
+pub kinds_of : (script : Script) → HasText script → (c : ℕ) → AreOfMark (get_or (marks_of script) c 0) (jobs_of c script)
+kinds_of script has c n job at = elim (job_cases script c n job at) [
   | inl call ↦
-      let below = calls_within plan.processors c plan.calls (λ i d within. (has.lines i d within).0) n call.0 call.2 in
-      subst (FitsMark (get_or (marks_of plan) c 0)) (sym call.1) (mark_of_caller plan c below)
+      let below = calls_within script.processors c script.calls (λ i d within. (has.lines i d within).0) n call.0 call.2 in
+      subst (FitsMark (get_or (marks_of script) c 0)) (sym call.1) (mark_of_caller script c below)
   | inr turn ↦
       let d = turn.0 in
-      let mark : get_or (marks_of plan) c 0 ≡ d.low = ap (λ k. get_or (marks_of plan) k 0) turn.2 ∙ mark_of_daemon plan d turn.1 in
-      subst (FitsMark (get_or (marks_of plan) c 0)) (sym turn.3) (mark, (subst IsDaemon turn.1 has.daemon_in).0.0)
+      let mark : get_or (marks_of script) c 0 ≡ d.low = ap (λ k. get_or (marks_of script) k 0) turn.2 ∙ mark_of_daemon script d turn.1 in
+      subst (FitsMark (get_or (marks_of script) c 0)) (sym turn.3) (mark, (subst IsDaemon turn.1 has.daemon_in).0.0)
 ]
 
 -- every job can be done
-pub can_do : (plan : Plan) → HasText plan → (spaces c n : ℕ) (job : Job) → spaces ≡ plan.spaces → slice_get (jobs_of c plan) n ≡ Some job
+pub can_do : (script : Script) → HasText script → (spaces c n : ℕ) (job : Job) → spaces ≡ script.spaces → slice_get (jobs_of c script) n ≡ Some job
     → CanDo spaces job
-can_do plan has spaces c n job count at = elim (job_cases plan c n job at) [
+can_do script has spaces c n job count at = elim (job_cases script c n job at) [
   | inl call ↦ subst (CanDo spaces) (sym call.1)
-      (call_of_line (CanFly spaces) c plan.calls
+      (call_of_line (CanFly spaces) c script.calls
       (λ i d within.
       let line = (has.lines i d within).1 in
       record {
-        on = (let on = call_on plan.spaces (get_or plan.calls i d).call line in omega (arith, on, count));
-        can = (plan.spaces, line);
+        on = (let on = call_on script.spaces (get_or script.calls i d).call line in omega (arith, on, count));
+        can = (script.spaces, line);
       })
       n call.0 call.2)
   | inr turn ↦ subst (CanDo spaces) (sym turn.3) (subst IsDaemon turn.1 has.daemon_in).0
@@ -208,84 +208,84 @@ entries_of_calls (call ∷ calls) turns =
     (arith, rest) in e)
 
 -- what the daemon's turns add, where it is the processor
-abbrev turns_at : Plan → ℕ → ℕ
-turns_at plan c = cond (c == plan.processors) (entries_of_turns plan.daemon) 0
+abbrev turns_at : Script → ℕ → ℕ
+turns_at script c = cond (c == script.processors) (entries_of_turns script.daemon) 0
 
 entries_in_turns : (o : Option Daemon) → sum_by entries_of_job (turns_of o) ≡ entries_of_turns o
 entries_in_turns None = refl
 entries_in_turns (Some d) = sum_by-replicate entries_of_job d.turns (Turn d.low)
 
-entries_of_jobs : (plan : Plan) (c : ℕ) → sum_by entries_of_job (jobs_of c plan) ≡ 8 * length (calls_of c plan.calls) + turns_at plan c
-entries_of_jobs plan c =
-    entries_of_calls (calls_of c plan.calls) (cond (c == plan.processors) (turns_of plan.daemon) [])
-    ∙ ap (λ n. 8 * length (calls_of c plan.calls) + n) (turns (c == plan.processors))
+entries_of_jobs : (script : Script) (c : ℕ) → sum_by entries_of_job (jobs_of c script) ≡ 8 * length (calls_of c script.calls) + turns_at script c
+entries_of_jobs script c =
+    entries_of_calls (calls_of c script.calls) (cond (c == script.processors) (turns_of script.daemon) [])
+    ∙ ap (λ n. 8 * length (calls_of c script.calls) + n) (turns (c == script.processors))
   where
-    turns : (b : Bool) → sum_by entries_of_job (cond b (turns_of plan.daemon) []) ≡ cond b (entries_of_turns plan.daemon) 0
-    turns true = entries_in_turns plan.daemon
+    turns : (b : Bool) → sum_by entries_of_job (cond b (turns_of script.daemon) []) ≡ cond b (entries_of_turns script.daemon) 0
+    turns true = entries_in_turns script.daemon
     turns false = refl
 
-none_behind : (plan : Plan) (a n : ℕ) → plan.processors < a → sum_by (turns_at plan) (range_with_len a n) ≡ 0
-none_behind plan a zero past = refl
-none_behind plan a (suc n) past =
-    let first : turns_at plan a ≡ 0 = ap (λ b. cond b (entries_of_turns plan.daemon) 0)
-    (ne_eqb a plan.processors (λ is. omega (arith, past, is))) in
-    let rest = none_behind plan (a + 1) n (omega (arith, past)) in
-    sum_by-cons (turns_at plan) a (range_with_len (a + 1) n) ∙ (let e : turns_at plan a + sum_by (turns_at plan) (range_with_len (a + 1) n)
+none_behind : (script : Script) (a n : ℕ) → script.processors < a → sum_by (turns_at script) (range_with_len a n) ≡ 0
+none_behind script a zero past = refl
+none_behind script a (suc n) past =
+    let first : turns_at script a ≡ 0 = ap (λ b. cond b (entries_of_turns script.daemon) 0)
+    (ne_eqb a script.processors (λ is. omega (arith, past, is))) in
+    let rest = none_behind script (a + 1) n (omega (arith, past)) in
+    sum_by-cons (turns_at script) a (range_with_len (a + 1) n) ∙ (let e : turns_at script a + sum_by (turns_at script) (range_with_len (a + 1) n)
     ≡ 0 = omega (arith, first, rest) in e)
 
-once : (plan : Plan) (a n : ℕ) → sum_by (turns_at plan) (range_with_len a n) ≤ entries_of_turns plan.daemon
-once plan a zero = omega arith
-once plan a (suc n) =
-    let all = sum_by-cons (turns_at plan) a (range_with_len (a + 1) n) in
-    elim (cases_eq a plan.processors) [
+once : (script : Script) (a n : ℕ) → sum_by (turns_at script) (range_with_len a n) ≤ entries_of_turns script.daemon
+once script a zero = omega arith
+once script a (suc n) =
+    let all = sum_by-cons (turns_at script) a (range_with_len (a + 1) n) in
+    elim (cases_eq a script.processors) [
       | inl here ↦
-          let first : turns_at plan a ≡ entries_of_turns plan.daemon =
-          ap (λ b. cond b (entries_of_turns plan.daemon) 0) (eq-eqb a plan.processors here) in
-          let rest = none_behind plan (a + 1) n (omega (arith, here)) in
+          let first : turns_at script a ≡ entries_of_turns script.daemon =
+          ap (λ b. cond b (entries_of_turns script.daemon) 0) (eq-eqb a script.processors here) in
+          let rest = none_behind script (a + 1) n (omega (arith, here)) in
           omega (arith, all, first, rest)
       | inr other ↦
-          let first : turns_at plan a ≡ 0 = ap (λ b. cond b (entries_of_turns plan.daemon) 0) (ne_eqb a plan.processors other) in
-          let rest = once plan (a + 1) n in
+          let first : turns_at script a ≡ 0 = ap (λ b. cond b (entries_of_turns script.daemon) 0) (ne_eqb a script.processors other) in
+          let rest = once script (a + 1) n in
           omega (arith, all, first, rest)
     ]
 
-sum_by-both : (plan : Plan) (f : ℕ → ℕ) (a n : ℕ) → ((k : ℕ) → f k ≤ 8 * length (calls_of k plan.calls) + turns_at plan k)
-    → sum_by f (range_with_len a n) ≤ 8 * together plan.calls a n + sum_by (turns_at plan) (range_with_len a n)
-sum_by-both plan f a zero at_most = omega arith
-sum_by-both plan f a (suc n) at_most =
+sum_by-both : (script : Script) (f : ℕ → ℕ) (a n : ℕ) → ((k : ℕ) → f k ≤ 8 * length (calls_of k script.calls) + turns_at script k)
+    → sum_by f (range_with_len a n) ≤ 8 * together script.calls a n + sum_by (turns_at script) (range_with_len a n)
+sum_by-both script f a zero at_most = omega arith
+sum_by-both script f a (suc n) at_most =
     let left = sum_by-cons f a (range_with_len (a + 1) n) in
-    let calls = sum_by-cons (λ c. length (calls_of c plan.calls)) a (range_with_len (a + 1) n) in
-    let turns = sum_by-cons (turns_at plan) a (range_with_len (a + 1) n) in
+    let calls = sum_by-cons (λ c. length (calls_of c script.calls)) a (range_with_len (a + 1) n) in
+    let turns = sum_by-cons (turns_at script) a (range_with_len (a + 1) n) in
     let first = at_most a in
-    let rest = sum_by-both plan f (a + 1) n at_most in
+    let rest = sum_by-both script f (a + 1) n at_most in
     omega (arith, left, calls, turns, first, rest)
 
-pub entries_in_all : (plan : Plan) (f : ℕ → ℕ) (n : ℕ) → ((k : ℕ) → f k ≤ 8 * length (calls_of k plan.calls) + turns_at plan k)
-    → sum_by f (range_with_len 0 n) ≤ entries_of_trace plan
-entries_in_all plan f n at_most =
-    let both = sum_by-both plan f 0 n at_most in
-    let few = together-few plan.calls 0 n in
-    let turns = once plan 0 n in
+pub entries_in_all : (script : Script) (f : ℕ → ℕ) (n : ℕ) → ((k : ℕ) → f k ≤ 8 * length (calls_of k script.calls) + turns_at script k)
+    → sum_by f (range_with_len 0 n) ≤ entries_of_trace script
+entries_in_all script f n at_most =
+    let both = sum_by-both script f 0 n at_most in
+    let few = together-few script.calls 0 n in
+    let turns = once script 0 n in
     omega (arith, both, few, turns)
 
 turns_few : (o : Option Daemon) → IsDaemon o → entries_of_turns o ≤ 1052672
 turns_few None is = omega arith
 turns_few (Some d) is = mul-le d.turns (4 * d.low + 1) 4096 257 is.1.1 (let low = is.0.1 in omega (arith, low))
 
-pub few_entries : (plan : Plan) → HasText plan → entries_of_trace plan ≤ most_entries
-few_entries plan has = (let turns = turns_few plan.daemon has.daemon_in in omega (arith, turns, has.few))
+pub few_entries : (script : Script) → HasText script → entries_of_trace script ≤ most_entries
+few_entries script has = (let turns = turns_few script.daemon has.daemon_in in omega (arith, turns, has.few))
 
-at_most_turns : (plan : Plan) (b : Bool) → cond b (entries_of_turns plan.daemon) 0 ≤ entries_of_turns plan.daemon
-at_most_turns plan true = omega arith
-at_most_turns plan false = omega arith
+at_most_turns : (script : Script) (b : Bool) → cond b (entries_of_turns script.daemon) 0 ≤ entries_of_turns script.daemon
+at_most_turns script true = omega arith
+at_most_turns script false = omega arith
 
 -- each processor's jobs make no more
-pub few_entries_of : (plan : Plan) → HasText plan → (c : ℕ) → sum_by entries_of_job (jobs_of c plan) ≤ most_entries
-few_entries_of plan has c =
-    let own = entries_of_jobs plan c in
-    let calls = length-calls c plan.calls in
-    let turns = at_most_turns plan (c == plan.processors) in
-    let daemon = turns_few plan.daemon has.daemon_in in
+pub few_entries_of : (script : Script) → HasText script → (c : ℕ) → sum_by entries_of_job (jobs_of c script) ≤ most_entries
+few_entries_of script has c =
+    let own = entries_of_jobs script c in
+    let calls = length-calls c script.calls in
+    let turns = at_most_turns script (c == script.processors) in
+    let daemon = turns_few script.daemon has.daemon_in in
     omega (arith, own, calls, turns, daemon, has.few)
 
 -- A processor's first flight.
@@ -311,53 +311,53 @@ length-used : {X : Type 0} (f : Stored → X) (n : ℕ) (stores : List Stored) �
 length-used f n stores enough = length-map (take n stores) f ∙ length-take-le n stores enough
 
 -- a setting has as many spaces as its trace
-pub length-told : (plan : Plan) (stores : List Stored) → plan.spaces ≤ length stores → (given : Given) → given ≡ setting_over plan stores
-    → length given.told ≡ plan.spaces
-length-told plan stores enough given is = ap (λ (g : Given). length g.told) is
-    ∙ length-used (λ (s : Stored). s.told) plan.spaces stores enough
+pub length-told : (script : Script) (stores : List Stored) → script.spaces ≤ length stores → (given : Given) → given ≡ setting_over script stores
+    → length given.told ≡ script.spaces
+length-told script stores enough given is = ap (λ (g : Given). length g.told) is
+    ∙ length-used (λ (s : Stored). s.told) script.spaces stores enough
 
 -- A trace over stores, of which the spaces use the first: the jobs of its processors, and spaces that are new.
-pub record Begins (plan : Plan) (stores : List Stored) (jobs : List (List Job)) (spaces : List Kept) : Type 0 where
-  pub trace : HasText plan
-  pub enough : plan.spaces ≤ length stores
-  pub are : jobs ≡ map (λ c. jobs_of c plan) (range_with_len 0 (actors plan))
-  pub new : AreNewSpaces (setting_over plan stores) spaces
+pub record Begins (script : Script) (stores : List Stored) (jobs : List (List Job)) (spaces : List Kept) : Type 0 where
+  pub trace : HasText script
+  pub enough : script.spaces ≤ length stores
+  pub are : jobs ≡ map (λ c. jobs_of c script) (range_with_len 0 (actors script))
+  pub new : AreNewSpaces (setting_over script stores) spaces
 
-module _ (plan : Plan) (stores unused : List Stored) (jobs : List (List Job)) (spaces : List Kept)
-    (begins : Begins plan stores jobs spaces) where
+module _ (script : Script) (stores unused : List Stored) (jobs : List (List Job)) (spaces : List Kept)
+    (begins : Begins script stores jobs spaces) where
   abbrev start : Running
-  start = record { given = setting_over plan stores; jobs = jobs; flights = first_flights jobs; history = []; unused = unused }
+  start = record { given = setting_over script stores; jobs = jobs; flights = first_flights jobs; history = []; unused = unused }
 
-  processors : length jobs ≡ actors plan
-  processors = ap length begins.are ∙ length-map-range_with_len (λ c. jobs_of c plan) 0 (actors plan)
+  processors : length jobs ≡ actors script
+  processors = ap length begins.are ∙ length-map-range_with_len (λ c. jobs_of c script) 0 (actors script)
 
-  count : length spaces ≡ plan.spaces
-  count = begins.new.count ∙ length-told plan stores begins.enough (setting_over plan stores) refl
+  count : length spaces ≡ script.spaces
+  count = begins.new.count ∙ length-told script stores begins.enough (setting_over script stores) refl
 
-  jobs_in : (c : ℕ) → c < actors plan → jobs_at jobs c ≡ jobs_of c plan
+  jobs_in : (c : ℕ) → c < actors script → jobs_at jobs c ≡ jobs_of c script
   jobs_in c below =
-      ap (λ l. jobs_at l c) begins.are ∙ get_or-map-range_with_len (λ k. jobs_of k plan) 0 (actors plan) c c [] below (omega arith)
+      ap (λ l. jobs_at l c) begins.are ∙ get_or-map-range_with_len (λ k. jobs_of k script) 0 (actors script) c c [] below (omega arith)
 
-  jobs_past : (c : ℕ) → actors plan ≤ c → jobs_at jobs c ≡ []
+  jobs_past : (c : ℕ) → actors script ≤ c → jobs_at jobs c ≡ []
   jobs_past c past = get_or_past jobs c [] (let all = processors in omega (arith, all, past))
 
   -- what holds of each of a processor's jobs
-  by_jobs : (P : ℕ → Job → Type 0) → ((c n : ℕ) (job : Job) → slice_get (jobs_of c plan) n ≡ Some job → P c job) → (c n : ℕ) (job : Job)
+  by_jobs : (P : ℕ → Job → Type 0) → ((c n : ℕ) (job : Job) → slice_get (jobs_of c script) n ≡ Some job → P c job) → (c n : ℕ) (job : Job)
       → slice_get (jobs_at jobs c) n ≡ Some job → P c job
-  by_jobs P holds c n job at = elim (cases_lt c (actors plan)) [
+  by_jobs P holds c n job at = elim (cases_lt c (actors script)) [
     | inl below ↦ holds c n job (sym (ap (λ l. slice_get l n) (jobs_in c below)) ∙ at)
     | inr past ↦ (let e : None ≡ Some job = sym (ap (λ l. slice_get l n) (jobs_past c past)) ∙ at in cc)
   ]
 
   kinds : (c : ℕ) → AreOfMark (mark_of start.given c) (jobs_at jobs c)
-  kinds = by_jobs (λ c job. FitsMark (mark_of start.given c) job) (kinds_of plan begins.trace)
+  kinds = by_jobs (λ c job. FitsMark (mark_of start.given c) job) (kinds_of script begins.trace)
 
   can : (c n : ℕ) (job : Job) → slice_get (jobs_at jobs c) n ≡ Some job → CanDo (length spaces) job
-  can = by_jobs (λ c job. CanDo (length spaces) job) (λ c n job at. can_do plan begins.trace (length spaces) c n job count at)
+  can = by_jobs (λ c job. CanDo (length spaces) job) (λ c n job at. can_do script begins.trace (length spaces) c n job count at)
 
-  entries_at : (c : ℕ) → sum_by entries_of_job (jobs_at jobs c) ≤ 8 * length (calls_of c plan.calls) + turns_at plan c
-  entries_at c = elim (cases_lt c (actors plan)) [
-    | inl below ↦ (let e = ap (sum_by entries_of_job) (jobs_in c below) ∙ entries_of_jobs plan c in omega (arith, e))
+  entries_at : (c : ℕ) → sum_by entries_of_job (jobs_at jobs c) ≤ 8 * length (calls_of c script.calls) + turns_at script c
+  entries_at c = elim (cases_lt c (actors script)) [
+    | inl below ↦ (let e = ap (sum_by entries_of_job) (jobs_in c below) ∙ entries_of_jobs script c in omega (arith, e))
     | inr past ↦ (let e : sum_by entries_of_job (jobs_at jobs c) ≡ 0 = ap (sum_by entries_of_job) (jobs_past c past) in omega (arith, e))
   ]
 
@@ -407,7 +407,7 @@ module _ (plan : Plan) (stores unused : List Stored) (jobs : List (List Job)) (s
       let is = first c f flies in
       none-some s (sym (starts c is.0 is.1).keeps_none ∙ ap (λ (x : Flight). (row_of x).keeps) is.2 ∙ keeps)
 
-  left_few : (c : ℕ) → left_at start c ≤ 8 * length (calls_of c plan.calls) + turns_at plan c
+  left_few : (c : ℕ) → left_at start c ≤ 8 * length (calls_of c script.calls) + turns_at script c
   left_few c = elim (cases_lt c (length jobs)) [
     | inl below ↦
         let at : left_at start c ≡ sum_by entries_of_job (jobs_at jobs c) =
@@ -420,8 +420,8 @@ module _ (plan : Plan) (stores unused : List Stored) (jobs : List (List Job)) (s
         omega (arith, at)
   ]
 
-  all_few : all_left start ≤ entries_of_trace plan
-  all_few = entries_in_all plan (left_at start) (length jobs) left_few
+  all_few : all_left start ≤ entries_of_trace script
+  all_few = entries_in_all script (left_at start) (length jobs) left_few
 
   progress_first : (c : ℕ) → c < length jobs
       → at_rest (mark_of start.given c) 0 ≡ progress_by_flight (mark_of start.given c) (jobs_at jobs c) (flight_at (first_flights jobs) c)
@@ -443,20 +443,20 @@ module _ (plan : Plan) (stores unused : List Stored) (jobs : List (List Job)) (s
         one_keeper = λ s c d f g flies flies' keeps keeps'. absurd (keeps_none c f s flies keeps);
       }
 
-  IsMachine-start : (capacity : ℕ) → entries_of_trace plan ≤ capacity
-      → IsMachine start spaces (start_frames plan.sizes plan.frames (actors plan)) capacity
+  IsMachine-start : (capacity : ℕ) → entries_of_trace script ≤ capacity
+      → IsMachine start spaces (start_frames script.sizes script.frames (actors script)) capacity
   IsMachine-start capacity fits =
       record {
         lawful = lawful;
         marks = sym processors;
         kinds = kinds;
         told = sym begins.new.count;
-        faults = length-used (λ (s : Stored). s.faults) plan.spaces stores begins.enough ∙ sym count;
+        faults = length-used (λ (s : Stored). s.faults) script.spaces stores begins.enough ∙ sym count;
         known = known;
         frames = refl;
-        few_jobs = λ c. (let few = jobs_few (jobs_at jobs c) in let own = entries_at c in let calls = length-calls c plan.calls in
+        few_jobs = λ c. (let few = jobs_few (jobs_at jobs c) in let own = entries_at c in let calls = length-calls c script.calls in
             let turns =
-            at_most_turns plan (c == plan.processors) in let daemon = turns_few plan.daemon begins.trace.daemon_in in
+            at_most_turns script (c == script.processors) in let daemon = turns_few script.daemon begins.trace.daemon_in in
             omega (arith, few, own, calls, turns, daemon, begins.trace.few));
         few_spaces = (let few = begins.trace.spaces_in.1 in let all = count in omega (arith, few, all));
         jobs = can;
@@ -472,20 +472,20 @@ module _ (plan : Plan) (stores unused : List Stored) (jobs : List (List Job)) (s
           next = refl;
         };
         room = (let few = all_few in omega (arith, few, fits));
-        few = (let few = all_few in let most = few_entries plan begins.trace in omega (arith, few, most));
+        few = (let few = all_few in let most = few_entries script begins.trace in omega (arith, few, most));
       }
 
 -- whatever its parts are called
-pub IsMachine-started : (plan : Plan) → HasText plan → (stores : List Stored) → plan.spaces ≤ length stores
-    → (run : Running) (spaces : List Kept) (pool : FrameState) (capacity : ℕ) → run.given ≡ setting_over plan stores
-    → run.jobs ≡ map (λ c. jobs_of c plan) (range_with_len 0 (actors plan)) → run.flights ≡ first_flights run.jobs → run.history ≡ []
-    → AreNewSpaces run.given spaces → pool ≡ start_frames plan.sizes plan.frames (actors plan) → entries_of_trace plan ≤ capacity
+pub IsMachine-started : (script : Script) → HasText script → (stores : List Stored) → script.spaces ≤ length stores
+    → (run : Running) (spaces : List Kept) (pool : FrameState) (capacity : ℕ) → run.given ≡ setting_over script stores
+    → run.jobs ≡ map (λ c. jobs_of c script) (range_with_len 0 (actors script)) → run.flights ≡ first_flights run.jobs → run.history ≡ []
+    → AreNewSpaces run.given spaces → pool ≡ start_frames script.sizes script.frames (actors script) → entries_of_trace script ≤ capacity
     → IsMachine run spaces pool capacity
-IsMachine-started plan trace stores enough run spaces pool capacity given jobs same_flights none new same_pool room =
-    let begins : Begins plan stores run.jobs spaces =
+IsMachine-started script trace stores enough run spaces pool capacity given jobs same_flights none new same_pool room =
+    let begins : Begins script stores run.jobs spaces =
     record { trace = trace; enough = enough; are = jobs; new = subst (λ (g : Given). AreNewSpaces g spaces) given new } in
-    let same : run ≡ start plan stores run.unused run.jobs spaces begins =
+    let same : run ≡ start script stores run.unused run.jobs spaces begins =
     λ i. record { given = given i; jobs = run.jobs; flights = same_flights i; history = none i; unused = run.unused } in
     subst (λ r. IsMachine r spaces pool capacity) (sym same)
-    (subst (λ p. IsMachine (start plan stores run.unused run.jobs spaces begins) spaces p capacity) (sym same_pool)
-    (IsMachine-start plan stores run.unused run.jobs spaces begins capacity room))
+    (subst (λ p. IsMachine (start script stores run.unused run.jobs spaces begins) spaces p capacity) (sym same_pool)
+    (IsMachine-start script stores run.unused run.jobs spaces begins capacity room))

@@ -40,24 +40,24 @@ in_order seen others all own behind =
     ∙ ap (λ l. l ++ reverse (map seen others)) (reverse-reverse own)
     ∙ ap (λ l. own ++ l) (sym (map-reverse seen others))
 
--- so they do once they are turned round, and there are as many
-pub given_back : {P : Type 0} (seen : P → Stored) (others all turned : List P) (own : List Stored) → turned ≡ reverse all
-    → map seen all ≡ map seen others ++ reverse own → map seen turned ≡ own ++ map seen (reverse others)
-given_back seen others all turned own is behind = ap (map seen) is ∙ in_order seen others all own behind
+-- so they do once they are reversed, and there are as many
+pub given_back : {P : Type 0} (seen : P → Stored) (others all reversed : List P) (own : List Stored) → reversed ≡ reverse all
+    → map seen all ≡ map seen others ++ reverse own → map seen reversed ≡ own ++ map seen (reverse others)
+given_back seen others all reversed own is behind = ap (map seen) is ∙ in_order seen others all own behind
 
-pub length-given_back : {P : Type 0} (seen : P → Stored) (others turned : List P) (spaces : List Kept)
-    → map seen turned ≡ map (λ (k : Kept). k.store) spaces ++ map seen (reverse others) → length turned ≡ length spaces + length others
-length-given_back seen others turned spaces are =
+pub length-given_back : {P : Type 0} (seen : P → Stored) (others reversed : List P) (spaces : List Kept)
+    → map seen reversed ≡ map (λ (k : Kept). k.store) spaces ++ map seen (reverse others) → length reversed ≡ length spaces + length others
+length-given_back seen others reversed spaces are =
     let all = ap length are in
     let both = length-append (map (λ (k : Kept). k.store) spaces) (map seen (reverse others)) in
     let own = length-map spaces (λ (k : Kept). k.store) in
     let left = length-map (reverse others) seen in
-    let same = length-map turned seen in
+    let same = length-map reversed seen in
     let long = length-reverse others in
     omega (arith, all, both, own, left, same, long)
 
-pub turned_back : {P : Type 0} (seen : P → Stored) (xs ys : List P) → ys ≡ reverse xs → map seen (reverse ys) ≡ map seen xs
-turned_back seen xs ys turned = ap (λ l. map seen (reverse l)) turned ∙ ap (map seen) (reverse-reverse xs)
+pub reversed_back : {P : Type 0} (seen : P → Stored) (xs ys : List P) → ys ≡ reverse xs → map seen (reverse ys) ≡ map seen xs
+reversed_back seen xs ys reversed = ap (λ l. map seen (reverse l)) reversed ∙ ap (map seen) (reverse-reverse xs)
 
 -- the store of the last space comes behind those that were given back
 pub given_back-more : {P : Type 0} (seen : P → Stored) (stores more : List P) (store : P) (spaces fewer : List Kept) (space : Kept)
@@ -92,8 +92,8 @@ as_long seen all left n are enough =
     let before = length-map all seen in
     let after = length-map (reverse left) seen in
     let dropped = length-drop n (map seen all) in
-    let turned = length-reverse left in
-    omega (arith, same, before, after, dropped, turned, enough)
+    let reversed = length-reverse left in
+    omega (arith, same, before, after, dropped, reversed, enough)
 
 pub slice_get-take : {X : Type 0} (n : ℕ) (xs : List X) (i : ℕ) → i < n → slice_get (take n xs) i ≡ slice_get xs i
 slice_get-take zero xs i below = absurd (omega (arith, below))

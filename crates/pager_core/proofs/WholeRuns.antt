@@ -14,7 +14,7 @@ use Rattle.pager_laws.proofs.LegalHistories.{Agrees-legal, IsPartition-legal, No
 use Rattle.space_core.specs.Standing.{Kept}
 use Rattle.flight_core.specs.declared.flight.Flight.{Flight}
 use Rattle.pager_core.specs.Machines.{IsMachine}
-use Rattle.step_log.specs.Counting.{most_in_history}
+use Rattle.flight_core.specs.Counting.{most_in_history}
 use Rattle.pager_core.specs.RunParts.{AreAtRest}
 use Rattle.pager_core.specs.Running.{Running, calls_among, jobs_at, progress_by_flight, HasEnded, IsNumbered, IsWholeRun}
 

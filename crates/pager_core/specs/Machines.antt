@@ -6,7 +6,7 @@ use Rattle.pager_model.specs.declared.call.Call.{Call}
 use Rattle.pager_model.specs.FrameStates.{FrameState}
 use Rattle.pager_model.specs.Flat.{space_of_call}
 use Rattle.pager_model.specs.Legal.{space_at, frames_at, entries_in}
-use Rattle.pager_model.specs.Plans.{Plan}
+use Rattle.pager_model.specs.Scripts.{Script}
 use Rattle.pager_model.specs.Settings.{mark_of}
 use Rattle.pager_model.specs.declared.trace.Daemon.{Daemon}
 use Rattle.pager_model.specs.declared.trace.Job.{Job}
@@ -27,8 +27,8 @@ abbrev pub entries_of_turns : Option Daemon → ℕ
 entries_of_turns None = 0
 entries_of_turns (Some d) = d.turns * (4 * d.low + 1)
 
-abbrev pub entries_of_trace : Plan → ℕ
-entries_of_trace plan = 8 * length plan.calls + entries_of_turns plan.daemon
+abbrev pub entries_of_trace : Script → ℕ
+entries_of_trace script = 8 * length script.calls + entries_of_turns script.daemon
 
 -- the call is on one of the spaces, and one that a space can begin
 pub record CanFly (spaces : ℕ) (call : Call) : Type 0 where

@@ -1,8 +1,8 @@
 //! A history in memory, as a log of the steps of flights.
 
+use flight_core::Log;
 use pager_model::Entry;
 use run_history::History;
-use step_log::Log;
 
 /// The entries that were made, all of them.
 #[derive(Drop)]

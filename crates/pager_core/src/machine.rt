@@ -15,25 +15,24 @@ ghost use Rattle.pager_core.specs.Machines.{IsOther, entries_of_trace, entries_o
 ghost use Rattle.flight_core.specs.Rows.{Going, has_ended, row_of, space_under};
 ghost use Rattle.pager_core.specs.RunParts.{AreRoomsOver};
 ghost use Rattle.pager_core.specs.Running.{Running, progress_of_actor, flight_at, flight_for, flight_of, first_flights, jobs_at, HasEnded, MustWait, OneMore, IsLawful, IsWholeRun};
-ghost use Rattle.step_log.specs.Flying.{IsHere};
-ghost use Rattle.step_log.specs.Logged.{CanStepBoth, Stepped};
+ghost use Rattle.flight_core.specs.Flying.{IsHere};
+ghost use Rattle.flight_core.specs.Logged.{CanStepBoth, Stepped};
 
 use crate::jobs::Jobs;
 use crate::listed::Listed;
 use crate::run_parts::{Gathered, RunRoom};
-use flight_core::{Flight, Needs};
+use flight_core::{Flight, Log, Needs, step_alone, step_both, step_frames};
 use frame_pool::Pool;
 use pager_model::{Daemon, Job, NoMemory, Setting, Trace};
 use run_history::History;
 use space_core::Space;
 use std::alloc::Global;
 use std::marker::Model;
-use step_log::{Log, step_alone, step_both, step_frames};
 use store_core::Store;
 
-/// What a turn did.
+/// What advancing an actor did.
 #[derive(Clone, Copy, Debug, PartialEq, Eq)]
-pub enum Turn {
+pub enum Advance {
     /// The actor has nothing left to do.
     Ended,
     /// One entry was made.
@@ -43,7 +42,7 @@ pub enum Turn {
 }
 
 /// Runs the calls of many processors on many spaces, and the turns of a paging daemon, which is one processor more, a step at a time in any
-/// order of turns, and keeps the history. It owns the spaces with their stores, the pool and each processor's job in progress: a call, or a turn
+/// order, and keeps the history. It owns the spaces with their stores, the pool and each processor's job in progress: a call, or a turn
 /// of the daemon.
 #[derive(Drop)]
 pub struct Machine<'a, S: Store + Send + Drop> {
@@ -129,40 +128,40 @@ impl<'a, S: Store + Send + Drop> Machine<'a, S> {
     }
 
     /// Does the actor's steps until one has made an entry.
-    pub fn turn(&mut self, actor: u32) -> Turn
+    pub fn advance(&mut self, actor: u32) -> Advance
         requires { actor < length self.old.jobs }
 
         // Nothing is left of the actor's jobs, and then nothing changes.
-        ensures ended { result ≡ Turn.Ended → (self.new ≡ self.old) × (flight_at self.old.flights actor ≡ None) }
-        ensures not_ended { flight_at self.old.flights actor ≡ None → result ≡ Turn.Ended }
+        ensures ended { result ≡ Advance.Ended → (self.new ≡ self.old) × (flight_at self.old.flights actor ≡ None) }
+        ensures not_ended { flight_at self.old.flights actor ≡ None → result ≡ Advance.Ended }
 
         // Its next step is made under a space that another flight keeps, and then nothing changes.
-        ensures waits { (space : ℕ) → result ≡ Turn.Waits space → (self.new ≡ self.old) × MustWait self.old actor space }
-        ensures not_waiting { (space : ℕ) → MustWait self.old actor space → result ≡ Turn.Waits space }
+        ensures waits { (space : ℕ) → result ≡ Advance.Waits space → (self.new ≡ self.old) × MustWait self.old actor space }
+        ensures not_waiting { (space : ℕ) → MustWait self.old actor space → result ≡ Advance.Waits space }
 
         // One entry more, of the actor.
-        ensures stepped { result ≡ Turn.Stepped → OneMore self.old self.new actor }
+        ensures stepped { result ≡ Advance.Stepped → OneMore self.old self.new actor }
         ensures same_jobs { (self.new.given ≡ self.old.given) × (self.new.jobs ≡ self.old.jobs) }
         ensures same_unused { self.new.unused ≡ self.old.unused }
 
-        // After any turns.
+        // After any steps.
         ensures lawful { IsLawful self.new }
         ensures laws { KeepsLaws self.new.given (entries_in self.new.history) }
         ensures never_short { IsNeverShort self.new.given (entries_in self.new.history) }
         ensures lasting { S.lasts ≡ true → NoneLacked (entries_in self.new.history) }
     {
         let Some(flight) = self.flights[actor as usize] else {
-            return Turn::Ended;
+            return Advance::Ended;
         };
         let Some(space) = flight.under() else {
-            self.turn_on_frames(actor, flight);
-            return Turn::Stepped;
+            self.advance_on_frames(actor, flight);
+            return Advance::Stepped;
         };
         if self.must_wait(actor, &flight, space) {
-            return Turn::Waits(space);
+            return Advance::Waits(space);
         }
-        self.turn_in(actor, flight, space);
-        Turn::Stepped
+        self.advance_in(actor, flight, space);
+        Advance::Stepped
     }
 
     /// Whether another flight keeps this space, which the next step of the actor's flight is made under.
@@ -175,7 +174,7 @@ impl<'a, S: Store + Send + Drop> Machine<'a, S> {
     }
 
     /// Does the steps of the actor's flight, of which the next is made under this space, until one has made an entry.
-    fn turn_in(&mut self, actor: u32, flight: Flight, space: u32)
+    fn advance_in(&mut self, actor: u32, flight: Flight, space: u32)
         requires flies { flight_at self.old.flights actor ≡ Some flight }
         requires under { space_under (row_of flight).needs ≡ Some space }
         requires free { MustWait self.old actor space → ⊥ }
@@ -199,7 +198,7 @@ impl<'a, S: Store + Send + Drop> Machine<'a, S> {
     }
 
     /// Does the next step of the actor's flight, which is made under the frames' lock alone and makes an entry.
-    fn turn_on_frames(&mut self, actor: u32, flight: Flight)
+    fn advance_on_frames(&mut self, actor: u32, flight: Flight)
         requires flies { flight_at self.old.flights actor ≡ Some flight }
         requires under { space_under (row_of flight).needs ≡ None }
         ensures stepped { OneMore self.old self.new actor }

@@ -15,7 +15,7 @@ ghost use Rattle.pager_model.specs.Stores.{given_over, setting_over, StoresEnd, 
 ghost use Rattle.pager_model.specs.Stored.{Stored, TellsZero};
 ghost use Rattle.space_core.specs.Standing.{Kept};
 ghost use Rattle.pager_core.specs.RunParts.{AreRoomsOver, AreNewSpaces, AreAtRest};
-ghost use Rattle.step_log.specs.Counting.{most_in_history};
+ghost use Rattle.flight_core.specs.Counting.{most_in_history};
 ghost use Rattle.pager_core.specs.Sums.{AreFewer, sum_at, tiles_in, promotions_in, demotions_in};
 ghost use Rattle.pager_model.specs.Bounds.{most_frames, most_spaces, most_actors};
 

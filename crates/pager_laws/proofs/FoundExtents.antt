@@ -4,7 +4,7 @@ use Rattle.std.specs.Option.{option_or, option_and_then, option_map_or}
 use Rattle.std.proofs.lemmas.Option.{none-some, same_Some}
 use Rattle.pager_model.specs.declared.reservation.Reservation.{Reservation}
 use Rattle.pager_model.specs.FreeBlocks.{choice}
-use Rattle.pager_model.specs.Layouts.{Layout, Found, break_layout, to_break, broken_at, chosen, extent_of, largest_extent, record_at}
+use Rattle.pager_model.specs.Layouts.{Layout, FreeExtent, break_layout, to_break, broken_at, chosen, extent_of, largest_extent, record_at}
 use Rattle.pager_model.specs.Records.{is_used, yield_in}
 use Rattle.pager_model.specs.SizeSets.{has_size}
 use Rattle.pager_laws.specs.Laid.{IsLaid}
@@ -36,17 +36,17 @@ MayBreak-found l size id laid found =
 
 -- An extent that is found is the choice of a layout that differs from the first one by splittings alone, and is of the size or
 -- smaller.
-pub record IsFound (l : Layout) (size : ℕ) (found : Found) : Type 0 where
+pub record IsFound (l : Layout) (size : ℕ) (found : FreeExtent) : Type 0 where
   pub settles : Settles l found.layout
   pub is : choice found.layout.free found.size ≡ Some found.first
   pub small : found.size ≤ size
 
 -- what is found where the choice is this frame
-abbrev found_at : Layout → ℕ → ℕ → ℕ → Found
+abbrev found_at : Layout → ℕ → ℕ → ℕ → FreeExtent
 found_at l size broken first = record { layout = l; size = size; first = first; broken = broken }
 
 -- a choice in a layout that differs by splittings alone is found
-IsFound-chosen : (l from : Layout) (size broken : ℕ) (found : Found) → Settles l from → chosen size broken from ≡ Some found
+IsFound-chosen : (l from : Layout) (size broken : ℕ) (found : FreeExtent) → Settles l from → chosen size broken from ≡ Some found
     → IsFound l size found
 IsFound-chosen l from size broken found settles is =
     elim (choice from.free size) as (λ o. choice from.free size ≡ o → option_map (found_at from size broken) o ≡ Some found
@@ -57,7 +57,7 @@ IsFound-chosen l from size broken found settles is =
     ] refl is
 
 -- so is a choice after a reservation was broken, and the largest of them
-IsFound-extent_of : (l : Layout) (size : ℕ) (found : Found) → IsLaid l → extent_of size l ≡ Some found → IsFound l size found
+IsFound-extent_of : (l : Layout) (size : ℕ) (found : FreeExtent) → IsLaid l → extent_of size l ≡ Some found → IsFound l size found
 IsFound-extent_of l size found laid is =
     elim (chosen size 0 l) as (λ o. chosen size 0 l ≡ o → option_or o
     (option_and_then (λ id. chosen size 1 (broken_at id l)) (to_break l size)) ≡ Some found → IsFound l size found) [
@@ -73,7 +73,7 @@ IsFound-extent_of l size found laid is =
           ] refl h
     ] refl is
 
-pub IsFound-largest_extent : (l : Layout) (size : ℕ) (found : Found) → IsLaid l → largest_extent size l ≡ Some found → IsFound l size found
+pub IsFound-largest_extent : (l : Layout) (size : ℕ) (found : FreeExtent) → IsLaid l → largest_extent size l ≡ Some found → IsFound l size found
 IsFound-largest_extent l zero found laid is = IsFound-extent_of l 0 found laid is
 IsFound-largest_extent l (suc size) found laid is =
     let smaller : largest_extent size l ≡ Some found → IsFound l (suc size) found =

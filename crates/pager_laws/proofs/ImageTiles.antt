@@ -7,7 +7,7 @@ use Rattle.std.proofs.lemmas.Option.{none-some, cond_some}
 use Rattle.pager_model.specs.declared.tile.Mapping.{Mapping}
 use Rattle.pager_model.specs.declared.tile.Tile.{Tile}
 use Rattle.pager_model.specs.Extents.{extent_start}
-use Rattle.pager_model.specs.Images.{image_room, still_tiles, touched, touched_by}
+use Rattle.pager_model.specs.Images.{image_capacity, still_tiles, touched, touched_by}
 use Rattle.pager_model.specs.SizeSets.{SizeSet, has_size}
 use Rattle.pager_model.specs.Tiles.{same_tile, tile_with, is_eligible, eligible_with, eligible_at, largest_among, is_that_tile, tile_in, is_tile_in}
 use Rattle.pager_model.proofs.ExtentLemmas.{coarser, first_of_extent}
@@ -119,7 +119,7 @@ touched_kept z pages (Some t) ts is kept =
     let others = all_still (is_tile_in z pages) (λ u. not (same_tile t u)) ts
     (ap (list_all (is_tile_in z pages)) (sym kept) ∙ all_filtered (is_tile_in z pages) ts) in
     filter-all (is_tile_in z pages) (touched t ts)
-    (all_taken (is_tile_in z pages) image_room (t ∷ filter (λ u. not (same_tile t u)) ts)
+    (all_taken (is_tile_in z pages) image_capacity (t ∷ filter (λ u. not (same_tile t u)) ts)
     (ap (λ b. b && list_all (is_tile_in z pages) (filter (λ u. not (same_tile t u)) ts)) is ∙ others))
 
 -- one processor used a tile, or none

@@ -16,7 +16,7 @@ use Rattle.pager_model.specs.declared.reservation.Reservation.{Reservation}
 use Rattle.pager_model.specs.Entries.{frames_part}
 use Rattle.pager_model.specs.FrameStates.{FrameState, start_frames, layout_of, used_at, claim_in, frame_of, held_by, taking, take_frame, state_taken, layout_given, given_in, give_page, give_if_used, claimed, dropped, dropped_in, named_space, moved, moved_by_answer, frames_after}
 use Rattle.pager_model.specs.FreeBlocks.{choice}
-use Rattle.pager_model.specs.Layouts.{Layout, Found, Placing, record_at, covers, covering, frame_for, split_layout, split_on, break_layout, narrow_layout, carve_layout, is_last, vacate_layout, to_break, broken_at, chosen, extent_of, largest_extent, preferred_in, reserved, placing_in, placing}
+use Rattle.pager_model.specs.Layouts.{Layout, FreeExtent, Placing, record_at, covers, covering, frame_for, split_layout, split_on, break_layout, narrow_layout, carve_layout, is_last, vacate_layout, to_break, broken_at, chosen, extent_of, largest_extent, preferred_in, reserved, placing_in, placing}
 use Rattle.pager_model.specs.Legal.{frames_at}
 use Rattle.pager_model.specs.Records.{is_used, part_size, part_count, part_at, is_empty_at, kept_at}
 use Rattle.pager_model.specs.Settings.{Given}
@@ -94,19 +94,19 @@ module _ (z : SizeSet) where
 
   -- ---- taking
 
-  record IsFoundSized (f : Found) : Type 0 where
+  record IsFoundSized (f : FreeExtent) : Type 0 where
     pub layout : KeepsSizes f.layout
     pub size : has_size z f.size ≡ true
 
-  abbrev FindsSized : Option Found → Type 0
+  abbrev FindsSized : Option FreeExtent → Type 0
   FindsSized o = IfSome o IsFoundSized
 
-  either_sized : (a b : Option Found) → FindsSized a → FindsSized b → FindsSized (option_or a b)
+  either_sized : (a b : Option FreeExtent) → FindsSized a → FindsSized b → FindsSized (option_or a b)
   either_sized None b one other = other
   either_sized (Some f) b one other = one
 
   chosen_sized : (size broken : ℕ) (l : Layout) → has_size z size ≡ true → KeepsSizes l → FindsSized (chosen size broken l)
-  chosen_sized size broken l one keeps = elim (choice l.free size) as (λ o. FindsSized (option_map (λ first. let f : Found = record {
+  chosen_sized size broken l one keeps = elim (choice l.free size) as (λ o. FindsSized (option_map (λ first. let f : FreeExtent = record {
     layout = l;
     size = size;
     first = first;

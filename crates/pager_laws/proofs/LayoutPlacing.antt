@@ -9,7 +9,7 @@ use Rattle.pager_model.specs.declared.entry.Want.{Want}
 use Rattle.pager_model.specs.declared.reservation.Reservation.{Reservation}
 use Rattle.pager_model.specs.Agreement.{has_frame}
 use Rattle.pager_model.specs.FreeBlocks.{choice, with_range}
-use Rattle.pager_model.specs.Layouts.{Layout, Found, Placing, covers, covering, frame_for, used_in, frame_in, stamped, populated, new_reservation, reserved, preferred_in, largest_extent, placing_in, placing, is_full, record_at, is_free}
+use Rattle.pager_model.specs.Layouts.{Layout, FreeExtent, Placing, covers, covering, frame_for, used_in, frame_in, stamped, populated, new_reservation, reserved, preferred_in, largest_extent, placing_in, placing, is_full, record_at, is_free}
 use Rattle.pager_model.specs.Records.{is_used}
 use Rattle.pager_model.proofs.ExtentLemmas.{eight_pos}
 use Rattle.pager_model.proofs.RecordFrames.{has_frame_bounds, has_frame_from, no_frame}
@@ -74,12 +74,12 @@ MayPut-stamped l stamp space page id r laid is has none =
     }
 
 -- The reservation that a choice of free frames makes with an extent of pages that no other one has, may be put into the layout.
-pub record IsChosen (l : Layout) (space page : ℕ) (found : Found) : Type 0 where
+pub record IsChosen (l : Layout) (space page : ℕ) (found : FreeExtent) : Type 0 where
   pub laid : IsLaid l
   pub is : choice l.free found.size ≡ Some found.first
   pub misses : Misses l space page found.size
 
-module _ (l : Layout) (stamp space page : ℕ) (found : Found) (chosen : IsChosen l space page found) where
+module _ (l : Layout) (stamp space page : ℕ) (found : FreeExtent) (chosen : IsChosen l space page found) where
   abbrev made : Reservation
   made = new_reservation stamp space page found
 
@@ -201,7 +201,7 @@ Misses-settled l from space page size settles misses id p r is has low high =
     misses was.0 p was.1 was.2 was.3 low high
 
 -- an extent that is found places the page
-WasPlaced-reserved : (l : Layout) (stamp space page : ℕ) (want : Want) (found : Found) → IsLaid l → covering space page l.records ≡ None
+WasPlaced-reserved : (l : Layout) (stamp space page : ℕ) (want : Want) (found : FreeExtent) → IsLaid l → covering space page l.records ≡ None
     → largest_extent (preferred_in l space page want) l ≡ Some found
     → WasPlaced l (reserved stamp space page found).layout space page (reserved stamp space page found).frame
 WasPlaced-reserved l stamp space page want found laid none is =

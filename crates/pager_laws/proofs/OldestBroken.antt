@@ -17,7 +17,7 @@ use Rattle.pager_model.specs.Agreement.{has_frame}
 use Rattle.pager_model.specs.FrameStates.{FrameState, Taking, layout_of, held_by, taking, take_frame, state_taken, dropped, dropped_in, counted, named_space}
 use Rattle.pager_model.specs.FreeBlocks.{choice}
 use Rattle.pager_model.specs.Headline.{is_taking, size_at, member_of, IsPreempted, IsOldest, PreemptsOldest}
-use Rattle.pager_model.specs.Layouts.{Layout, Found, Placing, break_layout, list_of, oldest_of, oldest_from, to_break, broken_at, chosen, extent_of, largest_extent, covering, stamped, populated, new_reservation, reserved, preferred_in, placing_in, placing, record_at}
+use Rattle.pager_model.specs.Layouts.{Layout, FreeExtent, Placing, break_layout, list_of, oldest_of, oldest_from, to_break, broken_at, chosen, extent_of, largest_extent, covering, stamped, populated, new_reservation, reserved, preferred_in, placing_in, placing, record_at}
 use Rattle.pager_model.specs.Legal.{IsLegal, MayFollow, frames_at}
 use Rattle.pager_model.specs.Records.{is_used, yield_in}
 use Rattle.pager_model.specs.SizeSets.{has_size}
@@ -118,18 +118,18 @@ stands_broken l id other k r q laid is yields stands apart =
     breaks.others other beside ∙ stands
 
 -- the layout that an extent is found in is the one before, or the one in which the reservation at a frame is broken for some size
-IsFoundIn : Layout → Found → Type 0
+IsFoundIn : Layout → FreeExtent → Type 0
 IsFoundIn l found = (found.layout ≡ l) ⊎ ((size : ℕ) × (id : ℕ) × (to_break l size ≡ Some id) × (found.layout ≡ broken_at id l))
 
-chosen_in : (l : Layout) (size broken : ℕ) (found : Found) → chosen size broken l ≡ Some found → found.layout ≡ l
+chosen_in : (l : Layout) (size broken : ℕ) (found : FreeExtent) → chosen size broken l ≡ Some found → found.layout ≡ l
 chosen_in l size broken found is =
-    let found_at : ℕ → Found = λ first. record { layout = l; size = size; first = first; broken = broken } in
+    let found_at : ℕ → FreeExtent = λ first. record { layout = l; size = size; first = first; broken = broken } in
     elim (choice l.free size) as (λ o. option_map found_at o ≡ Some found → found.layout ≡ l) [
       | None ↦ λ none. absurd (none-some found none)
-      | Some first ↦ λ here. sym (ap (λ (f : Found). f.layout) (same_Some (found_at first) found here))
+      | Some first ↦ λ here. sym (ap (λ (f : FreeExtent). f.layout) (same_Some (found_at first) found here))
     ] is
 
-extent_in : (l : Layout) (size : ℕ) (found : Found) → extent_of size l ≡ Some found → IsFoundIn l found
+extent_in : (l : Layout) (size : ℕ) (found : FreeExtent) → extent_of size l ≡ Some found → IsFoundIn l found
 unfolding IsFoundIn
 extent_in l size found is =
     elim (chosen size 0 l) as (λ o. chosen size 0 l ≡ o → option_or o
@@ -143,7 +143,7 @@ extent_in l size found is =
           ] refl h
     ] refl is
 
-largest_in : (l : Layout) (size : ℕ) (found : Found) → largest_extent size l ≡ Some found → IsFoundIn l found
+largest_in : (l : Layout) (size : ℕ) (found : FreeExtent) → largest_extent size l ≡ Some found → IsFoundIn l found
 largest_in l zero found is = extent_in l 0 found is
 largest_in l (suc size) found is =
     elim (has_size l.sizes (suc size)) as (λ b. cond b (option_or (extent_of (suc size) l) (largest_extent size l)) (largest_extent size l)
@@ -157,7 +157,7 @@ largest_in l (suc size) found is =
     ] is
 
 -- a reservation of the layout that the extent is found in stands beside the new one
-stands_reserved : (stamp space page id : ℕ) (found : Found) (q : Reservation) → IsLaid found.layout
+stands_reserved : (stamp space page id : ℕ) (found : FreeExtent) (q : Reservation) → IsLaid found.layout
     → choice found.layout.free found.size ≡ Some found.first → record_at found.layout id ≡ Some q
     → record_at (reserved stamp space page found).layout id ≡ Some q
 stands_reserved stamp space page id found q laid is stands =

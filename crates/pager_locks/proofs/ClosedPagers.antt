@@ -9,7 +9,7 @@ use Rattle.std.proofs.lemmas.Option.{none-some, same_Some, slice_get_cases}
 use Rattle.std.proofs.Math.ListN.{length-map}
 use Rattle.journal_core.specs.Clauses.{IsPartOf, IsOwnOf}
 use Rattle.journal_core.specs.Journals.{JournalName, AuthorState, PassState, new_pass}
-use Rattle.journal_core.specs.Parts.{numbered, numbered_from}
+use Rattle.pager_model.specs.Legal.{numbered, numbered_from}
 use Rattle.pager_model.specs.declared.entry.Entry.{Entry}
 use Rattle.pager_model.specs.declared.entry.Numbered.{Numbered}
 use Rattle.pager_model.specs.Entries.{entries_of}
@@ -111,18 +111,6 @@ AreAtRest-closed j spaces authors all pool frames h parts few pool_at are of =
           ∙ frames_are j h frames (frames_met j h frames pool_at.journal pool_at.part
           (all_at (λ (a : AuthorState). IsPartOf a h) all (length authors) frames of at_end));
     }
-
--- The numbers of a history are its places.
-
-numbers_from : (place : ℕ) (es : List Entry) → map (λ (n : Numbered). n.number) (numbered_from place es) ≡ range_with_len place (length es)
-numbers_from place [] = refl
-numbers_from place (e ∷ es) = ap (λ l. place ∷ l) (numbers_from (suc place) es
-    ∙ ap (λ k. range_with_len k (length es)) (let next : suc place ≡ place + 1 = omega arith in next))
-
-pub IsNumbered-closed : (history : List Numbered) → history ≡ numbered (entries_in history) → IsNumbered history
-IsNumbered-closed history are =
-    ap (λ l. map (λ (n : Numbered). n.number) l) are ∙ numbers_from 0 (entries_in history)
-    ∙ ap (range_with_len 0) (length-map history (λ (n : Numbered). n.entry))
 
 -- Each processor's list is whole where the passes' lists are.
 pub whole_at : (j : JournalName) (passes : List PassState) (h : List Entry)

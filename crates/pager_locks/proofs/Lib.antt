@@ -1,3 +1,4 @@
+pub mod TurnCounts
 pub mod GrownLogs
 pub mod Meetings
 pub mod Flights

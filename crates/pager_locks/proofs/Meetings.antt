@@ -18,8 +18,8 @@ use Rattle.flight_core.specs.declared.flight.Flight.{Flight}
 use Rattle.flight_core.specs.Flights.{IsReady, LeftBy}
 use Rattle.flight_core.specs.Rows.{row_of}
 use Rattle.flight_core.specs.Steps.{SameSpace}
-use Rattle.step_log.specs.Counting.{most_in_history}
-use Rattle.step_log.specs.Flying.{IsOnWay, HasLeft, IsHere as GoesOnHere}
+use Rattle.flight_core.specs.Counting.{most_in_history}
+use Rattle.flight_core.specs.Flying.{IsOnWay, HasLeft, IsHere as GoesOnHere}
 use Rattle.pager_locks.specs.Locked.{Departure, StandsAt, IsPoolAt, IsFlying, IsHere, Stepped, state_by, frames_by}
 use Rattle.pager_locks.specs.Logs.{IsSpaceOf, IsFramesOf, IsPassOf, AreHeld}
 

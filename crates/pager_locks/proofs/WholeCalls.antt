@@ -30,11 +30,11 @@ use Rattle.flight_core.proofs.NextFlights.{ended_by, of_calls, turn_goes_on}
 use Rattle.flight_core.proofs.Purposes.{of_call-is}
 use Rattle.pager_locks.specs.Calls.{MakesCall, MakesTurn, IsNextFlight}
 use Rattle.pager_locks.specs.Locked.{Departure, IsFlying, SaysWhy}
-use Rattle.step_log.specs.Flying.{IsOnWay, later}
+use Rattle.flight_core.specs.Flying.{IsOnWay, later}
 use Rattle.pager_locks.specs.Prepared.{MayCall, MayTurn}
 use Rattle.pager_locks.proofs.CountedCalls.{counted}
-use Rattle.step_log.proofs.Later.{later_none}
-use Rattle.step_log.proofs.WholeFlights.{Added-none}
+use Rattle.flight_core.proofs.Later.{later_none}
+use Rattle.flight_core.proofs.WholeFlights.{Added-none}
 
 -- a turn has no reply
 no_reply : (p : Purpose) (mark : ℕ) (r : Reply) → job_in p ≡ Turn mark → IsFor p (Ended r) → ⊥

@@ -12,7 +12,7 @@ use Rattle.pager_model.specs.Showing.{answers_in, IsSequence, IsTurn}
 use Rattle.flight_core.specs.declared.flight.Flight.{Flight}
 use Rattle.flight_core.specs.declared.flight.Phase.TheVariants.{Start}
 use Rattle.flight_core.specs.Rows.{claimed_in, is_of_call}
-use Rattle.step_log.specs.Logged.{replies_in}
+use Rattle.flight_core.specs.Logged.{replies_in}
 use Rattle.pager_locks.specs.Locked.{SaysWhy}
 
 -- the flight of the pass's next call, of which nothing was done

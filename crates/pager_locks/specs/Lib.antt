@@ -1,3 +1,4 @@
+pub mod Counts
 pub mod Locked
 pub mod Locks
 pub mod Calls

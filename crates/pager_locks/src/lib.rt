@@ -27,6 +27,7 @@
 //! such program, to begin from.
 #![tactic(auto)]
 
+pub mod daemon;
 mod locked;
 mod locks;
 mod logs;

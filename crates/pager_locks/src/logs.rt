@@ -2,9 +2,9 @@
 
 ghost use Rattle.std.specs.Prelude.{◌≡◌, true, is_some, Some};
 
+use flight_core::Log;
 use journal_core::{Author, Journal, Pass, commit, commit_two};
 use pager_model::Entry;
-use step_log::Log;
 
 /// The authors of the parts whose locks are held, and the pass of the flight's processor. It stands for each history of which these have the
 /// lists, whoever else goes on with the parts that aren't in hand.

@@ -1,12 +1,12 @@
 -- One entry more: what it does to the parts of a history, to what they lead to, and to legality.
-use Rattle.std.proofs.Common.{◌≡◌, ℕ, Bool, true, false, cond, List, [], ◌∷◌, ◌++◌, filter, Option, length, refl, ap, sym, subst, ◌∙◌, append_assoc}
+use Rattle.std.proofs.Common.{◌≡◌, ℕ, suc, Bool, true, false, cond, List, [], ◌∷◌, ◌++◌, filter, Option, length, refl, ap, sym, subst, ◌∙◌, append_assoc}
 use Rattle.std.proofs.lemmas.List.{append-nil}
 use Rattle.std.proofs.lemmas.List.Elements.{filter-append}
 use Rattle.std.proofs.lemmas.List.Sums.{fold-append}
 use Rattle.pager_model.specs.declared.entry.Entry.{Entry}
 use Rattle.pager_model.specs.Entries.{names_space, names_frames, is_of, space_part, frames_part, entries_of}
 use Rattle.pager_model.specs.FrameStates.{frames_after, start_frames}
-use Rattle.pager_model.specs.Legal.{state_of_space, frames_state, progress_in, space_at, frames_at, progress_at, MayFollow, AllFollow, IsLegal}
+use Rattle.pager_model.specs.Legal.{state_of_space, frames_state, progress_in, space_at, frames_at, progress_at, MayFollow, AllFollow, IsLegal, entries_in, numbered, numbered_from}
 use Rattle.pager_model.specs.Order.{Progress, progress_from, progress_by}
 use Rattle.pager_model.specs.Settings.{Given, is_told, faults_at_entry}
 use Rattle.pager_model.specs.SpaceStates.{space_after, empty_state}
@@ -73,3 +73,11 @@ module _ (g : Given) (P : List Entry → Type 0) (more : (history : List Entry) 
 
   pub IsLegal-keeps : P [] → (history : List Entry) → IsLegal g history → P history
   IsLegal-keeps none history legal = AllFollow-keeps [] history none legal
+
+-- Numbered entries are the entries.
+entries_in-numbered_from : (place : ℕ) (es : List Entry) → entries_in (numbered_from place es) ≡ es
+entries_in-numbered_from place [] = refl
+entries_in-numbered_from place (e ∷ es) = ap (λ l. e ∷ l) (entries_in-numbered_from (suc place) es)
+
+pub entries_in-numbered : (history : List Entry) → entries_in (numbered history) ≡ history
+entries_in-numbered history = entries_in-numbered_from 0 history

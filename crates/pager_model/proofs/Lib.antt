@@ -1,3 +1,10 @@
+pub mod ChunkCalls
+pub mod ChunkCounting
+pub mod ChunkLending
+pub mod ChunkMemory
+pub mod ChunkOwners
+pub mod ChunkSteps
+pub mod ChunkWords
 pub mod Histories
 pub mod FrameEntries
 pub mod SpaceEntries

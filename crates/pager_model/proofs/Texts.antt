@@ -12,7 +12,7 @@ use Rattle.pager_model.specs.declared.region.Kind.TheVariants.{Fixed, Growing, W
 use Rattle.pager_model.specs.declared.region.Rights.{Rights}
 use Rattle.pager_model.specs.declared.region.Rights.TheVariants.{NoAccess, Read, Write}
 use Rattle.pager_model.specs.declared.trace.Daemon.{Daemon}
-use Rattle.pager_model.specs.Plans.{Plan}
+use Rattle.pager_model.specs.Scripts.{Script}
 use Rattle.pager_model.specs.SizeSets.{SizeSet}
 use Rattle.pager_model.specs.TraceText.{HasText, IsCall, IsDaemon, IsLine, text_of, first_line, call_line, call_words, daemon_line, line_of_words, kind_word, rights_word, sizes_word, IsVersion}
 
@@ -118,31 +118,31 @@ pub version_low : (version : ℕ) (z : SizeSet) → IsVersion version z → vers
 version_low version z is =
     elim is [ inl one ↦ omega (arith, one.0) | inr later ↦ elim later [ inl two ↦ omega (arith, two) | inr three ↦ omega (arith, three) ] ]
 
-first_is_short : (plan : Plan) → HasText plan → length (first_line plan) ≤ 43
-first_is_short plan has =
-    first_words_short plan.version plan.frames plan.processors plan.spaces
-    (let low = version_low plan.version plan.sizes has.version_in in omega arith) (omega (arith, has.frames_in))
+first_is_short : (script : Script) → HasText script → length (first_line script) ≤ 43
+first_is_short script has =
+    first_words_short script.version script.frames script.processors script.spaces
+    (let low = version_low script.version script.sizes has.version_in in omega arith) (omega (arith, has.frames_in))
     (omega (arith, has.processors_in))
-    (omega (arith, has.spaces_in)) (sizes_word plan.sizes) (sizes_are_short plan.sizes.one plan.sizes.two plan.sizes.three)
-    (plan.version == 1)
+    (omega (arith, has.spaces_in)) (sizes_word script.sizes) (sizes_are_short script.sizes.one script.sizes.two script.sizes.three)
+    (script.version == 1)
 
 daemon_is_short : (daemon : Option Daemon) → IsDaemon daemon → length (daemon_line daemon) ≤ 40
 daemon_is_short None is = omega arith
 daemon_is_short (Some d) is =
     simp length-append (omega (arith, small d.low (omega (arith, is.0)), small d.turns (omega (arith, is.1))))
 
-pub text_is_short : (plan : Plan) → HasText plan → length (text_of plan) ≤ 16777216
-text_is_short plan has =
-    let first = first_line plan in
-    let daemon = daemon_line plan.daemon in
-    let calls = flat_map call_line plan.calls in
+pub text_is_short : (script : Script) → HasText script → length (text_of script) ≤ 16777216
+text_is_short script has =
+    let first = first_line script in
+    let daemon = daemon_line script.daemon in
+    let calls = flat_map call_line script.calls in
     omega (
       arith,
       has.few,
-      first_is_short plan has,
-      daemon_is_short plan.daemon has.daemon_in,
-      calls_are_short plan.version plan.processors plan.spaces plan.calls has.processors_in.1 has.spaces_in.1
-          (recursion_from_All _ plan.calls has.lines),
+      first_is_short script has,
+      daemon_is_short script.daemon has.daemon_in,
+      calls_are_short script.version script.processors script.spaces script.calls has.processors_in.1 has.spaces_in.1
+          (recursion_from_All _ script.calls has.lines),
       length-append (first ++ daemon ++ calls) (line_of_words (codes "end" ∷ [])),
       length-append (first ++ daemon) calls,
       length-append first daemon,

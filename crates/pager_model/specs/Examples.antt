@@ -14,7 +14,7 @@ use Rattle.pager_model.specs.declared.reply.Reply.TheVariants.{Done, Value, Unma
 use Rattle.pager_model.specs.declared.reservation.Reservation.{Reservation}
 use Rattle.pager_model.specs.Flat.{Flat, empty_space, after_call}
 use Rattle.pager_model.specs.FrameStates.{FrameState, start_frames, take_frame, state_taken, give_page, claimed, pin_range, counted}
-use Rattle.pager_model.specs.Plans.{Plan}
+use Rattle.pager_model.specs.Scripts.{Script}
 use Rattle.pager_model.specs.Settings.{Given}
 use Rattle.pager_model.specs.SizeSets.{SizeSet, all_sizes}
 use Rattle.pager_model.specs.SpaceStates.{SpaceState, empty_state, space_after}
@@ -141,8 +141,8 @@ wiring_history =
     ∷ pin_all false ∷ answer 4 (Unwire 0 3) Done ∷ []
 
 -- a trace of two calls
-abbrev pub small_plan : Plan
-small_plan =
+abbrev pub small_script : Script
+small_script =
     record {
       version = 1;
       sizes = all_sizes;

@@ -7,8 +7,8 @@ use Rattle.pager_model.specs.SizeSets.{SizeSet}
 use Rattle.pager_model.specs.Tiles.{same_tile, is_tile_in}
 
 -- an image holds at most so many tiles
-abbrev pub image_room : ℕ
-image_room = 128
+abbrev pub image_capacity : ℕ
+image_capacity = 128
 
 -- the tile stands in the image
 abbrev pub is_in_image : List Tile → Option Tile → Bool
@@ -17,7 +17,7 @@ is_in_image image (Some t) = list_any (same_tile t) image
 
 -- the tile comes to the front, without its earlier place, and the image is cut to its room
 abbrev pub touched : Tile → List Tile → List Tile
-touched t image = take image_room (t ∷ filter (λ u. not (same_tile t u)) image)
+touched t image = take image_capacity (t ∷ filter (λ u. not (same_tile t u)) image)
 
 -- what is no tile of these pages is gone
 abbrev pub still_tiles : SizeSet → (ℕ → Option Mapping) → List Tile → List Tile

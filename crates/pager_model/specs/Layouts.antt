@@ -140,21 +140,21 @@ broken_at id l = option_map_or (λ r. break_layout r l) (record_at l id) l
 
 -- An extent of free frames for a new reservation: the layout that it is chosen in, its size and first frame, and how many
 -- reservations were broken for it.
-pub record Found : Type 0 where
+pub record FreeExtent : Type 0 where
   pub layout : Layout
   pub size : ℕ
   pub first : ℕ
   pub broken : ℕ
 
-abbrev pub chosen : ℕ → ℕ → Layout → Option Found
+abbrev pub chosen : ℕ → ℕ → Layout → Option FreeExtent
 chosen size broken l = option_map (λ first. record { layout = l; size = size; first = first; broken = broken }) (choice l.free size)
 
 -- the choice for the size, and where there is none, the choice after a reservation was broken for it, where one can be
-abbrev pub extent_of : ℕ → Layout → Option Found
+abbrev pub extent_of : ℕ → Layout → Option FreeExtent
 extent_of size l = option_or (chosen size 0 l) (option_and_then (λ id. chosen size 1 (broken_at id l)) (to_break l size))
 
 -- the extent of the largest size, up to this one, for which one can be had
-abbrev pub largest_extent : ℕ → Layout → Option Found
+abbrev pub largest_extent : ℕ → Layout → Option FreeExtent
 largest_extent zero l = extent_of 0 l
 largest_extent (suc size) l =
     if has_size l.sizes (suc size) then option_or (extent_of (suc size) l) (largest_extent size l) else largest_extent size l
@@ -190,12 +190,12 @@ populated stamp page l r =
     }
 
 -- the reservation that an extent of frames makes with the extent of pages of its size round the page
-abbrev pub new_reservation : ℕ → ℕ → ℕ → Found → Reservation
+abbrev pub new_reservation : ℕ → ℕ → ℕ → FreeExtent → Reservation
 new_reservation stamp space page found =
     record { space = space; first = extent_start found.size page; size = found.size; frame = found.first; stamp = stamp }
 
 -- an extent that was found becomes a reservation whose one used place is the page's
-abbrev pub reserved : ℕ → ℕ → ℕ → Found → Placing
+abbrev pub reserved : ℕ → ℕ → ℕ → FreeExtent → Placing
 reserved stamp space page found =
     let r = new_reservation stamp space page found in
     record {

@@ -1,7 +1,7 @@
 -- Which histories are legal: each entry names its parts, each part that it names allows it after the part's entries before
 -- it, and it keeps its processor's order. What a part or a processor's list allows is judged from the setting and that list
 -- alone, and nothing else is asked of an entry.
-use Rattle.std.specs.Prelude.{ℕ, ◌≡◌, ◌<◌, true, List, [], ◌∷◌, ◌++◌, length, fold, Option, Some, IfSome, map}
+use Rattle.std.specs.Prelude.{ℕ, suc, ◌≡◌, ◌<◌, true, List, [], ◌∷◌, ◌++◌, length, fold, Option, Some, IfSome, map}
 use Rattle.pager_model.specs.declared.entry.Entry.{Entry}
 use Rattle.pager_model.specs.declared.entry.Numbered.{Numbered}
 use Rattle.pager_model.specs.Entries.{space_part, frames_part, entries_of, NamesItsParts}
@@ -72,3 +72,12 @@ AllWhole g history = (c : ℕ) → c < length g.marks → IsWhole (mark_of g c) 
 -- the entries of a numbered history
 abbrev pub entries_in : List Numbered → List Entry
 entries_in history = map (λ (n : Numbered). n.entry) history
+
+-- the entries with their places, from this one on
+abbrev pub numbered_from : ℕ → List Entry → List Numbered
+numbered_from place [] = []
+numbered_from place (e ∷ es) = record { number = place; entry = e } ∷ numbered_from (suc place) es
+
+-- a history with the places of its entries
+abbrev pub numbered : List Entry → List Numbered
+numbered history = numbered_from 0 history

@@ -1,9 +1,12 @@
+pub mod ChunkLoans
+pub mod ChunkOwnership
+pub mod Chunks
 pub mod Extents
 pub mod Options
 pub mod OptionalIndices
 pub mod SizeSets
 pub mod Settings
-pub mod Plans
+pub mod Scripts
 pub mod Frame
 pub mod FrameLoan
 pub mod TraceText
@@ -24,7 +27,7 @@ pub mod Headline
 pub mod Showing
 pub mod Stored
 pub mod Stores
-pub mod TurnOrders
+pub mod Schedules
 pub mod Counts
 pub mod PrintedText
 pub mod FreeBlocks

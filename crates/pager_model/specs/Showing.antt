@@ -11,7 +11,7 @@ use Rattle.pager_model.specs.declared.trace.Job.{Job}
 use Rattle.pager_model.specs.declared.trace.Job.TheVariants.{Call as MakesCall, Turn}
 use Rattle.pager_model.specs.Entries.{entries_of}
 use Rattle.pager_model.specs.Order.{progress_from, progress_of, at_rest, IsWhole}
-use Rattle.pager_model.specs.Plans.{Plan}
+use Rattle.pager_model.specs.Scripts.{Script}
 
 -- a daemon is one processor more, with its low mark
 abbrev pub daemon_marks : Option Daemon → List ℕ
@@ -19,12 +19,12 @@ daemon_marks None = []
 daemon_marks (Some d) = d.low ∷ []
 
 -- the mark of each processor of a trace: 0 for those that make calls, and the daemon's for one more
-abbrev pub marks_of : Plan → List ℕ
-marks_of plan = replicate plan.processors 0 ++ daemon_marks plan.daemon
+abbrev pub marks_of : Script → List ℕ
+marks_of script = replicate script.processors 0 ++ daemon_marks script.daemon
 
 -- how many processors there are, with the daemon
-abbrev pub actors : Plan → ℕ
-actors plan = length (marks_of plan)
+abbrev pub actors : Script → ℕ
+actors script = length (marks_of script)
 
 -- an answer's number and call
 abbrev pub answer_in : What → Option (ℕ × Call)
@@ -45,20 +45,20 @@ turns_of None = []
 turns_of (Some d) = replicate d.turns (Turn d.low)
 
 -- What a processor of a trace does, in order: its calls, or turns where it is the daemon, the one behind those that make calls.
-abbrev pub jobs_of : ℕ → Plan → List Job
-jobs_of c plan = map MakesCall (calls_of c plan.calls) ++ (if c == plan.processors then turns_of plan.daemon else [])
+abbrev pub jobs_of : ℕ → Script → List Job
+jobs_of c script = map MakesCall (calls_of c script.calls) ++ (if c == script.processors then turns_of script.daemon else [])
 
 -- the daemon's list is exactly its turns, each whole; without a daemon there is no such processor, and no entry of it is legal
-abbrev pub MakesTurns : Plan → Option Daemon → List Entry → Type 0
-MakesTurns plan None history = Unit {0}
-MakesTurns plan (Some d) history = progress_of d.low (entries_of plan.processors history) ≡ Some (at_rest d.low d.turns)
+abbrev pub MakesTurns : Script → Option Daemon → List Entry → Type 0
+MakesTurns script None history = Unit {0}
+MakesTurns script (Some d) history = progress_of d.low (entries_of script.processors history) ≡ Some (at_rest d.low d.turns)
 
 -- For each processor its answers are its calls, in order and numbered from 0, and each call that was begun is answered; and where there is a
 -- daemon it made its turns, no more and no less, and each that was begun has ended.
-pub record Shows (plan : Plan) (history : List Entry) : Type 0 where
-  pub calls : (c : ℕ) → c < plan.processors → (answers_in (entries_of c history) ≡ enumerate_from 0 (calls_of c plan.calls))
+pub record Shows (script : Script) (history : List Entry) : Type 0 where
+  pub calls : (c : ℕ) → c < script.processors → (answers_in (entries_of c history) ≡ enumerate_from 0 (calls_of c script.calls))
       × IsWhole 0 (entries_of c history)
-  pub turns : MakesTurns plan plan.daemon history
+  pub turns : MakesTurns script script.daemon history
 
 -- The sequence of a line's call: the entries are of its processor, they lead it from rest to one call more answered, and the one
 -- answer among them is that of the line's call. Where the order leads ties each of them to the call's space, page and kind.
@@ -90,10 +90,10 @@ FilesLines c mark (suc n) (line ∷ lines) history =
     × FilesLines c mark n lines rest
 
 -- a trace without a daemon is as one whose daemon has no turn
-abbrev pub FilesBy : Plan → Option Daemon → List Entry → Type 0
-FilesBy plan None history = FilesLines plan.processors 0 0 plan.calls history
-FilesBy plan (Some d) history = FilesLines plan.processors d.low d.turns plan.calls history
+abbrev pub FilesBy : Script → Option Daemon → List Entry → Type 0
+FilesBy script None history = FilesLines script.processors 0 0 script.calls history
+FilesBy script (Some d) history = FilesLines script.processors d.low d.turns script.calls history
 
 -- the history of a trace in the order of its lines
-abbrev pub IsFiled : Plan → List Entry → Type 0
-IsFiled plan history = FilesBy plan plan.daemon history
+abbrev pub IsFiled : Script → List Entry → Type 0
+IsFiled script history = FilesBy script script.daemon history

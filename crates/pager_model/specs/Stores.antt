@@ -2,7 +2,7 @@
 use Rattle.std.specs.Prelude.{ℕ, ◌≡◌, ◌<◌, ◌≤◌, true, List, length, map, take, slice_get, slice_index_or, Option, Some, None, IsSomeAnd}
 use Rattle.pager_model.specs.declared.entry.Numbered.{Numbered}
 use Rattle.pager_model.specs.Legal.{space_at, entries_in}
-use Rattle.pager_model.specs.Plans.{Plan}
+use Rattle.pager_model.specs.Scripts.{Script}
 use Rattle.pager_model.specs.Settings.{Given, is_told}
 use Rattle.pager_model.specs.Showing.{marks_of}
 use Rattle.pager_model.specs.SizeSets.{SizeSet}
@@ -23,8 +23,8 @@ given_over frames z marks stores =
 
 -- The setting of a trace over the stores that are handed in, of which each space uses the one of its number: its frames and page sizes, a mark of 0
 -- for each processor and the daemon's low mark for one more, and what each store said at the start of its copies and its faults.
-abbrev pub setting_over : Plan → List Stored → Given
-setting_over plan stores = given_over plan.frames plan.sizes (marks_of plan) (take plan.spaces stores)
+abbrev pub setting_over : Script → List Stored → Given
+setting_over script stores = given_over script.frames script.sizes (marks_of script) (take script.spaces stores)
 
 -- the copy of flat memory is that of the store: both are unknown, or their words are the same
 abbrev pub IsCopy : Option (ℕ → ℕ) → Option (List ℕ) → Type 0

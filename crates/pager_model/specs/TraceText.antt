@@ -9,7 +9,7 @@ use Rattle.pager_model.specs.declared.region.Kind.{Kind}
 use Rattle.pager_model.specs.declared.region.Kind.TheVariants.{Fixed, Growing, Wired}
 use Rattle.pager_model.specs.declared.region.Rights.{Rights}
 use Rattle.pager_model.specs.declared.region.Rights.TheVariants.{NoAccess, Read, Write}
-use Rattle.pager_model.specs.Plans.{Plan}
+use Rattle.pager_model.specs.Scripts.{Script}
 use Rattle.pager_model.specs.SizeSets.{SizeSet, all_sizes}
 use Rattle.pager_model.specs.Bounds.{most_calls, most_frames, space_bytes, space_pages, most_processors, most_spaces}
 
@@ -63,8 +63,8 @@ first_words version frames processors spaces z =
     codes "trace" ∷ decimal version ∷ decimal frames ∷ decimal processors ∷ decimal spaces ∷
     (if version == 1 then [] else sizes_word z ∷ [])
 
-abbrev pub first_line : Plan → List ℕ
-first_line plan = line_of_words (first_words plan.version plan.frames plan.processors plan.spaces plan.sizes)
+abbrev pub first_line : Script → List ℕ
+first_line script = line_of_words (first_words script.version script.frames script.processors script.spaces script.sizes)
 
 -- the words of a daemon's line
 abbrev pub daemon_words : Daemon → List (List ℕ)
@@ -76,8 +76,8 @@ daemon_line None = []
 daemon_line (Some d) = line_of_words (daemon_words d)
 
 -- the whole text: the first line, the daemon's where there is one, a line for each call, and the line end
-abbrev pub text_of : Plan → List ℕ
-text_of plan = first_line plan ++ daemon_line plan.daemon ++ flat_map call_line plan.calls ++ line_of_words (codes "end" ∷ [])
+abbrev pub text_of : Script → List ℕ
+text_of script = first_line script ++ daemon_line script.daemon ++ flat_map call_line script.calls ++ line_of_words (codes "end" ∷ [])
 
 -- a call that a line may hold, where there are so many spaces: of one of them, at one of its 1,048,576 pages; a range has a page at
 -- least and as many as a space at most, and may lie past the end; an address is that of a word
@@ -116,16 +116,16 @@ IsVersion version z = ((version ≡ 1) × (z ≡ all_sizes)) ⊎ ((version ≡ 2
 
 -- the traces that have a text: of version 1, 2 or 3, a multiple of 512 frames from 512 to 32,768, one to sixteen processors and spaces, maybe a daemon,
 -- and at most 262,144 calls in their ranges, of those that the version has
-pub record HasText (plan : Plan) : Type 0 where
-  pub version_in : IsVersion plan.version plan.sizes
-  pub frames_in : (512 ≤ plan.frames) × (plan.frames ≤ most_frames)
-  pub frames_whole : plan.frames % 512 ≡ 0
-  pub processors_in : (1 ≤ plan.processors) × (plan.processors ≤ most_processors)
-  pub spaces_in : (1 ≤ plan.spaces) × (plan.spaces ≤ most_spaces)
-  pub daemon_in : IsDaemon plan.daemon
-  pub lines : All (IsLine plan.version plan.processors plan.spaces) plan.calls
-  pub few : length plan.calls ≤ most_calls
+pub record HasText (script : Script) : Type 0 where
+  pub version_in : IsVersion script.version script.sizes
+  pub frames_in : (512 ≤ script.frames) × (script.frames ≤ most_frames)
+  pub frames_whole : script.frames % 512 ≡ 0
+  pub processors_in : (1 ≤ script.processors) × (script.processors ≤ most_processors)
+  pub spaces_in : (1 ≤ script.spaces) × (script.spaces ≤ most_spaces)
+  pub daemon_in : IsDaemon script.daemon
+  pub lines : All (IsLine script.version script.processors script.spaces) script.calls
+  pub few : length script.calls ≤ most_calls
 
 -- these bytes are the text of this trace
-abbrev pub IsTextOf : List ℕ → Plan → Type 0
-IsTextOf bytes plan = HasText plan × (bytes ≡ text_of plan)
+abbrev pub IsTextOf : List ℕ → Script → Type 0
+IsTextOf bytes script = HasText script × (bytes ≡ text_of script)

@@ -4,10 +4,10 @@ ghost use Rattle.std.specs.Borrow.{sem};
 ghost use Rattle.pager_model.specs.Frame.{zero_frame};
 ghost use Rattle.pager_model.specs.FrameLoan.{LendsWords};
 
+pub use crate::chunks::WORDS;
+use crate::chunks::{Chunk, chunks};
 use std::alloc::{AllocError, AllocFailed, Global};
 use std::marker::Model;
-pub use word_rooms::WORDS;
-use word_rooms::{Room, rooms};
 
 /// No memory could be had.
 #[derive(Clone, Copy, Debug, PartialEq, Eq)]
@@ -33,7 +33,7 @@ static ZEROS: [u64; WORDS] = [0; WORDS];
 pub struct Frame {
     number: u32,
     /// Its words, or none of them while each is zero. Its memory is there from the start, and a frame that is never written touches none of it.
-    room: Room,
+    chunk: Chunk,
 }
 
 impl Model for Frame {
@@ -41,7 +41,7 @@ impl Model for Frame {
 
     ghost Value = { Framed };
 
-    ghost view = { λ f. record { number = f.number; words = words_or_zeros f.room } };
+    ghost view = { λ f. record { number = f.number; words = words_or_zeros f.chunk } };
 }
 
 impl Frame {
@@ -57,10 +57,10 @@ impl Frame {
         ensures words { result.now ≡ self.now.words }
         ensures count { length result.now ≡ 1024 }
     {
-        if self.room.is_empty() {
+        if self.chunk.is_empty() {
             return zeros();
         }
-        self.room.as_slice()
+        self.chunk.as_slice()
     }
 
     /// Its words, to be written.
@@ -69,17 +69,17 @@ impl Frame {
         ensures words { result.now ≡ self.old.words }
         ensures count { length result.now ≡ 1024 }
     {
-        if self.room.is_empty() {
-            self.room.fill_zeros();
+        if self.chunk.is_empty() {
+            self.chunk.fill_zeros();
         }
-        self.room.as_mut_slice()
+        self.chunk.as_mut_slice()
     }
 
     /// Makes its words zero, which writes none of them.
     pub fn clear(&mut self)
         ensures { self.new ≡ zero_frame self.old.number }
     {
-        self.room.clear();
+        self.chunk.clear();
     }
 }
 
@@ -94,13 +94,13 @@ fn zeros() -> &'static [u64]
 pub fn frames_of(alloc: Global, count: u32) -> Result<Vec<Frame>, NoMemory>
     ensures { IfOk result (λ frames. frames.items ≡ map zero_frame (range_with_len 0 count)) }
 {
-    let mut rooms = rooms(alloc, count as usize)?;
+    let mut chunks = chunks(alloc, count as usize)?;
     let mut frames = Vec::with_capacity(alloc, count as usize)?;
     for number in 0..count {
-        let Some(room) = rooms.pop() else {
+        let Some(chunk) = chunks.pop() else {
             unreachable!()
         };
-        frames.push_reserved(Frame { number, room });
+        frames.push_reserved(Frame { number, chunk });
     }
     Ok(frames)
 }

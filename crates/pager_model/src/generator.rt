@@ -1,7 +1,7 @@
 //! Drawn numbers.
 
 ghost use Rattle.std.specs.Prelude.{◌≡◌, ◌<◌};
-ghost use Rattle.pager_model.specs.TurnOrders.{next_state, drawn};
+ghost use Rattle.pager_model.specs.Schedules.{next_state, drawn};
 
 use std::marker::Model;
 

@@ -8,7 +8,7 @@ ghost use Rattle.pager_model.specs.declared.region.Kind.TheVariants.{Fixed, Wire
 ghost use Rattle.pager_model.specs.declared.region.Rights.TheVariants.{NoAccess, Write};
 ghost use Rattle.pager_model.specs.declared.reply.Reply.TheVariants.{Done, Value, Clean, Unmapped, Denied, Busy};
 ghost use Rattle.pager_model.specs.Ages.{with_member, oldest_in};
-ghost use Rattle.pager_model.specs.Examples.{eight_pages, eight_pinned, eight_growing, eight_wired, one_discarded, one_wired, one_unwired, one_claimed, wire_done, wire_busy, discard_after, answer, missed, two_processors, while_claimed, after_finding, out_page_zero, after_map, two_frames, one_taken, one_broken, one_given, one_carved, both_taken, want_eight, small_setting, legal_history, exchanged_history, discarding_history, wiring_history, small_plan, take_page_one, on_both, on_frames, eight_places, eight_parts_used, one_turn, got_turn, failing_turn, idle_turn, spent_turn, second_claim, goes_on_failing, failing_load, made_up_fault, untold_space, run_of_pages, with_dirty, with_read, with_region, writable, small_tile, base_and_64, base_and_512, all_but_8, one_of_sixty_four, sixty_four_places, all_places, is_spread};
+ghost use Rattle.pager_model.specs.Examples.{eight_pages, eight_pinned, eight_growing, eight_wired, one_discarded, one_wired, one_unwired, one_claimed, wire_done, wire_busy, discard_after, answer, missed, two_processors, while_claimed, after_finding, out_page_zero, after_map, two_frames, one_taken, one_broken, one_given, one_carved, both_taken, want_eight, small_setting, legal_history, exchanged_history, discarding_history, wiring_history, small_script, take_page_one, on_both, on_frames, eight_places, eight_parts_used, one_turn, got_turn, failing_turn, idle_turn, spent_turn, second_claim, goes_on_failing, failing_load, made_up_fault, untold_space, run_of_pages, with_dirty, with_read, with_region, writable, small_tile, base_and_64, base_and_512, all_but_8, one_of_sixty_four, sixty_four_places, all_places, is_spread};
 ghost use Rattle.pager_model.specs.Order.{progress_of, at_rest};
 ghost use Rattle.pager_model.specs.SpaceStates.{IsAsked};
 ghost use Rattle.pager_model.specs.Flat.{after_call, reply_of};
@@ -229,12 +229,12 @@ pub fn a_pin_and_a_clear_are_of_regions()
 
 /// A trace of two calls has this text, one of base pages and superpages of 512 this first line, a call of each other kind this line, and a legal history prints these answers.
 pub fn small_texts()
-    ensures trace { text_of small_plan ≡ codes "trace 1 512 1 1\n0 map 0 0 8 fixed write\n0 store 0 8192 5\nend\n" }
-    ensures sizes { first_line (record small_plan { version = 2; sizes = base_and_512 }) ≡ codes "trace 2 512 1 1 03\n" }
-    ensures all_sizes { first_line (record small_plan { version = 2 }) ≡ codes "trace 2 512 1 1 0123\n" }
-    ensures version { HasText (record small_plan { sizes = base_and_512 }) → ⊥ }
-    ensures early_wire { HasText (record small_plan { version = 2; calls = record { processor = 0; call = Wire 0 3 } ∷ [] }) → ⊥ }
-    ensures sizes_of_3 { first_line (record small_plan { version = 3; sizes = base_and_512 }) ≡ codes "trace 3 512 1 1 03\n" }
+    ensures trace { text_of small_script ≡ codes "trace 1 512 1 1\n0 map 0 0 8 fixed write\n0 store 0 8192 5\nend\n" }
+    ensures sizes { first_line (record small_script { version = 2; sizes = base_and_512 }) ≡ codes "trace 2 512 1 1 03\n" }
+    ensures all_sizes { first_line (record small_script { version = 2 }) ≡ codes "trace 2 512 1 1 0123\n" }
+    ensures version { HasText (record small_script { sizes = base_and_512 }) → ⊥ }
+    ensures early_wire { HasText (record small_script { version = 2; calls = record { processor = 0; call = Wire 0 3 } ∷ [] }) → ⊥ }
+    ensures sizes_of_3 { first_line (record small_script { version = 3; sizes = base_and_512 }) ≡ codes "trace 3 512 1 1 03\n" }
     ensures grow { call_line (record { processor = 1; call = Grow 2 1048575 1048576 }) ≡ codes "1 grow 2 1048575 1048576\n" }
     ensures unmap { call_line (record { processor = 15; call = Unmap 15 0 }) ≡ codes "15 unmap 15 0\n" }
     ensures protect { call_line (record { processor = 0; call = Protect 0 300 1 NoAccess }) ≡ codes "0 protect 0 300 1 none\n" }

@@ -8,6 +8,7 @@
 mod address;
 pub mod bounds;
 pub mod call;
+pub mod chunks;
 pub mod entry;
 pub mod extent;
 pub mod frame;

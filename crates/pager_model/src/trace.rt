@@ -37,9 +37,9 @@ pub struct Trace {
 }
 
 impl Model for Trace {
-    ghost use Rattle.pager_model.specs.Plans.{Plan};
+    ghost use Rattle.pager_model.specs.Scripts.{Script};
 
-    ghost Value = { Plan };
+    ghost Value = { Script };
 
     ghost use Rattle.pager_model.specs.TraceText.{HasText};
 

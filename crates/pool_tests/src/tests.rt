@@ -2,13 +2,13 @@
 ghost use Rattle.std.specs.Prelude.{◌≡◌, min};
 
 mod blocks;
+mod chunks;
 mod members;
 mod numbers;
 mod pool;
 mod populations;
 mod preferences;
 mod reserved;
-mod rooms;
 mod types;
 
 use pager_model::Size;

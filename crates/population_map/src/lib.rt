@@ -86,7 +86,7 @@ impl PopulationMap {
 
     /// Places an extent of which no page is in a placed one. Ids are below the number of pages that there is room for, as frames are: so
     /// an id or none fits in four bytes.
-    pub fn place(&mut self, space: u32, extent: Extent, id: u32)
+    pub fn insert(&mut self, space: u32, extent: Extent, id: u32)
         requires space { space < space_count self.old }
         requires aligned { IsExtent extent.size extent.first }
         requires within { extent.first < space_pages }
@@ -99,7 +99,7 @@ impl PopulationMap {
         ensures empty { EmptiesOnly self.old self.new extent.size (page_at space extent.first) }
         ensures count { placed_pages self.new ≡ placed_pages self.old + 8 ^ extent.size }
     {
-        placing::place::<Brand>(
+        placing::insert::<Brand>(
             &mut self.tree,
             extent.size,
             page_at(space, extent.first),

@@ -14,7 +14,7 @@ use pager_model::{OptionalIndex, Size, Steps};
 use std::sync::ledger::{Blank, Ledger};
 
 /// Places the extent of a size from a page on, none of whose pages is in a placed one.
-pub(crate) fn place<L: Ledger>(
+pub(crate) fn insert<L: Ledger>(
     tree: &mut ExtentTree<Mark>,
     size: Size,
     first: u32,

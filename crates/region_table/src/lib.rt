@@ -97,7 +97,7 @@ impl Regions {
         ensures unchanged { OnErr result (self.new ≡ self.old) }
         ensures ordered { IsTable self.new }
     {
-        let Some(place) = self.place_of(page) else {
+        let Some(place) = self.position_of(page) else {
             return Err(Reply::Unmapped);
         };
         let region = self.items[place];
@@ -138,7 +138,7 @@ impl Regions {
         requires { 1 ≤ by }
         ensures { result ≡ grow_reply self.now page by }
     {
-        let Some(place) = self.place_of(page) else {
+        let Some(place) = self.position_of(page) else {
             return Reply::Unmapped;
         };
         let region = self.items[place];
@@ -165,7 +165,7 @@ impl Regions {
         ensures unchanged { OnErr result (self.new ≡ self.old) }
         ensures ordered { IsTable self.new }
     {
-        match self.place_of(page) {
+        match self.position_of(page) {
             Some(place) => Ok(self.items.remove(place)),
             None => Err(Reply::Unmapped),
         }
@@ -184,7 +184,7 @@ impl Regions {
         ensures unchanged { OnErr result (self.new ≡ self.old) }
         ensures ordered { IsTable self.new }
     {
-        let Some(place) = self.place_of(page) else {
+        let Some(place) = self.position_of(page) else {
             return Err(Reply::Unmapped);
         };
         let region = self.items[place];
@@ -200,7 +200,7 @@ impl Regions {
         ensures value { result ≡ region_at self.now page }
         ensures ordered { IsTable self.now }
     {
-        let place = self.place_of(page)?;
+        let place = self.position_of(page)?;
         Some(self.items[place])
     }
 
@@ -234,7 +234,7 @@ impl Regions {
     }
 
     /// The place of the region that has `page`, if one has it: the last that begins there or below can be the only one.
-    fn place_of(&self, page: u32) -> Option<usize>
+    fn position_of(&self, page: u32) -> Option<usize>
         ensures value { result ≡ position (has_page page) self.now }
         ensures within { IfSome result (λ place. place < length self.now) }
         ensures ordered { IsTable self.now }

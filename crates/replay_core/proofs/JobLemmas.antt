@@ -32,12 +32,12 @@ use Rattle.pager_core.specs.Machines.{CanDo}
 use Rattle.pager_core.specs.Running.{AreOfMark, FitsMark, call_of, calls_among, entries_of_job, jobs_at, IsNumbered, IsWholeRun}
 use Rattle.pager_laws.proofs.HistoryLists.{filter_map-push}
 use Rattle.pager_core.proofs.Lists.{enumerate-push}
-use Rattle.pager_core.proofs.MachineTurns.{all_calls, take_are}
+use Rattle.pager_core.proofs.Advances.{all_calls, take_are}
 use Rattle.pager_core.proofs.WholeRuns.{IsWholeRun-legal}
-use Rattle.step_log.specs.Logged.{replies_in}
-use Rattle.step_log.proofs.Lists.{all-append}
+use Rattle.flight_core.specs.Logged.{replies_in}
+use Rattle.flight_core.proofs.Lists.{all-append}
 use Rattle.replay_core.specs.declared.jobs.Worker.{Worker}
-use Rattle.replay_core.proofs.TurnLemmas.{all_tested}
+use Rattle.replay_core.proofs.ScheduleLemmas.{all_tested}
 use Rattle.replay_core.specs.Jobs.{jobs_in, room_for, DoesJob, HasDone, IsReady, IsDoneFrom, HasPass, KeepsToRooms, MayDo, MayDoAll, MayDoNext, HaveDone}
 
 -- Want of memory.

@@ -13,7 +13,7 @@ use Rattle.pager_model.specs.declared.trace.Job.{Job}
 use Rattle.pager_model.specs.Entries.{entries_of}
 use Rattle.pager_model.specs.Legal.{entries_in}
 use Rattle.pager_model.specs.Order.{progress_of}
-use Rattle.pager_model.specs.Plans.{Plan}
+use Rattle.pager_model.specs.Scripts.{Script}
 use Rattle.pager_model.specs.Settings.{Given, mark_of}
 use Rattle.pager_model.specs.Showing.{actors, jobs_of}
 use Rattle.pager_model.specs.Stores.{setting_over}
@@ -26,8 +26,8 @@ use Rattle.pager_core.specs.Running.{Running, jobs_at, flight_at, progress_of_ac
 use Rattle.pager_laws.proofs.Partition.{is_that-same}
 use Rattle.flight_core.proofs.NextFlights.{keeps_by_place, keeps_under, made_going, under_by_place}
 use Rattle.pager_model.specs.Locks.{under_in}
-use Rattle.pager_model.specs.TurnOrders.{Standing, own_of, standing_by, standing_at, is_kept_by, is_kept_by_other, has_left, can_go, can_step}
-use Rattle.replay_core.specs.Turns.{flies, IsStuck}
+use Rattle.pager_model.specs.Schedules.{Standing, own_of, standing_by, standing_at, is_kept_by, is_kept_by_other, has_left, can_go, can_step}
+use Rattle.replay_core.specs.Schedules.{flies, IsStuck}
 use Rattle.replay_core.proofs.RunLemmas.{IsRunOf, jobs_known, length-jobs}
 
 -- A test over the processors.
@@ -94,18 +94,18 @@ known_flight run c f lawful there = elim (cases_lt c (length run.jobs)) [
 ]
 
 -- The spaces that flights keep, of processors that are at these places.
-module _ (plan : Plan) (stores : List Stored) (run : Running) (is : IsRunOf plan stores run) where
-  pub known_in : (c : ℕ) → c < actors plan → c < length run.jobs
-  known_in c known = subst (λ n. c < n) (sym (length-jobs plan run.jobs is.jobs)) known
+module _ (script : Script) (stores : List Stored) (run : Running) (is : IsRunOf script stores run) where
+  pub known_in : (c : ℕ) → c < actors script → c < length run.jobs
+  known_in c known = subst (λ n. c < n) (sym (length-jobs script run.jobs is.jobs)) known
 
-  standing_is : (c : ℕ) → c < actors plan → standing_at plan (entries_in run.history) c ≡ standing_of (flight_at run.flights c)
+  standing_is : (c : ℕ) → c < actors script → standing_at script (entries_in run.history) c ≡ standing_of (flight_at run.flights c)
   standing_is c known =
-      let mark : mark_of run.given c ≡ mark_of (setting_over plan stores) c = ap (λ (g : Given). mark_of g c) is.given in
-      let progress : progress_of (mark_of (setting_over plan stores) c) (entries_of c (entries_in run.history))
+      let mark : mark_of run.given c ≡ mark_of (setting_over script stores) c = ap (λ (g : Given). mark_of g c) is.given in
+      let progress : progress_of (mark_of (setting_over script stores) c) (entries_of c (entries_in run.history))
       ≡ Some (progress_of_actor run c) =
       ap (λ m. progress_of m (entries_of c (entries_in run.history))) (sym mark) ∙ is.lawful.progress c (known_in c known) in
-      ap (option_and_then (standing_by (jobs_of c plan))) progress
-      ∙ ap (λ l. standing_by l (progress_of_actor run c)) (sym (jobs_known plan run.jobs is.jobs c known))
+      ap (option_and_then (standing_by (jobs_of c script))) progress
+      ∙ ap (λ l. standing_by l (progress_of_actor run c)) (sym (jobs_known script run.jobs is.jobs c known))
       ∙ standing_flight (mark_of run.given c) (jobs_at run.jobs c) (flight_at run.flights c) (λ f flies. is.lawful.flying c f flies)
 
   kept_is : (space : ℕ) (o : Option Flight) → ((f : Flight) → o ≡ Some f → is_between f.purpose f.phase ≡ true)
@@ -113,31 +113,31 @@ module _ (plan : Plan) (stores : List Stored) (run : Running) (is : IsRunOf plan
   kept_is space None fits = refl
   kept_is space (Some f) fits = ap (is_that space) (sym (keeps_by_place f (fits f refl)))
 
-  kept_at : (space d : ℕ) → d < actors plan → is_kept_by space (standing_at plan (entries_in run.history) d)
+  kept_at : (space d : ℕ) → d < actors script → is_kept_by space (standing_at script (entries_in run.history) d)
       ≡ is_that space (kept_by (flight_at run.flights d))
   kept_at space d known =
       ap (is_kept_by space) (standing_is d known)
       ∙ kept_is space (flight_at run.flights d) (λ f flies. is.lawful.between d f flies)
 
   -- the test of the place tells the flight that keeps the space
-  kept_from_test : (c space : ℕ) → is_kept_by_other plan (entries_in run.history) c (Some space) ≡ true → IsKeptByOther run.flights c space
+  kept_from_test : (c space : ℕ) → is_kept_by_other script (entries_in run.history) c (Some space) ≡ true → IsKeptByOther run.flights c space
   kept_from_test c space test =
-      let one = one_of (λ d. not (d == c) && is_kept_by space (standing_at plan (entries_in run.history) d)) (actors plan) test in
-      let both = and_parts (not (one.0 == c)) (is_kept_by space (standing_at plan (entries_in run.history) one.0)) one.2 in
+      let one = one_of (λ d. not (d == c) && is_kept_by space (standing_at script (entries_in run.history) d)) (actors script) test in
+      let both = and_parts (not (one.0 == c)) (is_kept_by space (standing_at script (entries_in run.history) one.0)) one.2 in
       let kept : is_that space (kept_by (flight_at run.flights one.0)) ≡ true = sym (kept_at space one.0 one.1) ∙ both.1 in
       keeper run.flights c space one.0 (let differs = both.0 in λ same. absurd
       (let here : (one.0 == c) ≡ true = grind (arith, nat_tests) in false≢true (ap not (sym here) ∙ differs)))
       (flight_at run.flights one.0) refl kept
 
-  test_from_kept : (c space : ℕ) → IsKeptByOther run.flights c space → is_kept_by_other plan (entries_in run.history) c (Some space) ≡ true
+  test_from_kept : (c space : ℕ) → IsKeptByOther run.flights c space → is_kept_by_other script (entries_in run.history) c (Some space) ≡ true
   test_from_kept c space kept =
-      let known : kept.other < actors plan = subst (λ n. kept.other < n) (length-jobs plan run.jobs is.jobs)
+      let known : kept.other < actors script = subst (λ n. kept.other < n) (length-jobs script run.jobs is.jobs)
       (known_flight run kept.other kept.flight is.lawful kept.flies) in
       let differs : (kept.other == c) ≡ false = (let apart = kept.differs in grind (arith, nat_tests)) in
       let that : is_that space (kept_by (flight_at run.flights kept.other)) ≡ true = ap (λ o. is_that space (kept_by o)) kept.flies
       ∙ ap (is_that space) kept.keeps ∙ eq-eqb space space refl in
-      any_of (λ d. not (d == c) && is_kept_by space (standing_at plan (entries_in run.history) d)) (actors plan) kept.other known
-      (ap (λ b. not b && is_kept_by space (standing_at plan (entries_in run.history) kept.other)) differs ∙ kept_at space kept.other known
+      any_of (λ d. not (d == c) && is_kept_by space (standing_at script (entries_in run.history) d)) (actors script) kept.other known
+      (ap (λ b. not b && is_kept_by space (standing_at script (entries_in run.history) kept.other)) differs ∙ kept_at space kept.other known
       ∙ that)
 
   -- the space that a flight's next step is made under
@@ -149,38 +149,38 @@ module _ (plan : Plan) (stores : List Stored) (run : Running) (is : IsRunOf plan
       let of = is.lawful.flying c f flies in
       under_by_place f (is.lawful.between c f flies) of.going
 
-  can_is : (c : ℕ) (f : Flight) → c < actors plan → flight_at run.flights c ≡ Some f
-      → can_step plan (entries_in run.history) c ≡ not (is_kept_by_other plan (entries_in run.history) c (under_at f))
-  can_is c f known flies = ap (can_go plan (entries_in run.history) c) (standing_is c known ∙ ap standing_of flies)
+  can_is : (c : ℕ) (f : Flight) → c < actors script → flight_at run.flights c ≡ Some f
+      → can_step script (entries_in run.history) c ≡ not (is_kept_by_other script (entries_in run.history) c (under_at f))
+  can_is c f known flies = ap (can_go script (entries_in run.history) c) (standing_is c known ∙ ap standing_of flies)
 
   -- a processor that has a call left, by its flight
-  pub left_is : (c : ℕ) → c < actors plan → has_left plan (entries_in run.history) c ≡ flies run.flights c
+  pub left_is : (c : ℕ) → c < actors script → has_left script (entries_in run.history) c ≡ flies run.flights c
   left_is c known = ap is_some (standing_is c known) ∙ is_some_of (flight_at run.flights c)
 
   -- Whether it can step.
 
-  pub cannot_step : (c : ℕ) → c < actors plan → IsStuck run c → can_step plan (entries_in run.history) c ≡ false
-  cannot_step c known (inl none) = ap (can_go plan (entries_in run.history) c) (standing_is c known ∙ ap standing_of none)
+  pub cannot_step : (c : ℕ) → c < actors script → IsStuck run c → can_step script (entries_in run.history) c ≡ false
+  cannot_step c known (inl none) = ap (can_go script (entries_in run.history) c) (standing_is c known ∙ ap standing_of none)
   cannot_step c known (inr (space, must)) =
       let under : Some space ≡ under_at must.flight = sym must.under ∙ under_is c must.flight must.flies in
       can_is c must.flight known must.flies
-      ∙ ap not (subst (λ o. is_kept_by_other plan (entries_in run.history) c o ≡ true) under (test_from_kept c space must.kept))
+      ∙ ap not (subst (λ o. is_kept_by_other script (entries_in run.history) c o ≡ true) under (test_from_kept c space must.kept))
 
   stuck_by : (c : ℕ) (f : Flight) → flight_at run.flights c ≡ Some f → (o : Option ℕ) → space_under (row_of f).needs ≡ o
-      → is_kept_by_other plan (entries_in run.history) c o ≡ true → IsStuck run c
+      → is_kept_by_other script (entries_in run.history) c o ≡ true → IsStuck run c
   stuck_by c f flies None under test = absurd (false≢true test)
   stuck_by c f flies (Some space) under test = inr
       (space, record { flight = f; flies = flies; under = under; kept = kept_from_test c space test })
 
-  can_flying : (c : ℕ) → c < actors plan → (IsStuck run c → ⊥) → (o : Option Flight) → flight_at run.flights c ≡ o
-      → can_step plan (entries_in run.history) c ≡ true
+  can_flying : (c : ℕ) → c < actors script → (IsStuck run c → ⊥) → (o : Option Flight) → flight_at run.flights c ≡ o
+      → can_step script (entries_in run.history) c ≡ true
   can_flying c known free None flies = absurd (free (inl flies))
   can_flying c known free (Some f) flies =
       can_is c f known flies
-      ∙ ap not (false_from_ne_true (is_kept_by_other plan (entries_in run.history) c (under_at f))
+      ∙ ap not (false_from_ne_true (is_kept_by_other script (entries_in run.history) c (under_at f))
       (λ test. free (stuck_by c f flies (under_at f) (under_is c f flies) test)))
 
-  pub can_step_free : (c : ℕ) → c < actors plan → (IsStuck run c → ⊥) → can_step plan (entries_in run.history) c ≡ true
+  pub can_step_free : (c : ℕ) → c < actors script → (IsStuck run c → ⊥) → can_step script (entries_in run.history) c ≡ true
   can_step_free c known free = can_flying c known free (flight_at run.flights c) refl
 
 -- Some processor can step.

@@ -13,13 +13,13 @@ use Rattle.pager_model.specs.Settings.{mark_of}
 use Rattle.pager_model.specs.declared.trace.Job.{Job}
 use Rattle.pager_model.specs.declared.trace.Job.TheVariants.{Call as MakesCall, Turn}
 use Rattle.flight_core.specs.declared.flight.Flight.{Flight}
-use Rattle.pager_core.specs.declared.machine.Turn.{Turn as Did}
-use Rattle.pager_core.specs.declared.machine.Turn.TheVariants.{Ended as HasEnded, Stepped, Waits}
+use Rattle.pager_core.specs.declared.machine.Advance.{Advance as Did}
+use Rattle.pager_core.specs.declared.machine.Advance.TheVariants.{Ended as HasEnded, Stepped, Waits}
 use Rattle.flight_core.specs.Rows.{Going, row_of}
 use Rattle.pager_core.specs.Running.{Running, AreOfMark, jobs_at, flight_at, flight_for, flight_of, progress_of_actor, progress_by_flight, StillFlies, WentOn, OneMore, MustWait, IsLawful}
 use Rattle.pager_core.proofs.Lands.{Starts-for}
 use Rattle.flight_core.proofs.NextFlights.{made_going}
-use Rattle.replay_core.specs.Replays.{NoneKeeps, IsBetween, DidJob, DidJobs}
+use Rattle.replay_core.specs.DoneJobs.{NoneKeeps, IsBetween, DidJob, DidJobs}
 
 -- a new flight has its number, no reply, and keeps nothing
 pub record IsNew (f : Flight) (number : ℕ) : Type 0 where
@@ -134,13 +134,13 @@ next_of start now actor number job differs = elim job.went [
 ]
 
 -- a turn of the processor makes an entry: it has a job left, and nobody else keeps a space
-pub turn_steps : (start now after : Running) (actor number : ℕ) (turn : Did) → NoneKeeps start.flights → InJob start now actor number
-    → StillFlies now actor number → (turn ≡ HasEnded → (after ≡ now) × (flight_at now.flights actor ≡ None))
-    → ((space : ℕ) → turn ≡ Waits space → (after ≡ now) × MustWait now actor space) → turn ≡ Stepped
-turn_steps start now after actor number HasEnded none job still ended waits =
+pub advance_steps : (start now after : Running) (actor number : ℕ) (advance : Did) → NoneKeeps start.flights → InJob start now actor number
+    → StillFlies now actor number → (advance ≡ HasEnded → (after ≡ now) × (flight_at now.flights actor ≡ None))
+    → ((space : ℕ) → advance ≡ Waits space → (after ≡ now) × MustWait now actor space) → advance ≡ Stepped
+advance_steps start now after actor number HasEnded none job still ended waits =
     absurd (none-some still.flight (sym (ended refl).1 ∙ still.flies))
-turn_steps start now after actor number Stepped none job still ended waits = refl
-turn_steps start now after actor number (Waits space) none job still ended waits =
+advance_steps start now after actor number Stepped none job still ended waits = refl
+advance_steps start now after actor number (Waits space) none job still ended waits =
     let kept = (waits space refl).1.kept in
     let was : flight_at start.flights kept.other ≡ Some kept.flight = sym (job.others kept.other kept.differs) ∙ kept.flies in
     absurd (none-some space (sym (none kept.other kept.flight was) ∙ kept.keeps))

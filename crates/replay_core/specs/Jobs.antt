@@ -11,7 +11,7 @@ use Rattle.pager_model.specs.Entries.{entries_of}
 use Rattle.pager_model.specs.Legal.{entries_in}
 use Rattle.pager_model.specs.Order.{at_rest, progress_of, IsWhole}
 use Rattle.pager_model.specs.Settings.{Given, mark_of}
-use Rattle.pager_model.specs.Plans.{Plan}
+use Rattle.pager_model.specs.Scripts.{Script}
 use Rattle.pager_model.specs.Showing.{actors, answers_in, jobs_of}
 use Rattle.flight_core.specs.Lacking.{NoneLacked}
 use Rattle.pager_core.specs.Machines.{CanDo, most_entries}
@@ -94,9 +94,9 @@ abbrev pub KeepsToRooms : List (List Job) → List Entry → Type 0
 KeepsToRooms jobs history = (c : ℕ) → c < length jobs → length (entries_of c history) ≤ room_for (jobs_at jobs c)
 
 -- So it is in the history of a trace. Each pass's room is what its processor's jobs take, and no more than all jobs of a trace may.
-abbrev pub HadRoom : Plan → List Entry → Type 0
-HadRoom plan history =
-    (c : ℕ) → c < actors plan → (length (entries_of c history) ≤ room_for (jobs_of c plan)) × (room_for (jobs_of c plan) ≤ most_entries)
+abbrev pub HadRoom : Script → List Entry → Type 0
+HadRoom script history =
+    (c : ℕ) → c < actors script → (length (entries_of c history) ≤ room_for (jobs_of c script)) × (room_for (jobs_of c script) ≤ most_entries)
 
 -- a pager that isn't opened yet, whose passes may do these jobs, and whose journal has room for their entries
 pub record IsPreparedFor (prepared : PreparedState) (jobs : List (List Job)) : Type 0 where

@@ -1,3 +1,3 @@
-pub mod Replays
-pub mod Turns
+pub mod DoneJobs
+pub mod Schedules
 pub mod Jobs

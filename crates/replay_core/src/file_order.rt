@@ -5,7 +5,8 @@ ghost use Rattle.pager_model.specs.Legal.{entries_in};
 ghost use Rattle.pager_model.specs.Showing.{IsFiled};
 ghost use Rattle.flight_core.specs.Lacking.{NoneLacked};
 ghost use Rattle.pager_core.specs.Running.{flight_at, progress_of_actor, IsLawful};
-ghost use Rattle.replay_core.specs.Replays.{IsReplay, AreItsCounts, NoneKeeps, IsBetween, DidJob, DidNext, DidRest};
+ghost use Rattle.pager_core.specs.Replays.{IsReplay, AreItsCounts};
+ghost use Rattle.replay_core.specs.DoneJobs.{NoneKeeps, IsBetween, DidJob, DidNext, DidRest};
 
 use pager_core::{Gathered, Machine};
 use pager_model::Trace;
@@ -72,6 +73,6 @@ fn do_job<S: Store + Send + Drop>(machine: &mut Machine<'_, S>, actor: u32)
 {
     let number = machine.done(actor);
     while machine.done(actor) == number {
-        machine.turn(actor);
+        machine.advance(actor);
     }
 }

@@ -11,7 +11,7 @@ ghost use Rattle.replay_core.specs.Jobs.{DoesJob, HasDone, HasPass, HaveDone, Is
 
 use journal_core::Pass;
 use pager_core::Gathered;
-use pager_locks::{Named, Pager, Prepared, Running};
+use pager_locks::{Named, Pager, Prepared, Running, daemon};
 use pager_model::{Job, MOST_ACTORS};
 use std::sync::Wait;
 use std::thread;
@@ -136,7 +136,7 @@ fn do_one<N: Named, S: Store + Send + Drop, R: Wait>(
 {
     match job {
         Job::Call(call) => pager.call(rt, pass, call).1,
-        Job::Turn { mark } => paging_daemon::turn(pager, rt, pass, *mark).1,
+        Job::Turn { mark } => daemon::turn(pager, rt, pass, *mark).1,
     }
 }
 

@@ -1,13 +1,13 @@
-//! Turns that are listed.
+//! A schedule that is listed.
 
 ghost use Rattle.std.specs.Prelude.{◌≡◌, ◌<◌, ◌≤◌, IfOk, IfErr, length, map, true};
 ghost use Rattle.std.specs.List.{All, range_with_len};
 ghost use Rattle.pager_model.specs.Bounds.{most_actors};
 ghost use Rattle.pager_model.specs.Legal.{entries_in};
 ghost use Rattle.pager_model.specs.Showing.{actors};
-ghost use Rattle.pager_model.specs.TurnOrders.{IsScheduled};
+ghost use Rattle.pager_model.specs.Schedules.{IsScheduled};
 ghost use Rattle.flight_core.specs.Lacking.{NoneLacked};
-ghost use Rattle.replay_core.specs.Replays.{IsReplay, AreItsCounts};
+ghost use Rattle.pager_core.specs.Replays.{IsReplay, AreItsCounts};
 
 use crate::stepping::step_first;
 use arrayvec::ArrayVec;
@@ -16,7 +16,7 @@ use pager_model::{MOST_ACTORS, Trace};
 use std::alloc::Global;
 use store_core::Store;
 
-/// Runs a trace in the turns of a list of its processors, of which those that can't step are passed over, and then in those of the lowest
+/// Runs a trace by a list of its processors, of which those that can't step are passed over, and then by the lowest
 /// processor that can. There are at least as many stores as spaces, and they come back for want of memory, which comes before the first
 /// entry alone.
 pub fn replay_schedule<S: Store + Send + Drop>(
@@ -35,7 +35,7 @@ pub fn replay_schedule<S: Store + Send + Drop>(
 {
     let mut machine = Machine::create(alloc, trace, stores)?;
     for actor in schedule {
-        machine.turn(*actor);
+        machine.advance(*actor);
     }
     let actors = all_below(trace.actors());
     while !machine.ended() {

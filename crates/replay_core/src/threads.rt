@@ -9,7 +9,7 @@ ghost use Rattle.flight_core.specs.Lacking.{NoneLacked};
 ghost use Rattle.pager_core.specs.Machines.{most_entries};
 ghost use Rattle.pager_core.specs.Running.{entries_of_job};
 ghost use Rattle.replay_core.specs.Jobs.{HadRoom, jobs_in, room_for};
-ghost use Rattle.replay_core.specs.Replays.{IsReplay, AreItsCounts};
+ghost use Rattle.pager_core.specs.Replays.{IsReplay, AreItsCounts};
 
 use crate::jobs::{Worker, run_jobs};
 use pager_core::{ENTRIES_OF_CALL, Gathered, jobs_by_processor, marks_of};

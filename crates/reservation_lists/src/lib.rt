@@ -46,7 +46,7 @@ impl Member {
 }
 
 /// Where a member stands in a list in order, or would stand: after those that come before it.
-fn place_of(list: &[Member], member: &Member) -> usize
+fn position_of(list: &[Member], member: &Member) -> usize
     requires { IsInOrder list.now }
     ensures { result ≡ prefix_len (λ m. is_before m member.now) list.now }
 {
@@ -65,7 +65,7 @@ fn insert_in(list: &mut Vec<Member>, new: Member)
     ensures items { list.new.items ≡ with_member new list.old.items }
     ensures capacity { vec_capacity list.old ≤ vec_capacity list.new }
 {
-    let place = place_of(list.as_slice(), &new);
+    let place = position_of(list.as_slice(), &new);
     list.insert(place, new).unwrap()
 }
 
@@ -75,7 +75,7 @@ fn remove_from(list: &mut Vec<Member>, gone: &Member)
     ensures items { list.new.items ≡ without_member gone.now list.old.items }
     ensures capacity { vec_capacity list.new ≡ vec_capacity list.old }
 {
-    let place = place_of(list.as_slice(), gone);
+    let place = position_of(list.as_slice(), gone);
     if list.get(place) == Some(gone) {
         list.remove(place);
     }

@@ -9,7 +9,7 @@ use Rattle.pager_model.specs.declared.tile.Mapping.{Mapping}
 use Rattle.pager_model.specs.Flat.{page_of, can_read, can_write}
 use Rattle.pager_model.specs.Regions.{region_at, rights_by}
 use Rattle.pager_model.specs.SpaceStates.{access_page}
-use Rattle.space_core.specs.declared.space.Found.TheVariants.{Refused}
+use Rattle.space_core.specs.declared.space.Lookup.TheVariants.{Refused}
 use Rattle.space_core.specs.Beginning.{Finds, IsMappedBy}
 use Rattle.space_core.specs.Keeping.{IsMapped}
 use Rattle.space_core.specs.Pages.{permits}

@@ -37,7 +37,7 @@ use Rattle.space_core.specs.Translating.{ChangesPages, Retouches}
 use Rattle.space_core.proofs.SameView.{SameAt, SameStateAt, beside_each, none_in, same_at, with_pages_of}
 use Rattle.space_core.proofs.ServedPages.{AreMapped, IsKeptAt, mapped_again}
 use Rattle.space_core.proofs.TableLemmas.{protects_frame, protects_dirty}
-use Rattle.space_core.proofs.Translations.{Follows, IsTurned, pages_from, turned_processors, turns}
+use Rattle.space_core.proofs.Translations.{Follows, IsChanged, pages_from, changed_processors, turns}
 use Rattle.tiles.specs.Resident.{with_rights}
 
 -- an unmap of a region that is there
@@ -118,7 +118,7 @@ pub record GivesRights (old new : Kept) (first len : ℕ) (rights : Rights) : Ty
   pub mapped : AreMapped new.regions new.table
   pub rights_then : (f : ℕ → Rights) → AreRights old.regions (own_in old.table) f
       → AreRights new.regions (own_in new.table) (λ p. if in_range first len p then rights else f p)
-  pub turned : IsTurned old new
+  pub changed : IsChanged old new
   pub same : new ≡ record (with_pages_of new old) { regions = new.regions }
 
 -- So does an entry of this processor in the flat memory, and it leaves all else as it was.
@@ -162,7 +162,7 @@ module _ (old new : Kept) (first len : ℕ) (rights : Rights) (resting : IsResti
             (λ p. same_at (is_in old.clearing) old new st after s.beside given.told p (given_at p) (given.same p)));
         base = base;
         pages = pages;
-        translates = turns old new st after c (record { stands = s; follows = given.follows; pages = pages }) gives.turned;
+        translates = turns old new st after c (record { stands = s; follows = given.follows; pages = pages }) gives.changed;
       }
 
   -- so the call is answered done
@@ -176,7 +176,7 @@ module _ (old new : Kept) (first len : ℕ) (rights : Rights) (resting : IsResti
         alone = alone;
         same_number = ap (λ (k : Kept). k.number) gives.same;
         same_frames = ap (λ (k : Kept). k.frames) gives.same;
-        same_processors = turned_processors old new gives.turned;
+        same_processors = changed_processors old new gives.changed;
         unread = ap (λ (k : Kept). k.reads) gives.same;
         unfailed = ap (λ (k : Kept). k.store.faults) gives.same;
         resting = record {
@@ -224,7 +224,7 @@ module _ (old : Kept) (changed : List Region) (first len : ℕ) (rights : Rights
         word = λ p i. refl;
         mapped = gains_mapped said;
         rights_then = gains_rights old.regions changed first len rights gains (own_in old.table) owned;
-        turned = inr (record { sizes = refl; images = refl; promotions = refl; demotions = refl }, λ p. refl);
+        changed = inr (record { sizes = refl; images = refl; promotions = refl; demotions = refl }, λ p. refl);
         same = refl;
       }
 
@@ -401,7 +401,7 @@ begins_protected old new page len given resting lies protects said changes retou
           λ f before. subst (λ (rs : List Region). AreRights rs (own_in new.table) (λ p. if in_range page len p then given else f p))
           (sym regions)
           (protect_rights old.regions page len given (own_in old.table) (own_in new.table) protects.own f before);
-      turned = inl retouched;
+      changed = inl retouched;
       same = subst (λ (rs : List Region). new ≡ record (with_pages_of new old) { regions = rs }) (sym regions) changes;
     })
     c (Protect old.number page len given) refl (λ st s n. (

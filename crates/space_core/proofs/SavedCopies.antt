@@ -20,7 +20,7 @@ use Rattle.space_core.specs.Translating.{Retouches, CleansPage}
 use Rattle.space_core.proofs.SameView.{BesideAt, SameWhole, SameAt, settled_from, same_regions, none_in, none_paged, none_pending, one_stands, same_stands, rises_told, within_faults}
 use Rattle.space_core.proofs.ServedPages.{resident_from}
 use Rattle.space_core.proofs.TableLemmas.{dirty_in-absent, dirty-same, cleans_frame, cleans_dirty, cleans_none}
-use Rattle.space_core.proofs.Translations.{IsTurned, Still, same_translates, stays, said_flag, turned_processors, turns}
+use Rattle.space_core.proofs.Translations.{IsChanged, Still, same_translates, stays, said_flag, changed_processors, turns}
 use Rattle.tiles.specs.Resident.{with_flag}
 
 -- a dirty page is resident
@@ -206,9 +206,9 @@ module _ (old : Kept) (resting : IsResting old) where
         }
 
     -- the page is clean then, as one that was paged out
-    pub copied_out : Cleans page old.table new.table → new.paged ≡ None → IsTurned old new → (st : SpaceState) (c : ℕ) (next : Next)
+    pub copied_out : Cleans page old.table new.table → new.paged ≡ None → IsChanged old new → (st : SpaceState) (c : ℕ) (next : Next)
         → StandsFor old st → StandsFor new (outed st c page next)
-    copied_out cleans unpaged turned st c next s =
+    copied_out cleans unpaged changed st c next s =
         let b = s.beside in
         let after = outed st c page next in
         let is : (p : ℕ) → pages_of after p ≡ mapping_in new.table p = λ p.
@@ -241,7 +241,7 @@ module _ (old : Kept) (resting : IsResting old) where
         })
         (s.base page ∙ sym (saves.same.frame page)) is
         (turns old new st after c
-        (record { stands = s; follows = record { sizes = refl; images = refl; promotions = refl; demotions = refl }; pages = is }) turned)
+        (record { stands = s; follows = record { sizes = refl; images = refl; promotions = refl; demotions = refl }; pages = is }) changed)
 
     -- the page is being evicted then
     pub copied_aside : ((p : ℕ) → mapping_in new.table p ≡ mapping_in old.table p) → Still old new → new.paged ≡ Some page
@@ -393,8 +393,8 @@ module _ (old new : Kept) (page : ℕ) (written : Bool) (resting : IsResting old
         none_paged = ap (λ (k : Kept). k.paged) cleans.same ∙ rested.none_paged;
       }
 
-  cleaned_turned : IsTurned old new
-  cleaned_turned = elim (cases_Bool (dirty_at mid page)) [
+  cleaned_changed : IsChanged old new
+  cleaned_changed = elim (cases_Bool (dirty_at mid page)) [
     | inl dirty ↦ inl (retouches_from old mid new saves.same (cleans.retouched dirty))
     | inr clean ↦
         let same = cleans.as_it_was clean in
@@ -416,7 +416,7 @@ module _ (old new : Kept) (page : ℕ) (written : Bool) (resting : IsResting old
       record {
         same =
             same_regions old new (ap (λ (k : Kept). k.number) cleans.same ∙ stored.same.number)
-            (ap (λ (k : Kept). k.frames) cleans.same ∙ stored.same.frames) (turned_processors old new cleaned_turned)
+            (ap (λ (k : Kept). k.frames) cleans.same ∙ stored.same.frames) (changed_processors old new cleaned_changed)
             (ap (λ (k : Kept). k.regions) cleans.same ∙ stored.same.regions) cleaned_table.same.own;
         frame = cleaned_frame;
       }
@@ -438,7 +438,7 @@ module _ (old new : Kept) (page : ℕ) (written : Bool) (resting : IsResting old
         none_pending = cleaned_resting.none_pending;
         none_clearing = cleaned_resting.none_clearing;
       })
-      cleaned_table cleaned_resting.none_paged cleaned_turned st c next s
+      cleaned_table cleaned_resting.none_paged cleaned_changed st c next s
 
   pub writes_out : frame_at old page ≢ None → WritesOut old new page written
   writes_out resident =

@@ -485,7 +485,7 @@ module _ (old new : Kept) (c address : ℕ) (tile : Tile) (accesses : Accesses o
           (uses_translates old new st after c read_page
           (record {
             mid = old;
-            turned = inr (record { sizes = refl; images = refl; promotions = refl; demotions = refl }, λ p. refl);
+            changed = inr (record { sizes = refl; images = refl; promotions = refl; demotions = refl }, λ p. refl);
             tile = tile;
             tile_is = accesses.tile_is;
             touches = touches;
@@ -506,7 +506,7 @@ module _ (old new : Kept) (c address : ℕ) (tile : Tile) (accesses : Accesses o
           answers = record { allowed = load_allowed; stands = load_stands };
         }
 
--- A processor's store to a page of this tile is allowed: its word is written, the pages turned, and then the processor used the page's
+-- A processor's store to a page of this tile is allowed: its word is written, the pages changed, and then the processor used the page's
 -- tile.
 pub record IsStored (old new : Kept) (c address word : ℕ) : Type 0 where
   pub was : Tile

@@ -205,14 +205,14 @@ module _ (old new : Kept) (st after : SpaceState) (c : ℕ) (tile : Option Tile)
       }
 
 -- pages changed and the moves were counted, or nothing is said of any page that wasn't before
-abbrev pub IsTurned : Kept → Kept → Type 0
-IsTurned old new = Retouches old new ⊎ (Still old new × ((p : ℕ) → mapping_in new.table p ≡ mapping_in old.table p))
+abbrev pub IsChanged : Kept → Kept → Type 0
+IsChanged old new = Retouches old new ⊎ (Still old new × ((p : ℕ) → mapping_in new.table p ≡ mapping_in old.table p))
 
-pub turned_processors : (old new : Kept) → IsTurned old new → length new.images ≡ length old.images
-turned_processors old new turned = elim turned [ inl retouched ↦ retouched.processors | inr still ↦ ap length still.0.images ]
+pub changed_processors : (old new : Kept) → IsChanged old new → length new.images ≡ length old.images
+changed_processors old new changed = elim changed [ inl retouched ↦ retouched.processors | inr still ↦ ap length still.0.images ]
 
-turned_sizes : (old new : Kept) → IsTurned old new → new.table.sizes ≡ old.table.sizes
-turned_sizes old new turned = elim turned [ inl retouched ↦ retouched.sizes | inr still ↦ still.0.sizes ]
+changed_sizes : (old new : Kept) → IsChanged old new → new.table.sizes ≡ old.table.sizes
+changed_sizes old new changed = elim changed [ inl retouched ↦ retouched.sizes | inr still ↦ still.0.sizes ]
 
 -- What becomes of spaces that changed as the code changes them, where no tile was used.
 module _ (old new : Kept) (st after : SpaceState) (c : ℕ) (leads : Leads old new st after c None) where
@@ -231,8 +231,8 @@ module _ (old new : Kept) (st after : SpaceState) (c : ℕ) (leads : Leads old n
       ∙ sym (untouched (i == c) (still_tiles old.table.sizes (mapping_in new.table) (image_at old i))))
       retouched.promotions retouched.demotions
 
-  pub turns : IsTurned old new → Translates new after
-  turns turned = elim turned [ inl retouched ↦ retouches retouched | inr still ↦ stays still.0 still.1 ]
+  pub turns : IsChanged old new → Translates new after
+  turns changed = elim changed [ inl retouched ↦ retouches retouched | inr still ↦ stays still.0 still.1 ]
 
 -- The pages of a range were cleared one after another: the tiles that meet it were counted before, and the images keep what is a tile
 -- still.
@@ -262,16 +262,16 @@ translates_cleared old new st after c lost known s is same_sizes processors imag
           demotions ∙ counted_to last_count old.demotions st.demotions lost s.demotions (omega (arith, total, low)) ∙ sym total;
     }
 
--- The pages turned, and then the processor used the tile of a page.
+-- The pages changed, and then the processor used the tile of a page.
 pub record UsesTile (old new : Kept) (c page : ℕ) : Type 0 where
   pub mid : Kept
-  pub turned : IsTurned old mid
+  pub changed : IsChanged old mid
   pub tile : Tile
   pub tile_is : tile_in mid.table.sizes (mapping_in mid.table) page ≡ Some tile
   pub touches : Touches mid new c (Some tile)
 
 pub used_processors : (old new : Kept) (c page : ℕ) → UsesTile old new c page → length new.images ≡ length old.images
-used_processors old new c page uses = uses.touches.processors ∙ turned_processors old uses.mid uses.turned
+used_processors old new c page uses = uses.touches.processors ∙ changed_processors old uses.mid uses.changed
 
 -- What becomes of a space then.
 module _ (old new : Kept) (st after : SpaceState) (c page : ℕ) (uses : UsesTile old new c page) where
@@ -282,7 +282,7 @@ module _ (old new : Kept) (st after : SpaceState) (c page : ℕ) (uses : UsesTil
   used_tile = tile_in old.table.sizes (pages_of after) page
 
   mid_sizes : mid.table.sizes ≡ old.table.sizes
-  mid_sizes = turned_sizes old mid uses.turned
+  mid_sizes = changed_sizes old mid uses.changed
 
   same_table : new.table ≡ mid.table
   same_table = ap (λ (k : Kept). k.table) uses.touches.same
@@ -310,7 +310,7 @@ module _ (old new : Kept) (st after : SpaceState) (c page : ℕ) (uses : UsesTil
 
     image_used : (i : ℕ) → i < length old.images → image_at new i ≡ touched_by (if i == c then used_tile else None) (image_at mid i)
     image_used i within =
-        uses.touches.images i (omega (arith, turned_processors old mid uses.turned))
+        uses.touches.images i (omega (arith, changed_processors old mid uses.changed))
         ∙ ap (λ (o : Option Tile). touched_by (if i == c then o else None) (image_at mid i)) (sym uses.tile_is ∙ used_tile_is)
 
     still_used : Still old mid → ((p : ℕ) → mapping_in mid.table p ≡ mapping_in old.table p) → Translates new after
@@ -336,7 +336,7 @@ module _ (old new : Kept) (st after : SpaceState) (c page : ℕ) (uses : UsesTil
         (sym same_table))
 
     pub uses_translates : Translates new after
-    uses_translates = elim uses.turned [ inl retouched ↦ moved_used retouched | inr still ↦ still_used still.0 still.1 ]
+    uses_translates = elim uses.changed [ inl retouched ↦ moved_used retouched | inr still ↦ still_used still.0 still.1 ]
 
 -- two tests that answer alike for what a third one passes keep the same of it
 filter_alike : (passes test other : Tile → Bool) (ts : List Tile) → ((t : Tile) → passes t ≡ true → test t ≡ other t)

@@ -16,8 +16,8 @@ use Rattle.pager_model.specs.Regions.{in_range, region_at, wanted, range_in, dis
 use Rattle.pager_model.specs.SpaceStates.{SpaceState, AfterClear, space_after, access_page, Rises, WhatAllowed, IsRegionOf, MayPin, IsPinnedAt}
 use Rattle.space_core.specs.declared.space.Begun.{Begun}
 use Rattle.space_core.specs.declared.space.Begun.TheVariants.{Answered as HasAnswered, NeedsFrame, NeedsClear, NeedsPin, NeedsEvict, Failed as HasFailed}
-use Rattle.space_core.specs.declared.space.Found.{Found}
-use Rattle.space_core.specs.declared.space.Found.TheVariants.{Refused, Absent, Resident}
+use Rattle.space_core.specs.declared.space.Lookup.{Lookup}
+use Rattle.space_core.specs.declared.space.Lookup.TheVariants.{Refused, Absent, Resident}
 use Rattle.space_core.specs.Standing.{Kept, StandsFor, StandsBut, IsResting, MustWrite, range_of, frame_at, rights_at, dirty_at, is_allowed, is_unwired, copied_page}
 use Rattle.pager_model.specs.CallEntries.{answer_entry, evict_entry, take_entry, give_entry, clear_entry, out_entry, failed_entry}
 use Rattle.pager_model.specs.Stored.{keeps_at}
@@ -97,7 +97,7 @@ pub record IsMappedBy (kept : Kept) (page : ℕ) (found : Translation) : Type 0 
   pub tile : tile_in kept.table.sizes (mapping_in kept.table) page ≡ Some found.tile
 
 -- What there is at the page of a load or a store: it is refused, its page isn't resident, or its page is.
-abbrev pub Finds : Kept → Call → ℕ → Found → Type 0
+abbrev pub Finds : Kept → Call → ℕ → Lookup → Type 0
 Finds kept call page (Refused reply) = NeedsNoFrame kept call × (IsResting kept → (c : ℕ)
     → BeginsAnswered kept kept c call (record { reply = reply; hit = false; size = None }))
 Finds kept call page (Absent want) = NeedsItsFrame kept call page want

@@ -61,7 +61,7 @@ pub enum Begun {
 
 /// What there is at the page of a load or a store.
 #[derive(Clone, Copy)]
-pub(crate) enum Found {
+pub(crate) enum Lookup {
     /// The access is refused, for this.
     Refused(Reply),
     /// The access is allowed, and the page isn't resident; its region wants this of a frame for it.
@@ -196,7 +196,7 @@ impl<S: Store + Send + Drop> Space<S> {
     }
 
     /// Puts a frame under a page that isn't resident. No other page has a frame of this number.
-    pub fn place(&mut self, page: u32, frame: Frame)
+    pub fn map_page(&mut self, page: u32, frame: Frame)
         requires page { page < space_pages }
         requires region { IsSome (region_at self.old.regions page) }
         requires absent { frame_at self.old page ≡ None }

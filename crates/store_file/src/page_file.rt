@@ -10,7 +10,7 @@ use std::os::unix::fs::FileExt;
 pub(crate) const PAGE_BYTES: usize = pager_model::PAGE_BYTES as usize;
 
 /// Where a byte of a page stands in the file.
-fn place(page: u32, byte: usize) -> u64
+fn offset(page: u32, byte: usize) -> u64
     requires { byte ≤ 8192 }
     ensures { result ≡ 8192 * page + byte }
 {
@@ -39,17 +39,17 @@ impl Transferred {
         }
     }
 
-    /// Counts more of them, from a place of the file on.
-    fn count(&mut self, place: u64, bytes: usize)
-        requires { place + bytes < 2 ^ 64 }
-        ensures { self.new ≡ moved self.old place bytes }
+    /// Counts more of them, from a offset of the file on.
+    fn count(&mut self, offset: u64, bytes: usize)
+        requires { offset + bytes < 2 ^ 64 }
+        ensures { self.new ≡ moved self.old offset bytes }
     {
         let bytes = bytes as u64;
-        if place != self.end {
+        if offset != self.end {
             self.row = 0;
         }
         self.row = self.row.saturating_add(bytes);
-        self.end = place + bytes;
+        self.end = offset + bytes;
         self.bytes = self.bytes.saturating_add(bytes);
     }
 }
@@ -99,10 +99,10 @@ impl<F: FileExt + Drop> PageFile<F> {
         ensures there { 0 < result → self.old.opened ≡ true }
     {
         let Some(file) = &self.file else { return 0 };
-        let place = place(page, at);
-        match file.read_at(&mut bytes[at..], place) {
+        let offset = offset(page, at);
+        match file.read_at(&mut bytes[at..], offset) {
             Ok(count) if count > 0 => {
-                self.gave.count(place, count);
+                self.gave.count(offset, count);
                 count
             }
             _ => 0,
@@ -117,10 +117,10 @@ impl<F: FileExt + Drop> PageFile<F> {
         ensures there { 0 < result → self.old.opened ≡ true }
     {
         let Some(file) = &self.file else { return 0 };
-        let place = place(page, at);
-        match file.write_at(&bytes[at..], place) {
+        let offset = offset(page, at);
+        match file.write_at(&bytes[at..], offset) {
             Ok(count) if count > 0 => {
-                self.took.count(place, count);
+                self.took.count(offset, count);
                 count
             }
             _ => 0,

@@ -7,7 +7,7 @@ use Rattle.pager_model.specs.declared.entry.Entry.{Entry}
 use Rattle.pager_model.specs.declared.trace.Daemon.{Daemon}
 use Rattle.pager_model.specs.Entries.{entries_of}
 use Rattle.pager_model.specs.Order.{at_rest, progress_of}
-use Rattle.pager_model.specs.Plans.{Plan}
+use Rattle.pager_model.specs.Scripts.{Script}
 use Rattle.pager_model.specs.Showing.{FilesBy, FilesLines, MakesTurns, daemon_marks}
 use Rattle.pager_model.specs.Stored.{Stored}
 use Rattle.pager_model.specs.Stores.{given_over, setting_over}
@@ -15,8 +15,8 @@ use Rattle.pager_model.specs.TraceText.{IsDaemon}
 use Rattle.stream_core.specs.Streaming.{daemon_before, front_of, low_in, turns_in, with_calls}
 
 -- of these calls, and so many turns of the daemon
-abbrev pub part_of : Plan → List Line → ℕ → Plan
-part_of plan calls turns = record plan { calls = calls; daemon = daemon_before plan.daemon turns }
+abbrev pub part_of : Script → List Line → ℕ → Script
+part_of script calls turns = record script { calls = calls; daemon = daemon_before script.daemon turns }
 
 -- Its setting is the trace's.
 
@@ -24,10 +24,10 @@ marks_same : (o : Option Daemon) (n : ℕ) → daemon_marks (daemon_before o n) 
 marks_same None n = refl
 marks_same (Some d) n = refl
 
-pub setting_of_part : (plan : Plan) (stores : List Stored) (calls : List Line) (turns : ℕ)
-    → setting_over (part_of plan calls turns) stores ≡ setting_over plan stores
-setting_of_part plan stores calls turns =
-    ap (λ l. given_over plan.frames plan.sizes (replicate plan.processors 0 ++ l) (take plan.spaces stores)) (marks_same plan.daemon turns)
+pub setting_of_part : (script : Script) (stores : List Stored) (calls : List Line) (turns : ℕ)
+    → setting_over (part_of script calls turns) stores ≡ setting_over script stores
+setting_of_part script stores calls turns =
+    ap (λ l. given_over script.frames script.sizes (replicate script.processors 0 ++ l) (take script.spaces stores)) (marks_same script.daemon turns)
 
 -- Its daemon.
 
@@ -44,39 +44,39 @@ daemon_whole None = refl
 daemon_whole (Some d) = ap (λ n. Some (record { low = d.low; turns = n })) (min-eq_left (le_refl d.turns))
 
 -- as many turns as come before so many calls make a front, and all of them the whole
-pub part_is_front : (plan : Plan) (calls : List Line) (turns : ℕ) → turns ≡ min (turns_in plan.daemon) (length calls)
-    → part_of plan calls turns ≡ front_of plan calls
-part_is_front plan calls turns is =
-    ap (λ (o : Option Daemon). record plan { calls = calls; daemon = o })
-    (daemon_same plan.daemon turns (length calls) (ap (min (turns_in plan.daemon)) is
-    ∙ min-eq_right (min-le_left (turns_in plan.daemon) (length calls))))
+pub part_is_front : (script : Script) (calls : List Line) (turns : ℕ) → turns ≡ min (turns_in script.daemon) (length calls)
+    → part_of script calls turns ≡ front_of script calls
+part_is_front script calls turns is =
+    ap (λ (o : Option Daemon). record script { calls = calls; daemon = o })
+    (daemon_same script.daemon turns (length calls) (ap (min (turns_in script.daemon)) is
+    ∙ min-eq_right (min-le_left (turns_in script.daemon) (length calls))))
 
-pub part_is_whole : (plan : Plan) (calls : List Line) (turns : ℕ) → turns ≡ turns_in plan.daemon
-    → part_of plan calls turns ≡ with_calls plan calls
-part_is_whole plan calls turns is =
-    ap (λ (o : Option Daemon). record plan { calls = calls; daemon = o }) (ap (daemon_before plan.daemon) is ∙ daemon_whole plan.daemon)
+pub part_is_whole : (script : Script) (calls : List Line) (turns : ℕ) → turns ≡ turns_in script.daemon
+    → part_of script calls turns ≡ with_calls script calls
+part_is_whole script calls turns is =
+    ap (λ (o : Option Daemon). record script { calls = calls; daemon = o }) (ap (daemon_before script.daemon) is ∙ daemon_whole script.daemon)
 
 -- A history of it.
 
-pub FilesBy-part : (plan : Plan) (calls : List Line) (o : Option Daemon) (turns : ℕ) (h : List Entry) → turns ≤ turns_in o
-    → FilesLines plan.processors (low_in o) turns calls h
-    → FilesBy (record plan { calls = calls; daemon = daemon_before o turns }) (daemon_before o turns) h
-FilesBy-part plan calls None turns h few filed =
-    subst (λ n. FilesLines plan.processors 0 n calls h) (let e : turns ≡ 0 = omega (arith, few) in e) filed
-FilesBy-part plan calls (Some d) turns h few filed =
-    subst (λ n. FilesLines plan.processors d.low n calls h) (sym (min-eq_right few)) filed
+pub FilesBy-part : (script : Script) (calls : List Line) (o : Option Daemon) (turns : ℕ) (h : List Entry) → turns ≤ turns_in o
+    → FilesLines script.processors (low_in o) turns calls h
+    → FilesBy (record script { calls = calls; daemon = daemon_before o turns }) (daemon_before o turns) h
+FilesBy-part script calls None turns h few filed =
+    subst (λ n. FilesLines script.processors 0 n calls h) (let e : turns ≡ 0 = omega (arith, few) in e) filed
+FilesBy-part script calls (Some d) turns h few filed =
+    subst (λ n. FilesLines script.processors d.low n calls h) (sym (min-eq_right few)) filed
 
 -- the daemon of it has made so many turns
-pub MakesTurns-part : (plan : Plan) (calls : List Line) (o : Option Daemon) (turns : ℕ) (h : List Entry) → turns ≤ turns_in o
-    → ((d : Daemon) → o ≡ Some d → progress_of d.low (entries_of plan.processors h) ≡ Some (at_rest d.low turns))
-    → MakesTurns (record plan { calls = calls; daemon = daemon_before o turns }) (daemon_before o turns) h
-MakesTurns-part plan calls None turns h few made = tt
-MakesTurns-part plan calls (Some d) turns h few made = made d refl ∙ ap (λ n. Some (at_rest d.low n)) (sym (min-eq_right few))
+pub MakesTurns-part : (script : Script) (calls : List Line) (o : Option Daemon) (turns : ℕ) (h : List Entry) → turns ≤ turns_in o
+    → ((d : Daemon) → o ≡ Some d → progress_of d.low (entries_of script.processors h) ≡ Some (at_rest d.low turns))
+    → MakesTurns (record script { calls = calls; daemon = daemon_before o turns }) (daemon_before o turns) h
+MakesTurns-part script calls None turns h few made = tt
+MakesTurns-part script calls (Some d) turns h few made = made d refl ∙ ap (λ n. Some (at_rest d.low n)) (sym (min-eq_right few))
 
-pub turns_of_part : (plan : Plan) (calls : List Line) (o : Option Daemon) (turns : ℕ) (h : List Entry) → turns ≤ turns_in o
-    → MakesTurns (record plan { calls = calls; daemon = daemon_before o turns }) (daemon_before o turns) h
-    → (d : Daemon) → o ≡ Some d → progress_of d.low (entries_of plan.processors h) ≡ Some (at_rest d.low turns)
-turns_of_part plan calls None turns h few makes d same = absurd (none-some d same)
-turns_of_part plan calls (Some e) turns h few makes d same =
-    subst (λ (x : Daemon). progress_of x.low (entries_of plan.processors h) ≡ Some (at_rest x.low turns)) (same_Some e d same)
+pub turns_of_part : (script : Script) (calls : List Line) (o : Option Daemon) (turns : ℕ) (h : List Entry) → turns ≤ turns_in o
+    → MakesTurns (record script { calls = calls; daemon = daemon_before o turns }) (daemon_before o turns) h
+    → (d : Daemon) → o ≡ Some d → progress_of d.low (entries_of script.processors h) ≡ Some (at_rest d.low turns)
+turns_of_part script calls None turns h few makes d same = absurd (none-some d same)
+turns_of_part script calls (Some e) turns h few makes d same =
+    subst (λ (x : Daemon). progress_of x.low (entries_of script.processors h) ≡ Some (at_rest x.low turns)) (same_Some e d same)
     (makes ∙ ap (λ n. Some (at_rest e.low n)) (min-eq_right few))

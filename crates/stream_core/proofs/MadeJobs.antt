@@ -26,16 +26,16 @@ use Rattle.flight_core.specs.Lacking.{NeverLacks, NoneLacked, is_lacking, is_no_
 use Rattle.flight_core.specs.Rows.{Outcome, Going, TurnEnded, Answered, has_ended, is_of_call, reply_in, row_of}
 use Rattle.flight_core.specs.Steps.{answer_made, reply_said}
 use Rattle.flight_core.proofs.NextFlights.{ended_by, of_calls, turn_goes_on}
-use Rattle.step_log.specs.Counting.{most_in_history}
-use Rattle.step_log.specs.Flying.{IsSpaceIn}
-use Rattle.step_log.specs.Logged.{replies_in}
-use Rattle.step_log.specs.Whole.{AreAt, WentOn}
-use Rattle.step_log.proofs.Later.{later_none}
+use Rattle.flight_core.specs.Counting.{most_in_history}
+use Rattle.flight_core.specs.Flying.{IsSpaceIn}
+use Rattle.flight_core.specs.Logged.{replies_in}
+use Rattle.flight_core.specs.Whole.{AreAt, WentOn}
+use Rattle.flight_core.proofs.Later.{later_none}
 use Rattle.pager_core.specs.Machines.{CanDo}
 use Rattle.pager_core.specs.RunParts.{AreAtRest}
 use Rattle.pager_core.specs.Running.{FitsMark, entries_of_job, flight_for, job_in}
 use Rattle.pager_core.proofs.Lands.{Fits-for, Starts, Starts-for, ended_keeps, ended_progress, job_kept, mark_of_job, own-for, under-for}
-use Rattle.replay_core.proofs.FiledLemmas.{entries_on}
+use Rattle.pager_core.proofs.FiledLines.{entries_on}
 use Rattle.stream_core.specs.Tallies.{IsTallied, Tallied}
 
 -- Replies of a piece of a history.

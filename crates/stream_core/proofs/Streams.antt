@@ -15,7 +15,7 @@ use Rattle.pager_model.specs.Entries.{entries_of, is_of}
 use Rattle.pager_model.specs.Flat.{space_of_call}
 use Rattle.pager_model.specs.FrameStates.{FrameState, start_frames}
 use Rattle.pager_model.specs.Order.{IsWhole, at_rest, progress_from, progress_of}
-use Rattle.pager_model.specs.Plans.{Plan}
+use Rattle.pager_model.specs.Scripts.{Script}
 use Rattle.pager_model.specs.Settings.{mark_of}
 use Rattle.pager_model.specs.Showing.{FilesLines, IsSequence, IsTurn, actors, answer_in, answers_in, calls_of}
 use Rattle.pager_model.specs.Stored.{Stored}
@@ -26,13 +26,13 @@ use Rattle.pager_model.proofs.Histories.{progress_from-append}
 use Rattle.space_core.specs.Standing.{Kept}
 use Rattle.flight_core.specs.declared.flight.Flight.{Flight}
 use Rattle.flight_core.specs.Rows.{has_ended, row_of}
-use Rattle.step_log.specs.Whole.{WentOn}
+use Rattle.flight_core.specs.Whole.{WentOn}
 use Rattle.pager_core.specs.RunParts.{AreNewSpaces}
 use Rattle.pager_core.specs.Running.{flight_for}
 use Rattle.pager_core.proofs.Lists.{enumerate-push}
 use Rattle.pager_core.proofs.StartMachines.{call_on}
-use Rattle.replay_core.proofs.FiledLemmas.{FilesLines-line, FilesLines-turn, calls_of-append, calls_of-other, calls_of-own, entries_on}
-use Rattle.replay_core.proofs.RunLemmas.{told-over}
+use Rattle.pager_core.proofs.FiledLines.{FilesLines-line, FilesLines-turn, calls_of-append, calls_of-other, calls_of-own, entries_on}
+use Rattle.pager_core.proofs.ShownReplays.{told-over}
 use Rattle.stream_core.specs.Streaming.{IsAfter, IsAt, IsNext, IsOpening, Streaming, low_in, turns_in}
 use Rattle.stream_core.specs.Tallies.{IsTallied, Tallied}
 use Rattle.stream_core.proofs.Fronts.{MakesTurns-part, turns_few, turns_of_part}
@@ -54,12 +54,12 @@ others_on c d other h piece all =
 
 -- The start.
 
-pub IsAfter-start : (plan : Plan) → IsOpening plan → (stores : List Stored) → plan.spaces ≤ length stores → AreCapped plan.spaces stores
+pub IsAfter-start : (script : Script) → IsOpening script → (stores : List Stored) → script.spaces ≤ length stores → AreCapped script.spaces stores
     → (numbers : List ℕ) (daemon : Option Daemon) (processors : ℕ) (tally : Tallied) (spaces : List Kept) (pool : FrameState) (unused : List Stored)
-    → daemon ≡ plan.daemon → processors ≡ plan.processors → AreNewSpaces (setting_over plan stores) spaces
-    → pool ≡ start_frames plan.sizes plan.frames (actors plan) → IsTallied tally (setting_over plan stores) [] → length numbers ≡ 16
-    → ((c : ℕ) → c < 16 → slice_index_or numbers c 0 ≡ 0) → unused ≡ drop plan.spaces stores
-    → IsAfter plan stores [] [] (record {
+    → daemon ≡ script.daemon → processors ≡ script.processors → AreNewSpaces (setting_over script stores) spaces
+    → pool ≡ start_frames script.sizes script.frames (actors script) → IsTallied tally (setting_over script stores) [] → length numbers ≡ 16
+    → ((c : ℕ) → c < 16 → slice_index_or numbers c 0 ≡ 0) → unused ≡ drop script.spaces stores
+    → IsAfter script stores [] [] (record {
       numbers = numbers;
       calls = 0;
       daemon = daemon;
@@ -70,7 +70,7 @@ pub IsAfter-start : (plan : Plan) → IsOpening plan → (stores : List Stored) 
       pool = pool;
       unused = unused;
     })
-IsAfter-start plan opening stores enough capped numbers daemon processors tally spaces pool unused daemon_is behind new pool_is none sixteen zeros
+IsAfter-start script opening stores enough capped numbers daemon processors tally spaces pool unused daemon_is behind new pool_is none sixteen zeros
     unused_is =
     record {
       at = record {
@@ -84,7 +84,7 @@ IsAfter-start plan opening stores enough capped numbers daemon processors tally 
         filed = refl;
         shows = record {
           calls = λ c known. (refl, (0, refl));
-          turns = MakesTurns-part plan [] plan.daemon 0 [] (omega arith) (λ d is. refl);
+          turns = MakesTurns-part script [] script.daemon 0 [] (omega arith) (λ d is. refl);
         };
         made = λ c known. refl;
         short = omega arith;
@@ -111,35 +111,35 @@ IsAfter-start plan opening stores enough capped numbers daemon processors tally 
         daemon_behind = behind;
         unused_are = unused_is;
       };
-      turns = sym (min-zero (turns_in plan.daemon));
+      turns = sym (min-zero (turns_in script.daemon));
     }
 
-module _ (plan : Plan) (stores : List Stored) (calls : List Line) (h : List Entry) (s : Streaming) (at : IsAt plan stores calls h s) where
+module _ (script : Script) (stores : List Stored) (calls : List Line) (h : List Entry) (s : Streaming) (at : IsAt script stores calls h s) where
   -- nothing is in progress
-  pub standing : StandAfter (setting_over plan stores) h s.tally s.spaces s.pool
+  pub standing : StandAfter (setting_over script stores) h s.tally s.spaces s.pool
   standing = record { legal = at.legal; tallied = at.tallied; rest = at.rest; number = at.number; space = at.space }
 
   -- the daemon has made its turns so far
-  turned : (d : Daemon) → plan.daemon ≡ Some d → progress_of d.low (entries_of plan.processors h) ≡ Some (at_rest d.low s.turns)
-  turned = turns_of_part plan calls plan.daemon s.turns h at.few_turns at.shows.turns
+  turned : (d : Daemon) → script.daemon ≡ Some d → progress_of d.low (entries_of script.processors h) ≡ Some (at_rest d.low s.turns)
+  turned = turns_of_part script calls script.daemon s.turns h at.few_turns at.shows.turns
 
   pub few_turns : s.turns ≤ 4096
-  few_turns = (let few = turns_few plan.daemon at.opening.has.daemon_in in let own = at.few_turns in omega (arith, few, own))
+  few_turns = (let few = turns_few script.daemon at.opening.has.daemon_in in let own = at.few_turns in omega (arith, few, own))
 
   -- A turn more.
-  module _ (d : Daemon) (is : plan.daemon ≡ Some d) (left : s.turns < d.turns) (due : length calls ≤ s.turns) where
+  module _ (d : Daemon) (is : script.daemon ≡ Some d) (left : s.turns < d.turns) (due : length calls ≤ s.turns) where
     daemon_in : IsDaemon (Some d)
     daemon_in = subst IsDaemon is at.opening.has.daemon_in
 
-    mark_is : mark_of (setting_over plan stores) plan.processors ≡ d.low
-    mark_is = mark_of_daemon plan d is
+    mark_is : mark_of (setting_over script stores) script.processors ≡ d.low
+    mark_is = mark_of_daemon script d is
 
-    pub next_turn : IsNextJob (setting_over plan stores) h plan.processors s.turns (Turn d.low)
+    pub next_turn : IsNextJob (setting_over script stores) h script.processors s.turns (Turn d.low)
     next_turn =
         record {
-          known = daemon_known plan d is;
+          known = daemon_known script d is;
           marked = (mark_is, daemon_in.0.0);
-          made = subst (λ m. progress_of m (entries_of plan.processors h) ≡ Some (at_rest m s.turns)) (sym mark_is) (turned d is);
+          made = subst (λ m. progress_of m (entries_of script.processors h) ≡ Some (at_rest m s.turns)) (sym mark_is) (turned d is);
           can = daemon_in.0;
           few =
               let short = at.short in
@@ -150,41 +150,41 @@ module _ (plan : Plan) (stores : List Stored) (calls : List Line) (h : List Entr
         }
 
     module _ (tally' : Tallied) (f' : Flight) (spaces' : List Kept) (pool' : FrameState)
-        (went : WentOn IsTallied (setting_over plan stores) h 0 tally' (flight_for plan.processors s.turns (Turn d.low)) f' spaces' pool')
+        (went : WentOn IsTallied (setting_over script stores) h 0 tally' (flight_for script.processors s.turns (Turn d.low)) f' spaces' pool')
         (ended : has_ended (row_of f').outcome ≡ true) where
-      entries_own : AllByRecursion (λ (e : Entry). e.processor ≡ plan.processors) went.piece
-      entries_own = own (setting_over plan stores) h s.tally s.spaces s.pool plan.processors s.turns (Turn d.low) standing next_turn
+      entries_own : AllByRecursion (λ (e : Entry). e.processor ≡ script.processors) went.piece
+      entries_own = own (setting_over script stores) h s.tally s.spaces s.pool script.processors s.turns (Turn d.low) standing next_turn
           tally' f' spaces' pool' went ended
 
       led : progress_from (Some (at_rest d.low s.turns)) went.piece ≡ Some (at_rest d.low (s.turns + 1))
       led = subst (λ m. progress_from (Some (at_rest m s.turns)) went.piece ≡ Some (at_rest m (s.turns + 1))) mark_is
-          (leads (setting_over plan stores) h s.tally s.spaces s.pool plan.processors s.turns (Turn d.low) standing next_turn
+          (leads (setting_over script stores) h s.tally s.spaces s.pool script.processors s.turns (Turn d.low) standing next_turn
           tally' f' spaces' pool' went ended)
 
-      turn : IsTurn plan.processors (low_in plan.daemon) went.piece
-      turn = subst (λ m. IsTurn plan.processors m went.piece) (sym (ap low_in is)) (record { own = entries_own; made = s.turns; leads = led })
+      turn : IsTurn script.processors (low_in script.daemon) went.piece
+      turn = subst (λ m. IsTurn script.processors m went.piece) (sym (ap low_in is)) (record { own = entries_own; made = s.turns; leads = led })
 
-      turned_then : (e : Daemon) → plan.daemon ≡ Some e
-          → progress_of e.low (entries_of plan.processors (h ++ went.piece)) ≡ Some (at_rest e.low (s.turns + 1))
+      turned_then : (e : Daemon) → script.daemon ≡ Some e
+          → progress_of e.low (entries_of script.processors (h ++ went.piece)) ≡ Some (at_rest e.low (s.turns + 1))
       turned_then e has =
-          subst (λ (x : Daemon). progress_of x.low (entries_of plan.processors (h ++ went.piece)) ≡ Some (at_rest x.low (s.turns + 1)))
+          subst (λ (x : Daemon). progress_of x.low (entries_of script.processors (h ++ went.piece)) ≡ Some (at_rest x.low (s.turns + 1)))
           (same_Some d e (sym is ∙ has))
-          (ap (progress_of d.low) (entries_on plan.processors h went.piece entries_own)
-          ∙ progress_from-append (Some (at_rest d.low 0)) (entries_of plan.processors h) went.piece
+          (ap (progress_of d.low) (entries_on script.processors h went.piece entries_own)
+          ∙ progress_from-append (Some (at_rest d.low 0)) (entries_of script.processors h) went.piece
           ∙ ap (λ p. progress_from p went.piece) (turned d is) ∙ led)
 
-      same : (c : ℕ) → c < plan.processors → entries_of c (h ++ went.piece) ≡ entries_of c h
-      same c known = others_on plan.processors c (λ e. omega (arith, known, e)) h went.piece entries_own
+      same : (c : ℕ) → c < script.processors → entries_of c (h ++ went.piece) ≡ entries_of c h
+      same c known = others_on script.processors c (λ e. omega (arith, known, e)) h went.piece entries_own
 
-      stand : StandAfter (setting_over plan stores) (h ++ went.piece) tally' spaces' pool'
-      stand = subst (λ l. StandAfter (setting_over plan stores) l tally' spaces' pool') went.grown
-          (stand_then (setting_over plan stores) h s.tally s.spaces s.pool plan.processors s.turns (Turn d.low) standing next_turn
+      stand : StandAfter (setting_over script stores) (h ++ went.piece) tally' spaces' pool'
+      stand = subst (λ l. StandAfter (setting_over script stores) l tally' spaces' pool') went.grown
+          (stand_then (setting_over script stores) h s.tally s.spaces s.pool script.processors s.turns (Turn d.low) standing next_turn
           tally' f' spaces' pool' went ended)
 
-      within : s.turns + 1 ≤ turns_in plan.daemon
+      within : s.turns + 1 ≤ turns_in script.daemon
       within = (let all = ap turns_in is in omega (arith, all, left))
 
-      pub IsAt-turn : IsAt plan stores calls (h ++ went.piece)
+      pub IsAt-turn : IsAt script stores calls (h ++ went.piece)
           (record s { turns = s.turns + 1; tally = tally'; spaces = spaces'; pool = pool' })
       IsAt-turn =
           record {
@@ -195,20 +195,20 @@ module _ (plan : Plan) (stores : List Stored) (calls : List Line) (h : List Entr
             few_calls = at.few_calls;
             few_turns = within;
             legal = stand.legal;
-            filed = subst (λ n. FilesLines plan.processors (low_in plan.daemon) n calls (h ++ went.piece))
+            filed = subst (λ n. FilesLines script.processors (low_in script.daemon) n calls (h ++ went.piece))
                 (let e : suc s.turns ≡ s.turns + 1 = omega arith in e)
-                (FilesLines-turn plan.processors (low_in plan.daemon) s.turns calls h went.piece due at.filed turn);
+                (FilesLines-turn script.processors (low_in script.daemon) s.turns calls h went.piece due at.filed turn);
             shows = record {
               calls = λ c known. subst (λ es. (answers_in es ≡ enumerate_from 0 (calls_of c calls)) × IsWhole 0 es) (sym (same c known))
                   (at.shows.calls c known);
-              turns = MakesTurns-part plan calls plan.daemon (s.turns + 1) (h ++ went.piece) within turned_then;
+              turns = MakesTurns-part script calls script.daemon (s.turns + 1) (h ++ went.piece) within turned_then;
             };
             made = λ c known. ap (progress_of 0) (same c known) ∙ at.made c known;
             short =
                 let long = length-append h went.piece in
                 let short = at.short in
                 let low = daemon_in.0.1 in
-                let few = few_more (setting_over plan stores) h s.tally s.spaces s.pool plan.processors s.turns (Turn d.low) standing next_turn
+                let few = few_more (setting_over script stores) h s.tally s.spaces s.pool script.processors s.turns (Turn d.low) standing next_turn
                 tally' f' spaces' pool' went ended in
                 omega (arith, long, short, low, few);
             tallied = stand.tallied;
@@ -224,13 +224,13 @@ module _ (plan : Plan) (stores : List Stored) (calls : List Line) (h : List Entr
           }
 
   -- A call more.
-  module _ (line : Line) (next : IsNext plan calls line) (n : ℕ) (n_is : n ≡ slice_index_or s.numbers line.processor 0)
+  module _ (line : Line) (next : IsNext script calls line) (n : ℕ) (n_is : n ≡ slice_index_or s.numbers line.processor 0)
       (turns : s.turns ≤ length calls + 1) where
     pub so_far : n ≡ length (calls_of line.processor calls)
     so_far = n_is ∙ at.numbers_are line.processor next.range.0
 
-    unmarked : mark_of (setting_over plan stores) line.processor ≡ 0
-    unmarked = mark_of_caller plan line.processor next.range.0
+    unmarked : mark_of (setting_over script stores) line.processor ≡ 0
+    unmarked = mark_of_caller script line.processor next.range.0
 
     made_before : progress_of 0 (entries_of line.processor h) ≡ Some (at_rest 0 n)
     made_before = at.made line.processor next.range.0 ∙ ap (λ k. Some (at_rest 0 k)) (sym so_far)
@@ -242,40 +242,40 @@ module _ (plan : Plan) (stores : List Stored) (calls : List Line) (h : List Entr
         let count = at.processors_are in
         omega (arith, own, most, count)
 
-    pub next_call : IsNextJob (setting_over plan stores) h line.processor n (MakesCall line.call)
+    pub next_call : IsNextJob (setting_over script stores) h line.processor n (MakesCall line.call)
     next_call =
         record {
-          known = processor_known plan line.processor next.range.0;
+          known = processor_known script line.processor next.range.0;
           marked = unmarked;
           made = subst (λ m. progress_of m (entries_of line.processor h) ≡ Some (at_rest m n)) (sym unmarked) made_before;
           can = record {
-            on = subst (λ k. space_of_call line.call < k) (sym (told-over plan stores at.enough)) (call_on plan.spaces line.call next.range.1);
-            can = (plan.spaces, next.range.1);
+            on = subst (λ k. space_of_call line.call < k) (sym (told-over script stores at.enough)) (call_on script.spaces line.call next.range.1);
+            can = (script.spaces, next.range.1);
           };
           few = (let short = at.short in let few = next.few in let most = few_turns in omega (arith, short, few, most));
         }
 
     module _ (tally' : Tallied) (f' : Flight) (spaces' : List Kept) (pool' : FrameState)
-        (went : WentOn IsTallied (setting_over plan stores) h 0 tally' (flight_for line.processor n (MakesCall line.call)) f' spaces' pool')
+        (went : WentOn IsTallied (setting_over script stores) h 0 tally' (flight_for line.processor n (MakesCall line.call)) f' spaces' pool')
         (ended : has_ended (row_of f').outcome ≡ true) where
       call_own : AllByRecursion (λ (e : Entry). e.processor ≡ line.processor) went.piece
-      call_own = own (setting_over plan stores) h s.tally s.spaces s.pool line.processor n (MakesCall line.call) standing next_call
+      call_own = own (setting_over script stores) h s.tally s.spaces s.pool line.processor n (MakesCall line.call) standing next_call
           tally' f' spaces' pool' went ended
 
       call_led : progress_from (Some (at_rest 0 n)) went.piece ≡ Some (at_rest 0 (n + 1))
       call_led = subst (λ m. progress_from (Some (at_rest m n)) went.piece ≡ Some (at_rest m (n + 1))) unmarked
-          (leads (setting_over plan stores) h s.tally s.spaces s.pool line.processor n (MakesCall line.call) standing next_call
+          (leads (setting_over script stores) h s.tally s.spaces s.pool line.processor n (MakesCall line.call) standing next_call
           tally' f' spaces' pool' went ended)
 
       answered : answers_in went.piece ≡ (n, line.call) ∷ []
-      answered = answer (setting_over plan stores) h tally' spaces' pool' line.processor n line.call f' went ended
+      answered = answer (setting_over script stores) h tally' spaces' pool' line.processor n line.call f' went ended
 
       pub sequence : IsSequence line went.piece
       sequence = record { own = call_own; made = n; leads = call_led; answer = answered }
 
-      call_stand : StandAfter (setting_over plan stores) (h ++ went.piece) tally' spaces' pool'
-      call_stand = subst (λ l. StandAfter (setting_over plan stores) l tally' spaces' pool') went.grown
-          (stand_then (setting_over plan stores) h s.tally s.spaces s.pool line.processor n (MakesCall line.call) standing next_call
+      call_stand : StandAfter (setting_over script stores) (h ++ went.piece) tally' spaces' pool'
+      call_stand = subst (λ l. StandAfter (setting_over script stores) l tally' spaces' pool') went.grown
+          (stand_then (setting_over script stores) h s.tally s.spaces s.pool line.processor n (MakesCall line.call) standing next_call
           tally' f' spaces' pool' went ended)
 
       -- the calls and the entries of the line's processor, and of others
@@ -309,7 +309,7 @@ module _ (plan : Plan) (stores : List Stored) (calls : List Line) (h : List Entr
       others : (c : ℕ) → c ≢ line.processor → entries_of c (h ++ went.piece) ≡ entries_of c h
       others c other = others_on line.processor c other h went.piece call_own
 
-      made_each : (c : ℕ) → c < plan.processors
+      made_each : (c : ℕ) → c < script.processors
           → progress_of 0 (entries_of c (h ++ went.piece)) ≡ Some (at_rest 0 (length (calls_of c (calls ++ line ∷ []))))
       made_each c known = elim (cases_eq c line.processor) [
         | inl here ↦
@@ -320,7 +320,7 @@ module _ (plan : Plan) (stores : List Stored) (calls : List Line) (h : List Entr
             ∙ ap (λ l. Some (at_rest 0 (length l))) (sym (calls_other c other))
       ]
 
-      answers_each : (c : ℕ) → c < plan.processors
+      answers_each : (c : ℕ) → c < script.processors
           → answers_in (entries_of c (h ++ went.piece)) ≡ enumerate_from 0 (calls_of c (calls ++ line ∷ []))
       answers_each c known = elim (cases_eq c line.processor) [
         | inl here ↦
@@ -329,12 +329,12 @@ module _ (plan : Plan) (stores : List Stored) (calls : List Line) (h : List Entr
             ap answers_in (others c other) ∙ (at.shows.calls c known).0 ∙ ap (enumerate_from 0) (sym (calls_other c other))
       ]
 
-      daemon_still : (d : Daemon) → plan.daemon ≡ Some d
-          → progress_of d.low (entries_of plan.processors (h ++ went.piece)) ≡ Some (at_rest d.low s.turns)
+      daemon_still : (d : Daemon) → script.daemon ≡ Some d
+          → progress_of d.low (entries_of script.processors (h ++ went.piece)) ≡ Some (at_rest d.low s.turns)
       daemon_still d is =
-          ap (progress_of d.low) (others plan.processors (λ e. (let own = next.range.0 in omega (arith, own, e)))) ∙ turned d is
+          ap (progress_of d.low) (others script.processors (λ e. (let own = next.range.0 in omega (arith, own, e)))) ∙ turned d is
 
-      number_each : (c : ℕ) → c < plan.processors
+      number_each : (c : ℕ) → c < script.processors
           → slice_index_or (set s.numbers line.processor (n + 1)) c 0 ≡ length (calls_of c (calls ++ line ∷ []))
       number_each c known = elim (cases_eq c line.processor) [
         | inl here ↦
@@ -344,7 +344,7 @@ module _ (plan : Plan) (stores : List Stored) (calls : List Line) (h : List Entr
             get_or-set_other s.numbers line.processor c (n + 1) 0 other ∙ at.numbers_are c known ∙ ap length (sym (calls_other c other))
       ]
 
-      pub IsAt-call : IsAt plan stores (calls ++ line ∷ []) (h ++ went.piece)
+      pub IsAt-call : IsAt script stores (calls ++ line ∷ []) (h ++ went.piece)
           (record s {
             numbers = set s.numbers line.processor (n + 1);
             calls = s.calls + 1;
@@ -358,20 +358,20 @@ module _ (plan : Plan) (stores : List Stored) (calls : List Line) (h : List Entr
             opening = at.opening;
             enough = at.enough;
             capped = at.capped;
-            lines = All-push (IsLine plan.version plan.processors plan.spaces) calls line at.lines next.range;
+            lines = All-push (IsLine script.version script.processors script.spaces) calls line at.lines next.range;
             few_calls = (let few = next.few in omega (arith, longer, few));
             few_turns = at.few_turns;
             legal = call_stand.legal;
-            filed = FilesLines-line plan.processors (low_in plan.daemon) s.turns calls line h went.piece turns at.filed sequence;
+            filed = FilesLines-line script.processors (low_in script.daemon) s.turns calls line h went.piece turns at.filed sequence;
             shows = record {
               calls = λ c known. (answers_each c known, (length (calls_of c (calls ++ line ∷ [])), made_each c known));
-              turns = MakesTurns-part plan (calls ++ line ∷ []) plan.daemon s.turns (h ++ went.piece) at.few_turns daemon_still;
+              turns = MakesTurns-part script (calls ++ line ∷ []) script.daemon s.turns (h ++ went.piece) at.few_turns daemon_still;
             };
             made = made_each;
             short =
                 let long = length-append h went.piece in
                 let short = at.short in
-                let few = few_more (setting_over plan stores) h s.tally s.spaces s.pool line.processor n (MakesCall line.call) standing next_call
+                let few = few_more (setting_over script stores) h s.tally s.spaces s.pool line.processor n (MakesCall line.call) standing next_call
                 tally' f' spaces' pool' went ended in
                 omega (arith, long, short, few, longer);
             tallied = call_stand.tallied;

@@ -10,7 +10,7 @@ use Rattle.pager_model.specs.Settings.{Given}
 use Rattle.pager_model.proofs.Histories.{IsLegal-push}
 use Rattle.followed_space.specs.Follows.{AnswersLine}
 use Rattle.miss_curves.specs.Histories.{Comes}
-use Rattle.step_log.specs.Taken.{AnswersCall}
+use Rattle.flight_core.specs.Taken.{AnswersCall}
 use Rattle.stream_core.specs.Tallies.{last_answered, remembered}
 
 -- a call that can be begun is one that a line may hold

@@ -8,8 +8,8 @@ use Rattle.pager_model.specs.declared.entry.What.{What}
 use Rattle.pager_model.specs.declared.entry.What.TheVariants.{Answer}
 use Rattle.pager_model.specs.declared.reply.Answered.{Answered}
 use Rattle.pager_model.specs.Settings.{Given}
-use Rattle.step_log.specs.declared.counted.Counted.{Counted}
-use Rattle.step_log.specs.Counting.{IsCounted}
+use Rattle.flight_core.specs.declared.counted.Counted.{Counted}
+use Rattle.flight_core.specs.Counting.{IsCounted}
 
 -- what an entry says that its call was answered, where it is an answer
 abbrev pub answered_in : What → Option Answered

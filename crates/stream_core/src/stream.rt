@@ -7,14 +7,14 @@ ghost use Rattle.pager_model.specs.declared.entry.Entry.{Entry};
 ghost use Rattle.pager_model.specs.Bounds.{most_spaces, space_pages};
 ghost use Rattle.pager_model.specs.Counts.{counts};
 ghost use Rattle.pager_model.specs.FrameStates.{frame_of};
-ghost use Rattle.pager_model.specs.Plans.{Plan};
+ghost use Rattle.pager_model.specs.Scripts.{Script};
 ghost use Rattle.pager_model.specs.Stored.{Stored};
 ghost use Rattle.pager_model.specs.Stores.{setting_over};
 ghost use Rattle.stream_core.specs.Streaming.{CanCall, CanMake, CanStand, CanTurn, IsAfter, IsAt, IsCalled, IsDue, IsNext, IsMade, IsMadeAlone, IsRunTo, IsRunWhole, IsStanding, TookTurns, turns_in};
 ghost use Rattle.stream_core.specs.Tallies.{has_curves};
 
 use crate::tally::Tally;
-use flight_core::Flight;
+use flight_core::{Counted, Flight, fly};
 use frame_pool::Pool;
 use miss_curves::Curves;
 use pager_core::{RunRoom, counts_of, stores_of};
@@ -22,7 +22,6 @@ use pager_model::{Answered, Daemon, Line, Summary, Trace};
 use space_core::Space;
 use std::alloc::Global;
 use std::marker::Model;
-use step_log::{Counted, fly};
 use store_core::Store;
 
 /// A run by the order of the lines, of which nothing is kept but its counts. It owns the spaces with their stores, and the pool.
@@ -112,10 +111,10 @@ impl<S: Store + Send + Drop> Stream<S> {
     /// Makes a call to its end, and before it a turn of the daemon, while it has turns left.
     pub fn make(&mut self, line: Line)
         requires can { CanMake self.old line }
-        ensures made { (plan : Plan) (stores : List Stored) (calls : List CallLine) (h : List Entry) → IsAfter plan stores calls h self.old
-            → IsNext plan calls line → IsMade S.lasts plan stores (calls ++ line ∷ []) h self.new }
-        ensures alone { (plan : Plan) (stores : List Stored) (calls : List CallLine) (h : List Entry) → IsAfter plan stores calls h self.old
-            → IsNext plan calls line → plan.daemon ≡ None → IsMadeAlone plan stores calls line h self.new }
+        ensures made { (script : Script) (stores : List Stored) (calls : List CallLine) (h : List Entry) → IsAfter script stores calls h self.old
+            → IsNext script calls line → IsMade S.lasts script stores (calls ++ line ∷ []) h self.new }
+        ensures alone { (script : Script) (stores : List Stored) (calls : List CallLine) (h : List Entry) → IsAfter script stores calls h self.old
+            → IsNext script calls line → script.daemon ≡ None → IsMadeAlone script stores calls line h self.new }
         ensures asked { has_curves self.new.tally ≡ has_curves self.old.tally }
     {
         self.take_turn();
@@ -169,8 +168,8 @@ impl<S: Store + Send + Drop> Stream<S> {
     /// The counts so far.
     pub fn summary(&self) -> Summary
         requires { CanStand self.now }
-        ensures { (plan : Plan) (stores : List Stored) (calls : List CallLine) (h : List Entry) → IsAfter plan stores calls h self.now
-            → result ≡ counts (setting_over plan stores) h }
+        ensures { (script : Script) (stores : List Stored) (calls : List CallLine) (h : List Entry) → IsAfter script stores calls h self.now
+            → result ≡ counts (setting_over script stores) h }
     {
         self.counts()
     }
@@ -178,8 +177,8 @@ impl<S: Store + Send + Drop> Stream<S> {
     /// Ends the run where it is: the stores, in their order.
     pub fn stop(self) -> Vec<S>
         requires { CanStand self }
-        ensures { (plan : Plan) (stores : List Stored) (calls : List CallLine) (h : List Entry) → IsAfter plan stores calls h self
-            → IsRunTo plan stores calls h (map S.seen result.items) }
+        ensures { (script : Script) (stores : List Stored) (calls : List CallLine) (h : List Entry) → IsAfter script stores calls h self
+            → IsRunTo script stores calls h (map S.seen result.items) }
     {
         stores_of(self.spaces, self.stores)
     }
@@ -190,8 +189,8 @@ impl<S: Store + Send + Drop> Stream<S> {
         requires { CanStand self }
         ensures asked { is_some result.curves ≡ has_curves self.tally }
         ensures long { IfSome result.curves (λ c. AreLong stream_capacities c.tiles.items c.pages.items) }
-        ensures whole { (plan : Plan) (stores : List Stored) (calls : List CallLine) (h : List Entry) → IsAfter plan stores calls h self
-            → IsRunWhole S.lasts plan stores calls h result.summary result.curves (map S.seen result.stores.items) }
+        ensures whole { (script : Script) (stores : List Stored) (calls : List CallLine) (h : List Entry) → IsAfter script stores calls h self
+            → IsRunWhole S.lasts script stores calls h result.summary result.curves (map S.seen result.stores.items) }
     {
         let mut stream = self;
         take_turns(&mut stream);
@@ -206,8 +205,8 @@ impl<S: Store + Send + Drop> Stream<S> {
     /// Makes the daemon's next turn, where one is left.
     fn take_turn(&mut self)
         requires can { CanTurn self.old }
-        ensures took { (plan : Plan) (stores : List Stored) (calls : List CallLine) (h : List Entry) → IsAt plan stores calls h self.old
-            → IsDue plan calls self.old.turns → TookTurns plan stores calls h self.old.turns 1 self.new }
+        ensures took { (script : Script) (stores : List Stored) (calls : List CallLine) (h : List Entry) → IsAt script stores calls h self.old
+            → IsDue script calls self.old.turns → TookTurns script stores calls h self.old.turns 1 self.new }
         ensures asked { has_curves self.new.tally ≡ has_curves self.old.tally }
     {
         let Some(daemon) = self.daemon else {
@@ -229,9 +228,9 @@ impl<S: Store + Send + Drop> Stream<S> {
     /// Makes a call.
     fn make_call(&mut self, line: Line)
         requires can { CanCall self.old line }
-        ensures made { (plan : Plan) (stores : List Stored) (calls : List CallLine) (h : List Entry) → IsAt plan stores calls h self.old
-            → IsNext plan calls line → self.old.turns ≤ length calls + 1
-            → IsCalled S.lasts plan stores calls line h self.old.turns self.new }
+        ensures made { (script : Script) (stores : List Stored) (calls : List CallLine) (h : List Entry) → IsAt script stores calls h self.old
+            → IsNext script calls line → self.old.turns ≤ length calls + 1
+            → IsCalled S.lasts script stores calls line h self.old.turns self.new }
         ensures asked { has_curves self.new.tally ≡ has_curves self.old.tally }
     {
         let place = line.processor as usize;
@@ -261,8 +260,8 @@ impl<S: Store + Send + Drop> Stream<S> {
     /// The counts after any calls and turns.
     fn counts(&self) -> Summary
         requires { IsStanding self.now }
-        ensures { (plan : Plan) (stores : List Stored) (calls : List CallLine) (h : List Entry) → IsAt plan stores calls h self.now
-            → result ≡ counts (setting_over plan stores) h }
+        ensures { (script : Script) (stores : List Stored) (calls : List CallLine) (h : List Entry) → IsAt script stores calls h self.now
+            → result ≡ counts (setting_over script stores) h }
     {
         let counted = self.tally.counted();
         counts_of(
@@ -277,9 +276,9 @@ impl<S: Store + Send + Drop> Stream<S> {
 /// Makes the turns that the daemon has left.
 fn take_turns<S: Store + Send + Drop>(stream: &mut Stream<S>)
     requires can { CanTurn stream.old }
-    ensures took { (plan : Plan) (stores : List Stored) (calls : List CallLine) (h : List Entry) → IsAt plan stores calls h stream.old
-        → IsDue plan calls stream.old.turns
-        → TookTurns plan stores calls h stream.old.turns (turns_in plan.daemon) stream.new }
+    ensures took { (script : Script) (stores : List Stored) (calls : List CallLine) (h : List Entry) → IsAt script stores calls h stream.old
+        → IsDue script calls stream.old.turns
+        → TookTurns script stores calls h stream.old.turns (turns_in script.daemon) stream.new }
     ensures asked { has_curves stream.new.tally ≡ has_curves stream.old.tally }
 {
     for _ in 0..stream.turns_left() {

@@ -7,11 +7,11 @@ ghost use Rattle.pager_model.specs.declared.entry.Entry.{Entry as Made};
 ghost use Rattle.pager_model.specs.Settings.{Given};
 ghost use Rattle.stream_core.specs.Tallies.{IsTallied, has_curves, remembered};
 
+use flight_core::{Counted, Log};
 use miss_curves::{Curves, MissCurves, STREAM_CAPACITIES};
 use pager_model::{Answered, Entry, NoMemory, Trace, What};
 use std::alloc::Global;
 use std::marker::Model;
-use step_log::{Counted, Log};
 
 /// The counts of a history that nobody keeps, what its last answer said, and where they are asked for its miss curves.
 #[derive(Drop)]

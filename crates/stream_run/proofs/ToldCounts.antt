@@ -7,7 +7,7 @@ use Rattle.std.proofs.lemmas.Option.{slice_get_within}
 use Rattle.pager_model.specs.declared.call.Line.{Line}
 use Rattle.pager_model.specs.declared.entry.Entry.{Entry}
 use Rattle.pager_model.specs.Counts.{counts}
-use Rattle.pager_model.specs.Plans.{Plan}
+use Rattle.pager_model.specs.Scripts.{Script}
 use Rattle.pager_model.specs.Settings.{Given}
 use Rattle.pager_model.specs.Showing.{IsFiled}
 use Rattle.pager_model.specs.Stored.{Stored}
@@ -15,7 +15,7 @@ use Rattle.pager_core.proofs.Lists.{slice_get-push}
 use Rattle.report_text.specs.declared.so_far_line.SoFar.{SoFar}
 use Rattle.report_text.specs.SoFarText.{so_far_text}
 use Rattle.report_text.specs.Written.{WroteAll, WrotePart}
-use Rattle.step_log.specs.Counting.{evictions_in, unserved_in}
+use Rattle.flight_core.specs.Counting.{evictions_in, unserved_in}
 use Rattle.stream_core.specs.Streaming.{IsAfter, Streaming, front_of}
 use Rattle.stream_core.proofs.Fronts.{FilesBy-part, part_is_front}
 use Rattle.stream_run.specs.Steps.{ComesNext, CountsCall, EachTold}
@@ -24,21 +24,21 @@ use Rattle.stream_run.specs.Streams.{AreToldBy, IsSoFar, WrotePartBehind, told_t
 -- Counts of a front.
 
 -- the history of a stream is filed by the front that its calls end
-pub IsFiled-front : (plan : Plan) (stores : List Stored) (calls : List Line) (h : List Entry) (s : Streaming) → IsAfter plan stores calls h s
-    → IsFiled (front_of plan calls) h
-IsFiled-front plan stores calls h s after =
-    subst (λ p. IsFiled p h) (part_is_front plan calls s.turns after.turns)
-    (FilesBy-part plan calls plan.daemon s.turns h after.at.few_turns after.at.filed)
+pub IsFiled-front : (script : Script) (stores : List Stored) (calls : List Line) (h : List Entry) (s : Streaming) → IsAfter script stores calls h s
+    → IsFiled (front_of script calls) h
+IsFiled-front script stores calls h s after =
+    subst (λ p. IsFiled p h) (part_is_front script calls s.turns after.turns)
+    (FilesBy-part script calls script.daemon s.turns h after.at.few_turns after.at.filed)
 
 -- those of all of the history
-pub IsSoFar-all : (g : Given) (plan : Plan) (calls : List Line) (h : List Entry) (s : SoFar) → IsFiled (front_of plan calls) h
+pub IsSoFar-all : (g : Given) (script : Script) (calls : List Line) (h : List Entry) (s : SoFar) → IsFiled (front_of script calls) h
     → s.calls ≡ length calls → s.summary ≡ counts g h → s.evictions ≡ evictions_in h → s.unserved ≡ unserved_in h
-    → IsSoFar g plan calls h (length calls) s
-IsSoFar-all g plan calls h s filed calls_are summary evictions unserved = record {
+    → IsSoFar g script calls h (length calls) s
+IsSoFar-all g script calls h s filed calls_are summary evictions unserved = record {
   front = h;
   rest = [];
   split = sym (append-nil h);
-  filed = subst (λ l. IsFiled (front_of plan l) h) (sym (take_all (length calls) calls (le_refl (length calls)))) filed;
+  filed = subst (λ l. IsFiled (front_of script l) h) (sym (take_all (length calls) calls (le_refl (length calls)))) filed;
   calls_are = calls_are;
   summary_is = summary;
   evictions_are = evictions;
@@ -46,9 +46,9 @@ IsSoFar-all g plan calls h s filed calls_are summary evictions unserved = record
 }
 
 -- a longer history, of the same calls or of one more, has the same fronts
-pub IsSoFar-longer : (g : Given) (plan : Plan) (calls : List Line) (h piece : List Entry) (k : ℕ) (s : SoFar) → IsSoFar g plan calls h k s
-    → IsSoFar g plan calls (h ++ piece) k s
-IsSoFar-longer g plan calls h piece k s is = record {
+pub IsSoFar-longer : (g : Given) (script : Script) (calls : List Line) (h piece : List Entry) (k : ℕ) (s : SoFar) → IsSoFar g script calls h k s
+    → IsSoFar g script calls (h ++ piece) k s
+IsSoFar-longer g script calls h piece k s is = record {
   front = is.front;
   rest = is.rest ++ piece;
   split = ap (λ l. l ++ piece) is.split ∙ append_assoc is.front is.rest piece;
@@ -59,13 +59,13 @@ IsSoFar-longer g plan calls h piece k s is = record {
   unserved_are = is.unserved_are;
 }
 
-pub IsSoFar-more : (g : Given) (plan : Plan) (calls : List Line) (line : Line) (h : List Entry) (k : ℕ) (s : SoFar) → k ≤ length calls
-    → IsSoFar g plan calls h k s → IsSoFar g plan (calls ++ line ∷ []) h k s
-IsSoFar-more g plan calls line h k s few is = record {
+pub IsSoFar-more : (g : Given) (script : Script) (calls : List Line) (line : Line) (h : List Entry) (k : ℕ) (s : SoFar) → k ≤ length calls
+    → IsSoFar g script calls h k s → IsSoFar g script (calls ++ line ∷ []) h k s
+IsSoFar-more g script calls line h k s few is = record {
   front = is.front;
   rest = is.rest;
   split = is.split;
-  filed = subst (λ l. IsFiled (front_of plan l) is.front) (sym (take-append-le k calls (line ∷ []) few)) is.filed;
+  filed = subst (λ l. IsFiled (front_of script l) is.front) (sym (take-append-le k calls (line ∷ []) few)) is.filed;
   calls_are = is.calls_are;
   summary_is = is.summary_is;
   evictions_are = is.evictions_are;
@@ -80,24 +80,24 @@ within every calls told left i is few below =
     let most = mul-le-mul_right {m = i + 1} {n = told} every (omega arith) in
     omega (arith, most, is, few)
 
-pub EachTold-more : (g : Given) (plan : Plan) (calls : List Line) (line : Line) (h piece : List Entry) (every : Option ℕ) (told : List SoFar)
-    (left : ℕ) → ComesNext every (length calls) (length told) left → EachTold g plan calls h every told
-    → EachTold g plan (calls ++ line ∷ []) (h ++ piece) every told
-EachTold-more g plan calls line h piece None told left next each = each
-EachTold-more g plan calls line h piece (Some every) told left next each = λ i s at.
-    IsSoFar-more g plan calls line (h ++ piece) ((i + 1) * every) s
+pub EachTold-more : (g : Given) (script : Script) (calls : List Line) (line : Line) (h piece : List Entry) (every : Option ℕ) (told : List SoFar)
+    (left : ℕ) → ComesNext every (length calls) (length told) left → EachTold g script calls h every told
+    → EachTold g script (calls ++ line ∷ []) (h ++ piece) every told
+EachTold-more g script calls line h piece None told left next each = each
+EachTold-more g script calls line h piece (Some every) told left next each = λ i s at.
+    IsSoFar-more g script calls line (h ++ piece) ((i + 1) * every) s
     (within every (length calls) (length told) left i next.0 next.2 (slice_get_within told i s at))
-    (IsSoFar-longer g plan calls h piece ((i + 1) * every) s (each i s at))
+    (IsSoFar-longer g script calls h piece ((i + 1) * every) s (each i s at))
 
 -- one time more
-each_push : (g : Given) (plan : Plan) (calls : List Line) (h : List Entry) (every : ℕ) (told : List SoFar) (last : SoFar)
-    → EachTold g plan calls h (Some every) told → IsSoFar g plan calls h ((length told + 1) * every) last
-    → EachTold g plan calls h (Some every) (told ++ last ∷ [])
-each_push g plan calls h every told last each is = λ i s at.
+each_push : (g : Given) (script : Script) (calls : List Line) (h : List Entry) (every : ℕ) (told : List SoFar) (last : SoFar)
+    → EachTold g script calls h (Some every) told → IsSoFar g script calls h ((length told + 1) * every) last
+    → EachTold g script calls h (Some every) (told ++ last ∷ [])
+each_push g script calls h every told last each is = λ i s at.
     elim (slice_get-push told last i s at) [
       | inl before ↦ each i s before
       | inr here ↦
-          rw here.0 (subst (IsSoFar g plan calls h ((length told + 1) * every)) here.1 is)
+          rw here.0 (subst (IsSoFar g script calls h ((length told + 1) * every)) here.1 is)
     ]
 
 -- Calls that are to come before the next time.
@@ -118,15 +118,15 @@ next_not_due (Some every) calls calls' told left left' more counts next =
 
 -- Where it is time.
 
-module _ (g : Given) (plan : Plan) (calls : List Line) (h : List Entry) (told : List SoFar) (last : SoFar) where
+module _ (g : Given) (script : Script) (calls : List Line) (h : List Entry) (told : List SoFar) (last : SoFar) where
   module _ (every before left left' : ℕ) (more : length calls ≡ before + 1) (counts : CountsCall (Some every) left left' true)
       (next : ComesNext (Some every) before (length told) left) where
     times : length calls ≡ (length told + 1) * every
     times = omega (arith, more, counts, next)
 
-    due_each : EachTold g plan calls h (Some every) told → IsSoFar g plan calls h (length calls) last
-        → EachTold g plan calls h (Some every) (told ++ last ∷ [])
-    due_each each is = each_push g plan calls h every told last each (subst (λ k. IsSoFar g plan calls h k last) times is)
+    due_each : EachTold g script calls h (Some every) told → IsSoFar g script calls h (length calls) last
+        → EachTold g script calls h (Some every) (told ++ last ∷ [])
+    due_each each is = each_push g script calls h every told last each (subst (λ k. IsSoFar g script calls h k last) times is)
 
     due_next : ComesNext (Some every) (length calls) (length (told ++ last ∷ [])) left'
     due_next =
@@ -138,30 +138,30 @@ module _ (g : Given) (plan : Plan) (calls : List Line) (h : List Entry) (told : 
         )
 
   pub told_due : (every : Option ℕ) (before left left' : ℕ) → length calls ≡ before + 1 → CountsCall every left left' true
-      → ComesNext every before (length told) left → EachTold g plan calls h every told → IsSoFar g plan calls h (length calls) last
-      → EachTold g plan calls h every (told ++ last ∷ []) × ComesNext every (length calls) (length (told ++ last ∷ [])) left'
+      → ComesNext every before (length told) left → EachTold g script calls h every told → IsSoFar g script calls h (length calls) last
+      → EachTold g script calls h every (told ++ last ∷ []) × ComesNext every (length calls) (length (told ++ last ∷ [])) left'
   told_due None before left left' more counts next each is = absurd (let e : true ≡ false = counts in cc)
   told_due (Some every) before left left' more counts next each is =
       (due_each every before left left' more counts next each is, due_next every before left left' more counts next)
 
 -- Where calls end.
 
-pub AreToldBy-of : (g : Given) (plan : Plan) (calls : List Line) (h : List Entry) (every : Option ℕ) (told : List SoFar) (left : ℕ)
-    → ComesNext every (length calls) (length told) left → EachTold g plan calls h every told → AreToldBy g plan calls h every told
-AreToldBy-of g plan calls h None told left next each = each
-AreToldBy-of g plan calls h (Some every) told left next each = record {
+pub AreToldBy-of : (g : Given) (script : Script) (calls : List Line) (h : List Entry) (every : Option ℕ) (told : List SoFar) (left : ℕ)
+    → ComesNext every (length calls) (length told) left → EachTold g script calls h every told → AreToldBy g script calls h every told
+AreToldBy-of g script calls h None told left next each = each
+AreToldBy-of g script calls h (Some every) told left next each = record {
   fewer = omega (arith, next);
   no_more = omega (arith, next);
   each = each;
 }
 
-pub AreToldBy-longer : (g : Given) (plan : Plan) (calls : List Line) (h piece : List Entry) (every : Option ℕ) (told : List SoFar)
-    → AreToldBy g plan calls h every told → AreToldBy g plan calls (h ++ piece) every told
-AreToldBy-longer g plan calls h piece None told are = are
-AreToldBy-longer g plan calls h piece (Some every) told are = record {
+pub AreToldBy-longer : (g : Given) (script : Script) (calls : List Line) (h piece : List Entry) (every : Option ℕ) (told : List SoFar)
+    → AreToldBy g script calls h every told → AreToldBy g script calls (h ++ piece) every told
+AreToldBy-longer g script calls h piece None told are = are
+AreToldBy-longer g script calls h piece (Some every) told are = record {
   fewer = are.fewer;
   no_more = are.no_more;
-  each = λ i s at. IsSoFar-longer g plan calls h piece ((i + 1) * every) s (are.each i s at);
+  each = λ i s at. IsSoFar-longer g script calls h piece ((i + 1) * every) s (are.each i s at);
 }
 
 -- What was written.

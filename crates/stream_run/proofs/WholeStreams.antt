@@ -8,14 +8,14 @@ use Rattle.pager_model.specs.declared.entry.Entry.{Entry}
 use Rattle.pager_model.specs.declared.summary.Summary.{Summary}
 use Rattle.pager_model.specs.Counts.{counts}
 use Rattle.pager_model.specs.Legal.{entries_in}
-use Rattle.pager_model.specs.Plans.{Plan}
+use Rattle.pager_model.specs.Scripts.{Script}
 use Rattle.pager_model.specs.PrintedText.{summary_text}
 use Rattle.pager_model.specs.Settings.{Given}
 use Rattle.pager_model.specs.Showing.{IsFiled}
 use Rattle.pager_model.specs.Stored.{Stored}
 use Rattle.pager_model.specs.Stores.{setting_over}
 use Rattle.flight_core.specs.Lacking.{NoneLacked}
-use Rattle.step_log.proofs.Lists.{all-append}
+use Rattle.flight_core.proofs.Lists.{all-append}
 use Rattle.stream_core.specs.Streaming.{IsRunTo, Streaming, front_of, with_calls}
 use Rattle.trace_stream.specs.Streams.{Opens}
 use Rattle.stream_run.specs.declared.report.StreamReport.{StreamReport}
@@ -41,14 +41,14 @@ IsEndText-of (Counts every) g h summary (Some c) asked counted curved = absurd (
 IsEndText-of Asked g h summary None asked counted curved = absurd (true≢false (sym asked))
 IsEndText-of Asked g h summary (Some c) asked counted curved = (c.tiles.items, c.pages.items, curved refl, refl)
 
-module _ (lasts : Bool) (report : StreamReport) (plan : Plan) (stores : List Stored) (s : Streaming) (before mid : Ports)
-    (opens : IfSome before.left (λ bytes. (rest : List ℕ) × Opens bytes plan rest)) (admitted : Admits report plan) where
+module _ (lasts : Bool) (report : StreamReport) (script : Script) (stores : List Stored) (s : Streaming) (before mid : Ports)
+    (opens : IfSome before.left (λ bytes. (rest : List ℕ) × Opens bytes script rest)) (admitted : Admits report script) where
   -- Ended where its calls end.
 
-  module _ (ending : Ending) (end : CallsEnd lasts (every_in report) plan stores s before mid ending) (stores' : List Stored)
-      (run : IsRunTo plan stores end.calls end.history stores') where
-    front_ends : (e : Ending) → (e ≡ Done → ⊥) → CallsEndSo plan end.calls end.told before mid e
-        → EndsSo report (setting_over plan stores) plan end.calls end.told (front_of plan end.calls) (entries_in run.history) before mid e
+  module _ (ending : Ending) (end : CallsEnd lasts (every_in report) script stores s before mid ending) (stores' : List Stored)
+      (run : IsRunTo script stores end.calls end.history stores') where
+    front_ends : (e : Ending) → (e ≡ Done → ⊥) → CallsEndSo script end.calls end.told before mid e
+        → EndsSo report (setting_over script stores) script end.calls end.told (front_of script end.calls) (entries_in run.history) before mid e
     front_ends Done other ends = absurd (other refl)
     front_ends (Stopped fault) other ends = (refl, ends.0, ends.1, ends.2)
     front_ends WriteFault other ends = inr (refl, ends.0, ends.1)
@@ -58,9 +58,9 @@ module _ (lasts : Bool) (report : StreamReport) (plan : Plan) (stores : List Sto
     RanSome-front other =
         let at = end.after_calls.at in
         record {
-          plan = plan;
+          script = script;
           calls = end.calls;
-          run = front_of plan end.calls;
+          run = front_of script end.calls;
           history = run.history;
           told = end.told;
           opening = at.opening;
@@ -70,9 +70,9 @@ module _ (lasts : Bool) (report : StreamReport) (plan : Plan) (stores : List Sto
           lines = at.lines;
           few = at.few_calls;
           ran = run.run;
-          filed = subst (IsFiled (front_of plan end.calls)) (sym run.entries) run.filed;
+          filed = subst (IsFiled (front_of script end.calls)) (sym run.entries) run.filed;
           lasting = λ lasting. subst NoneLacked (sym run.entries) (end.lasting lasting);
-          told_are = subst (λ h. AreToldBy (setting_over plan stores) plan end.calls h (every_in report) end.told) (sym run.entries) end.told_are;
+          told_are = subst (λ h. AreToldBy (setting_over script stores) script end.calls h (every_in report) end.told) (sym run.entries) end.told_are;
           ends = front_ends ending other end.ends;
           read_fault = end.read_fault;
           write_fault = end.write_fault;
@@ -81,10 +81,10 @@ module _ (lasts : Bool) (report : StreamReport) (plan : Plan) (stores : List Sto
 
   -- Ended whole.
 
-  module _ (end : CallsEnd lasts (every_in report) plan stores s before mid Done) (stores' : List Stored) (taken' : Option (List ℕ)) (faults' : ℕ)
-      (ending : Ending) (whole : RanWhole lasts report plan stores end.calls end.history stores' ending mid.taken taken' mid.write_faults faults') where
+  module _ (end : CallsEnd lasts (every_in report) script stores s before mid Done) (stores' : List Stored) (taken' : Option (List ℕ)) (faults' : ℕ)
+      (ending : Ending) (whole : RanWhole lasts report script stores end.calls end.history stores' ending mid.taken taken' mid.write_faults faults') where
     whole_ends : (e : Ending) → WritesEnd (end_text whole.summary whole.curves) e mid.taken taken' mid.write_faults faults'
-        → EndsSo report (setting_over plan stores) plan end.calls end.told (with_calls plan end.calls) (end.history ++ whole.run.piece) before
+        → EndsSo report (setting_over script stores) script end.calls end.told (with_calls script end.calls) (end.history ++ whole.run.piece) before
         (ports mid.left mid.read_faults taken' faults') e
     whole_ends Done writes = (
       refl,
@@ -124,9 +124,9 @@ module _ (lasts : Bool) (report : StreamReport) (plan : Plan) (stores : List Sto
         let run = whole.run in
         let faults = whole_faults ending whole.writes in
         record {
-          plan = plan;
+          script = script;
           calls = end.calls;
-          run = with_calls plan end.calls;
+          run = with_calls script end.calls;
           history = run.history;
           told = end.told;
           opening = at.opening;
@@ -136,13 +136,13 @@ module _ (lasts : Bool) (report : StreamReport) (plan : Plan) (stores : List Sto
           lines = at.lines;
           few = at.few_calls;
           ran = run.run;
-          filed = subst (IsFiled (with_calls plan end.calls)) (sym run.entries) run.filed;
+          filed = subst (IsFiled (with_calls script end.calls)) (sym run.entries) run.filed;
           lasting = λ lasting.
               subst NoneLacked (sym run.entries) (none_lacked end.history run.piece (end.lasting lasting) (run.lasting lasting));
-          told_are = subst (λ h. AreToldBy (setting_over plan stores) plan end.calls h (every_in report) end.told) (sym run.entries)
-              (AreToldBy-longer (setting_over plan stores) plan end.calls end.history run.piece (every_in report) end.told end.told_are);
+          told_are = subst (λ h. AreToldBy (setting_over script stores) script end.calls h (every_in report) end.told) (sym run.entries)
+              (AreToldBy-longer (setting_over script stores) script end.calls end.history run.piece (every_in report) end.told end.told_are);
           ends = subst
-              (λ h. EndsSo report (setting_over plan stores) plan end.calls end.told (with_calls plan end.calls) h before
+              (λ h. EndsSo report (setting_over script stores) script end.calls end.told (with_calls script end.calls) h before
               (ports mid.left mid.read_faults taken' faults') ending)
               (sym run.entries) (whole_ends ending whole.writes);
           read_fault = faults.0;

@@ -3,7 +3,7 @@ use Rattle.std.specs.Prelude.{ℕ, ◌≡◌, Bool, true, false, List, Option, N
 use Rattle.miss_curves.specs.Curves.{AreCurves, stream_capacities}
 use Rattle.pager_model.specs.declared.entry.Entry.{Entry}
 use Rattle.pager_model.specs.Counts.{counts}
-use Rattle.pager_model.specs.Plans.{Plan}
+use Rattle.pager_model.specs.Scripts.{Script}
 use Rattle.pager_model.specs.PrintedText.{summary_text}
 use Rattle.pager_model.specs.Settings.{Given}
 use Rattle.report_text.specs.CurveText.{curves_text}
@@ -21,8 +21,8 @@ is_of_curves (Counts every) = false
 is_of_curves Curves = true
 
 -- the report is for the trace
-abbrev pub Admits : StreamReport → Plan → Type 0
-Admits report plan = is_of_curves report ≡ true → plan.processors ≡ 1
+abbrev pub Admits : StreamReport → Script → Type 0
+Admits report script = is_of_curves report ≡ true → script.processors ≡ 1
 
 -- what is written at the end: the counts of the history, or its curves
 abbrev pub IsEndText : StreamReport → Given → List Entry → List ℕ → Type 0

@@ -5,7 +5,7 @@ use Rattle.miss_curves.specs.declared.stacks.Curves.{Curves}
 use Rattle.pager_model.specs.declared.call.Line.{Line}
 use Rattle.pager_model.specs.declared.entry.Entry.{Entry}
 use Rattle.pager_model.specs.declared.summary.Summary.{Summary}
-use Rattle.pager_model.specs.Plans.{Plan}
+use Rattle.pager_model.specs.Scripts.{Script}
 use Rattle.pager_model.specs.PrintedText.{summary_text}
 use Rattle.pager_model.specs.Settings.{Given}
 use Rattle.pager_model.specs.Stored.{Stored}
@@ -26,9 +26,9 @@ use Rattle.stream_run.specs.Streams.{AreToldBy, Behind, IsSoFar, Ports, TellsRea
 -- Between two calls.
 
 -- each of these counts was told in its turn
-abbrev pub EachTold : Given → Plan → List Line → List Entry → Option ℕ → List SoFar → Type 0
-EachTold g plan calls h None told = told ≡ []
-EachTold g plan calls h (Some every) told = (i : ℕ) (s : SoFar) → slice_get told i ≡ Some s → IsSoFar g plan calls h ((i + 1) * every) s
+abbrev pub EachTold : Given → Script → List Line → List Entry → Option ℕ → List SoFar → Type 0
+EachTold g script calls h None told = told ≡ []
+EachTold g script calls h (Some every) told = (i : ℕ) (s : SoFar) → slice_get told i ≡ Some s → IsSoFar g script calls h ((i + 1) * every) s
 
 -- so many calls are to come before counts are told again, which were told so often after so many calls
 abbrev pub ComesNext : Option ℕ → (calls told left : ℕ) → Type 0
@@ -42,21 +42,21 @@ CountsCall (Some every) left left' true = (left ≡ 1) × (left' ≡ every)
 CountsCall (Some every) left left' false = (left ≡ left' + 1) × (1 ≤ left')
 
 -- These calls were made, by this history, and these counts were told.
-pub record StandsAt (lasts : Bool) (every : Option ℕ) (plan : Plan) (stores : List Stored) (calls : List Line) (h : List Entry)
+pub record StandsAt (lasts : Bool) (every : Option ℕ) (script : Script) (stores : List Stored) (calls : List Line) (h : List Entry)
     (told : List SoFar) (left : ℕ) (s : Streaming) : Type 0 where
-  pub after : IsAfter plan stores calls h s
+  pub after : IsAfter script stores calls h s
   pub lasting : lasts ≡ true → NoneLacked h
-  pub each : EachTold (setting_over plan stores) plan calls h every told
+  pub each : EachTold (setting_over script stores) script calls h every told
   pub next : ComesNext every (length calls) (length told) left
 
 -- There are such calls, their lines were read, and the counts were written; no read and no write failed.
-pub record Goes (lasts : Bool) (every : Option ℕ) (plan : Plan) (stores : List Stored) (left : ℕ) (s : Streaming) (before now : Ports)
+pub record Goes (lasts : Bool) (every : Option ℕ) (script : Script) (stores : List Stored) (left : ℕ) (s : Streaming) (before now : Ports)
     : Type 0 where
   pub calls : List Line
   pub history : List Entry
   pub told : List SoFar
-  pub stands : StandsAt lasts every plan stores calls history told left s
-  pub reads : IfSome before.left (λ bytes. (rest : List ℕ) × Behind bytes plan calls rest × (now.left ≡ Some rest))
+  pub stands : StandsAt lasts every script stores calls history told left s
+  pub reads : IfSome before.left (λ bytes. (rest : List ℕ) × Behind bytes script calls rest × (now.left ≡ Some rest))
   pub wrote : WroteAll (told_text told) before.taken now.taken
   pub no_read_fault : now.read_faults ≡ before.read_faults
   pub no_write_fault : now.write_faults ≡ before.write_faults
@@ -64,50 +64,50 @@ pub record Goes (lasts : Bool) (every : Option ℕ) (plan : Plan) (stores : List
 -- A call.
 
 -- it was made and counted, and where it was time the counts were told
-pub record WentOn (lasts : Bool) (every : Option ℕ) (plan : Plan) (stores : List Stored) (calls : List Line) (left : ℕ) (s : Streaming)
+pub record WentOn (lasts : Bool) (every : Option ℕ) (script : Script) (stores : List Stored) (calls : List Line) (left : ℕ) (s : Streaming)
     (before after : Option (List ℕ)) : Type 0 where
   pub history : List Entry
   pub told : List SoFar
-  pub stands : StandsAt lasts every plan stores calls history told left s
+  pub stands : StandsAt lasts every script stores calls history told left s
   pub wrote : WroteAll (told_text told) before after
 
 -- it was made, and telling the counts failed
-pub record WentPart (lasts : Bool) (every : Option ℕ) (plan : Plan) (stores : List Stored) (calls : List Line) (s : Streaming)
+pub record WentPart (lasts : Bool) (every : Option ℕ) (script : Script) (stores : List Stored) (calls : List Line) (s : Streaming)
     (before after : Option (List ℕ)) : Type 0 where
   pub history : List Entry
   pub earlier : List SoFar
   pub last : SoFar
-  pub after_calls : IsAfter plan stores calls history s
+  pub after_calls : IsAfter script stores calls history s
   pub lasting : lasts ≡ true → NoneLacked history
-  pub told_are : AreToldBy (setting_over plan stores) plan calls history every (earlier ++ last ∷ [])
+  pub told_are : AreToldBy (setting_over script stores) script calls history every (earlier ++ last ∷ [])
   pub last_is : last.calls ≡ length calls
   pub wrote : WrotePartBehind (told_text earlier) (so_far_text last) before after
 
 -- The end of the calls.
 
 -- what was read and written until then
-abbrev pub CallsEndSo : Plan → List Line → List SoFar → (before after : Ports) → Ending → Type 0
-CallsEndSo plan calls told before after Done =
-    IfSome before.left (λ bytes. WasWhole bytes plan calls after.left) × WroteAll (told_text told) before.taken after.taken
-CallsEndSo plan calls told before after (Stopped fault) =
-    IfSome before.left (λ bytes. WasStopped bytes plan calls fault after.left) × IsOfStream fault
+abbrev pub CallsEndSo : Script → List Line → List SoFar → (before after : Ports) → Ending → Type 0
+CallsEndSo script calls told before after Done =
+    IfSome before.left (λ bytes. WasWhole bytes script calls after.left) × WroteAll (told_text told) before.taken after.taken
+CallsEndSo script calls told before after (Stopped fault) =
+    IfSome before.left (λ bytes. WasStopped bytes script calls fault after.left) × IsOfStream fault
     × WroteAll (told_text told) before.taken after.taken
-CallsEndSo plan calls told before after WriteFault =
-    IfSome before.left (λ bytes. WasAhead bytes plan calls after.left)
+CallsEndSo script calls told before after WriteFault =
+    IfSome before.left (λ bytes. WasAhead bytes script calls after.left)
     × ((earlier : List SoFar) × (last : SoFar) × (told ≡ earlier ++ last ∷ []) × (last.calls ≡ length calls)
     × WrotePartBehind (told_text earlier) (so_far_text last) before.taken after.taken)
-CallsEndSo plan calls told before after NoMemory = ⊥
+CallsEndSo script calls told before after NoMemory = ⊥
 
 -- there are calls that were made, up to where they end so
-pub record CallsEnd (lasts : Bool) (every : Option ℕ) (plan : Plan) (stores : List Stored) (s : Streaming) (before after : Ports)
+pub record CallsEnd (lasts : Bool) (every : Option ℕ) (script : Script) (stores : List Stored) (s : Streaming) (before after : Ports)
     (ending : Ending) : Type 0 where
   pub calls : List Line
   pub history : List Entry
   pub told : List SoFar
-  pub after_calls : IsAfter plan stores calls history s
+  pub after_calls : IsAfter script stores calls history s
   pub lasting : lasts ≡ true → NoneLacked history
-  pub told_are : AreToldBy (setting_over plan stores) plan calls history every told
-  pub ends : CallsEndSo plan calls told before after ending
+  pub told_are : AreToldBy (setting_over script stores) script calls history every told
+  pub ends : CallsEndSo script calls told before after ending
   pub read_fault : TellsRead ending before.read_faults after.read_faults
   pub write_fault : ending ≡ WriteFault → after.write_faults ≡ one_more before.write_faults
   pub no_write_fault : (ending ≡ WriteFault → ⊥) → after.write_faults ≡ before.write_faults
@@ -126,10 +126,10 @@ WritesEnd text WriteFault before after faults faults' = WrotePart text before af
 WritesEnd text ending before after faults faults' = ⊥
 
 -- the run is whole, and what is written at its end was, or a part of it
-pub record RanWhole (lasts : Bool) (report : StreamReport) (plan : Plan) (stores : List Stored) (calls : List Line) (h : List Entry)
+pub record RanWhole (lasts : Bool) (report : StreamReport) (script : Script) (stores : List Stored) (calls : List Line) (h : List Entry)
     (stores' : List Stored) (ending : Ending) (before after : Option (List ℕ)) (faults faults' : ℕ) : Type 0 where
   pub summary : Summary
   pub curves : Option Curves
-  pub run : IsRunWhole lasts plan stores calls h summary curves stores'
-  pub text_is : IsEndText report (setting_over plan stores) (h ++ run.piece) (end_text summary curves)
+  pub run : IsRunWhole lasts script stores calls h summary curves stores'
+  pub text_is : IsEndText report (setting_over script stores) (h ++ run.piece) (end_text summary curves)
   pub writes : WritesEnd (end_text summary curves) ending before after faults faults'

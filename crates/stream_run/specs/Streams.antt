@@ -6,18 +6,18 @@ use Rattle.pager_model.specs.declared.entry.Entry.{Entry}
 use Rattle.pager_model.specs.declared.entry.Numbered.{Numbered}
 use Rattle.pager_model.specs.Counts.{counts}
 use Rattle.pager_model.specs.Legal.{entries_in}
-use Rattle.pager_model.specs.Plans.{Plan}
+use Rattle.pager_model.specs.Scripts.{Script}
 use Rattle.pager_model.specs.Settings.{Given}
 use Rattle.pager_model.specs.Showing.{IsFiled}
 use Rattle.pager_model.specs.Stored.{Stored}
 use Rattle.pager_model.specs.Stores.{setting_over}
 use Rattle.pager_model.specs.TraceText.{IsLine, call_line}
 use Rattle.flight_core.specs.Lacking.{NoneLacked}
-use Rattle.replay_core.specs.Replays.{IsReplay}
+use Rattle.pager_core.specs.Replays.{IsReplay}
 use Rattle.report_text.specs.declared.so_far_line.SoFar.{SoFar}
 use Rattle.report_text.specs.SoFarText.{so_far_text}
 use Rattle.report_text.specs.Written.{WroteAll}
-use Rattle.step_log.specs.Counting.{evictions_in, unserved_in}
+use Rattle.flight_core.specs.Counting.{evictions_in, unserved_in}
 use Rattle.stream_core.specs.Streaming.{IsOpening, front_of, most_calls_made, with_calls}
 use Rattle.trace_reader.specs.declared.fault.TraceFault.{TraceFault}
 use Rattle.trace_reader.specs.declared.fault.TraceFault.TheVariants.{ReadFault, OneProcessor, TooFewStores}
@@ -42,26 +42,26 @@ ports left read_faults taken write_faults = record { left = left; read_faults = 
 -- The counts so far.
 
 -- after so many of the calls, and the turns that come before them, a history had these counts: it is a front of the whole one
-pub record IsSoFar (g : Given) (plan : Plan) (calls : List Line) (h : List Entry) (k : ℕ) (s : SoFar) : Type 0 where
+pub record IsSoFar (g : Given) (script : Script) (calls : List Line) (h : List Entry) (k : ℕ) (s : SoFar) : Type 0 where
   pub front : List Entry
   pub rest : List Entry
   pub split : h ≡ front ++ rest
-  pub filed : IsFiled (front_of plan (take k calls)) front
+  pub filed : IsFiled (front_of script (take k calls)) front
   pub calls_are : s.calls ≡ k
   pub summary_is : s.summary ≡ counts g front
   pub evictions_are : s.evictions ≡ evictions_in front
   pub unserved_are : s.unserved ≡ unserved_in front
 
 -- these counts were told: those after each so many calls, in order
-pub record AreTold (g : Given) (plan : Plan) (calls : List Line) (h : List Entry) (every : ℕ) (told : List SoFar) : Type 0 where
+pub record AreTold (g : Given) (script : Script) (calls : List Line) (h : List Entry) (every : ℕ) (told : List SoFar) : Type 0 where
   pub fewer : length told * every ≤ length calls
   pub no_more : length calls < (length told + 1) * every
-  pub each : (i : ℕ) (s : SoFar) → slice_get told i ≡ Some s → IsSoFar g plan calls h ((i + 1) * every) s
+  pub each : (i : ℕ) (s : SoFar) → slice_get told i ≡ Some s → IsSoFar g script calls h ((i + 1) * every) s
 
 -- where they are asked for; else none
-abbrev pub AreToldBy : Given → Plan → List Line → List Entry → Option ℕ → List SoFar → Type 0
-AreToldBy g plan calls h None told = told ≡ []
-AreToldBy g plan calls h (Some every) told = AreTold g plan calls h every told
+abbrev pub AreToldBy : Given → Script → List Line → List Entry → Option ℕ → List SoFar → Type 0
+AreToldBy g script calls h None told = told ≡ []
+AreToldBy g script calls h (Some every) told = AreTold g script calls h every told
 
 abbrev pub told_text : List SoFar → List ℕ
 told_text told = flat_map so_far_text told
@@ -73,11 +73,11 @@ WrotePartBehind text last before after = IfSome before (λ had. (k : ℕ) × (k 
 -- Where no call was run.
 
 -- the bytes begin with the lines before the calls of this trace, and behind them no more than one piece was read
-pub record WasOpened (bytes : List ℕ) (plan : Plan) (left' : Option (List ℕ)) : Type 0 where
-  pub opening : IsOpening plan
+pub record WasOpened (bytes : List ℕ) (script : Script) (left' : Option (List ℕ)) : Type 0 where
+  pub opening : IsOpening script
   pub ahead : List ℕ
   pub rest : List ℕ
-  pub opens : Opens bytes plan (ahead ++ rest)
+  pub opens : Opens bytes script (ahead ++ rest)
   pub few : length ahead ≤ 4096
   pub left_is : left' ≡ Some rest
 
@@ -86,13 +86,13 @@ pub record WasOpened (bytes : List ℕ) (plan : Plan) (left' : Option (List ℕ)
 abbrev pub IsUnrun : StreamReport → (left left' : Option (List ℕ)) → (stores : ℕ) → Ending → Type 0
 IsUnrun report left left' stores (Stopped ReadFault) = IfSome left (λ bytes. IsUnopened bytes left')
 IsUnrun report left left' stores (Stopped (OneProcessor processors)) =
-    (report ≡ Curves) × (1 < processors) × IfSome left (λ bytes. (plan : Plan) × WasOpened bytes plan left' × (processors ≡ plan.processors))
+    (report ≡ Curves) × (1 < processors) × IfSome left (λ bytes. (script : Script) × WasOpened bytes script left' × (processors ≡ script.processors))
 IsUnrun report left left' stores (Stopped (TooFewStores told spaces)) =
     (told ≡ stores) × (stores < spaces)
-    × IfSome left (λ bytes. (plan : Plan) × WasOpened bytes plan left' × (Admits report plan × (spaces ≡ plan.spaces)))
+    × IfSome left (λ bytes. (script : Script) × WasOpened bytes script left' × (Admits report script × (spaces ≡ script.spaces)))
 IsUnrun report left left' stores (Stopped fault) = IsOfStream fault × IfSome left (λ bytes. IsCause (opening_refusal bytes) fault)
 IsUnrun report left left' stores NoMemory =
-    IfSome left (λ bytes. (plan : Plan) × WasOpened bytes plan left' × (Admits report plan × (plan.spaces ≤ stores)))
+    IfSome left (λ bytes. (script : Script) × WasOpened bytes script left' × (Admits report script × (script.spaces ≤ stores)))
 IsUnrun report left left' stores ending = ⊥
 
 -- a failed read is told, and nothing else is one
@@ -111,68 +111,68 @@ pub record RanNone (report : StreamReport) (before after : Ports) (stores stores
 -- Where calls were run, or could have been.
 
 -- what is to come of the bytes behind the lines of these calls
-abbrev pub Behind : List ℕ → Plan → List Line → List ℕ → Type 0
-Behind bytes plan calls rest = bytes ≡ opening_text plan ++ flat_map call_line calls ++ rest
+abbrev pub Behind : List ℕ → Script → List Line → List ℕ → Type 0
+Behind bytes script calls rest = bytes ≡ opening_text script ++ flat_map call_line calls ++ rest
 
 -- The bytes of a run that was done: they are the text of the trace with these calls, and all were read.
-abbrev pub WasWhole : List ℕ → Plan → List Line → Option (List ℕ) → Type 0
-WasWhole bytes plan calls left' = IsStreamOf bytes (with_calls plan calls) × (left' ≡ Some [])
+abbrev pub WasWhole : List ℕ → Script → List Line → Option (List ℕ) → Type 0
+WasWhole bytes script calls left' = IsStreamOf bytes (with_calls script calls) × (left' ≡ Some [])
 
 -- The bytes of one that was stopped: behind the lines of its calls stands what is refused so, or a read failed before the next whole line of a
 -- call was read.
-abbrev pub WasStopped : List ℕ → Plan → List Line → TraceFault → Option (List ℕ) → Type 0
-WasStopped bytes plan calls ReadFault left' =
-    (ahead : List ℕ) × (rest : List ℕ) × Behind bytes plan calls (ahead ++ rest) × (left' ≡ Some rest)
+abbrev pub WasStopped : List ℕ → Script → List Line → TraceFault → Option (List ℕ) → Type 0
+WasStopped bytes script calls ReadFault left' =
+    (ahead : List ℕ) × (rest : List ℕ) × Behind bytes script calls (ahead ++ rest) × (left' ≡ Some rest)
     × (IsPart ahead ⊎ ((part : List ℕ) × (ahead ≡ end_line ++ part) × IsPart part))
-WasStopped bytes plan calls fault left' =
-    (ahead : List ℕ) × (rest : List ℕ) × Behind bytes plan calls (ahead ++ rest) × (length ahead ≤ 4100) × (left' ≡ Some rest)
-    × (next_refusal (forms_of plan) (first_call plan.daemon + length calls) (length calls) (ahead ++ rest) ≡ Some fault)
+WasStopped bytes script calls fault left' =
+    (ahead : List ℕ) × (rest : List ℕ) × Behind bytes script calls (ahead ++ rest) × (length ahead ≤ 4100) × (left' ≡ Some rest)
+    × (next_refusal (forms_of script) (first_call script.daemon + length calls) (length calls) (ahead ++ rest) ≡ Some fault)
 
 -- The bytes of one that was stopped by a write: behind the lines of its calls, no more than one piece was read.
-abbrev pub WasAhead : List ℕ → Plan → List Line → Option (List ℕ) → Type 0
-WasAhead bytes plan calls left' =
-    (ahead : List ℕ) × (rest : List ℕ) × Behind bytes plan calls (ahead ++ rest) × (length ahead ≤ 4096) × (left' ≡ Some rest)
+abbrev pub WasAhead : List ℕ → Script → List Line → Option (List ℕ) → Type 0
+WasAhead bytes script calls left' =
+    (ahead : List ℕ) × (rest : List ℕ) × Behind bytes script calls (ahead ++ rest) × (length ahead ≤ 4096) × (left' ≡ Some rest)
 
 -- What was run, and where it ended. Done, it was the whole of the trace that has these calls, and behind the counts so far what is written at the
 -- end was. Stopped, it was the front that ends with these calls, and only the counts so far were written. Where a write failed, it was the whole one
 -- and a beginning of its text was written, or it was the front after whose last call the counts so far were to be told, and a beginning of the last
 -- line of theirs was.
-abbrev pub EndsSo : (report : StreamReport) (g : Given) (plan : Plan) (calls : List Line) (told : List SoFar) (run : Plan) (h : List Entry) → (before after : Ports) → Ending
+abbrev pub EndsSo : (report : StreamReport) (g : Given) (script : Script) (calls : List Line) (told : List SoFar) (run : Script) (h : List Entry) → (before after : Ports) → Ending
     → Type 0
-EndsSo report g plan calls told run h before after Done =
-    (run ≡ with_calls plan calls) × IfSome before.left (λ bytes. WasWhole bytes plan calls after.left)
+EndsSo report g script calls told run h before after Done =
+    (run ≡ with_calls script calls) × IfSome before.left (λ bytes. WasWhole bytes script calls after.left)
     × ((text : List ℕ) × IsEndText report g h text × WroteAll (told_text told ++ text) before.taken after.taken)
-EndsSo report g plan calls told run h before after (Stopped fault) =
-    (run ≡ front_of plan calls) × IfSome before.left (λ bytes. WasStopped bytes plan calls fault after.left) × IsOfStream fault
+EndsSo report g script calls told run h before after (Stopped fault) =
+    (run ≡ front_of script calls) × IfSome before.left (λ bytes. WasStopped bytes script calls fault after.left) × IsOfStream fault
     × WroteAll (told_text told) before.taken after.taken
-EndsSo report g plan calls told run h before after WriteFault =
-    ((run ≡ with_calls plan calls) × IfSome before.left (λ bytes. WasWhole bytes plan calls after.left)
+EndsSo report g script calls told run h before after WriteFault =
+    ((run ≡ with_calls script calls) × IfSome before.left (λ bytes. WasWhole bytes script calls after.left)
     × ((text : List ℕ) × IsEndText report g h text × WrotePartBehind (told_text told) text before.taken after.taken))
-    ⊎ ((run ≡ front_of plan calls) × IfSome before.left (λ bytes. WasAhead bytes plan calls after.left)
+    ⊎ ((run ≡ front_of script calls) × IfSome before.left (λ bytes. WasAhead bytes script calls after.left)
     × ((earlier : List SoFar) × (last : SoFar) × (told ≡ earlier ++ last ∷ []) × (last.calls ≡ length calls)
     × WrotePartBehind (told_text earlier) (so_far_text last) before.taken after.taken))
-EndsSo report g plan calls told run h before after NoMemory = ⊥
+EndsSo report g script calls told run h before after NoMemory = ⊥
 
 -- A run was made of these calls of a trace that begins so. Its history is nowhere in memory.
 pub record RanSome (lasts : Bool) (report : StreamReport) (before after : Ports) (stores stores' : List Stored) (ending : Ending) : Type 0 where
-  pub plan : Plan
+  pub script : Script
   pub calls : List Line
-  pub run : Plan
+  pub run : Script
   pub history : List Numbered
   pub told : List SoFar
-  pub opening : IsOpening plan
-  pub opens : IfSome before.left (λ bytes. (rest : List ℕ) × Opens bytes plan rest)
-  pub admitted : Admits report plan
-  pub enough : plan.spaces ≤ length stores
-  pub lines : All (IsLine plan.version plan.processors plan.spaces) calls
+  pub opening : IsOpening script
+  pub opens : IfSome before.left (λ bytes. (rest : List ℕ) × Opens bytes script rest)
+  pub admitted : Admits report script
+  pub enough : script.spaces ≤ length stores
+  pub lines : All (IsLine script.version script.processors script.spaces) calls
   pub few : length calls ≤ most_calls_made
   -- legal, numbered, with its laws at each place, its answers, and what the stores have at its end
   pub ran : IsReplay run stores history stores'
   -- in the order of the lines
   pub filed : IsFiled run (entries_in history)
   pub lasting : lasts ≡ true → NoneLacked (entries_in history)
-  pub told_are : AreToldBy (setting_over plan stores) plan calls (entries_in history) (every_in report) told
-  pub ends : EndsSo report (setting_over plan stores) plan calls told run (entries_in history) before after ending
+  pub told_are : AreToldBy (setting_over script stores) script calls (entries_in history) (every_in report) told
+  pub ends : EndsSo report (setting_over script stores) script calls told run (entries_in history) before after ending
   pub read_fault : TellsRead ending before.read_faults after.read_faults
   pub write_fault : ending ≡ WriteFault → after.write_faults ≡ one_more before.write_faults
   pub no_write_fault : (ending ≡ WriteFault → ⊥) → after.write_faults ≡ before.write_faults

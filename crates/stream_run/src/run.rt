@@ -5,7 +5,7 @@ ghost use Rattle.line_source.specs.Lines.{seen};
 ghost use Rattle.miss_curves.specs.Curves.{AreLong, stream_capacities};
 ghost use Rattle.pager_model.specs.declared.call.Line.{Line as CallLine};
 ghost use Rattle.pager_model.specs.declared.entry.Entry.{Entry};
-ghost use Rattle.pager_model.specs.Plans.{Plan};
+ghost use Rattle.pager_model.specs.Scripts.{Script};
 ghost use Rattle.pager_model.specs.Stored.{Stored};
 ghost use Rattle.stream_core.specs.Streaming.{CanStand, IsAfter};
 ghost use Rattle.stream_core.specs.Tallies.{has_curves};
@@ -173,9 +173,9 @@ fn run_calls<T: Source, K: Sink, S: Store + Send + Drop>(
 /// Makes the turns that the daemon has left, and writes what is written at the end of the whole run.
 fn finish<K: Sink, S: Store + Send + Drop>(sink: &mut K, stream: Stream<S>) -> Streamed<S>
     requires { CanStand stream }
-    ensures { (report : Asked) (plan : Plan) (stores : List Stored) (calls : List CallLine) (h : List Entry)
-        → has_curves stream.tally ≡ is_of_curves report → Admits report plan → IsAfter plan stores calls h stream
-        → RanWhole S.lasts report plan stores calls h (map S.seen result.stores.items) result.ending
+    ensures { (report : Asked) (script : Script) (stores : List Stored) (calls : List CallLine) (h : List Entry)
+        → has_curves stream.tally ≡ is_of_curves report → Admits report script → IsAfter script stores calls h stream
+        → RanWhole S.lasts report script stores calls h (map S.seen result.stores.items) result.ending
         (K.taken sink.old) (K.taken sink.new) (K.faults sink.old) (K.faults sink.new) }
 {
     let Finished {

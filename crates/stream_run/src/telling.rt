@@ -3,7 +3,7 @@
 ghost use Rattle.std.specs.Prelude.{◌≡◌, ℕ, ◌≤◌, IfSome, List, length};
 ghost use Rattle.pager_model.specs.declared.call.Line.{Line as CallLine};
 ghost use Rattle.pager_model.specs.declared.entry.Entry.{Entry};
-ghost use Rattle.pager_model.specs.Plans.{Plan};
+ghost use Rattle.pager_model.specs.Scripts.{Script};
 ghost use Rattle.pager_model.specs.Stored.{Stored};
 ghost use Rattle.pager_model.specs.Stores.{setting_over};
 ghost use Rattle.stream_core.specs.Streaming.{CanStand, IsAfter};
@@ -55,8 +55,8 @@ impl Telling {
 /// The counts so far.
 pub fn so_far_of<S: Store + Send + Drop>(stream: &Stream<S>) -> SoFar
     requires { CanStand stream.now }
-    ensures { (plan : Plan) (stores : List Stored) (calls : List CallLine) (h : List Entry) → IsAfter plan stores calls h stream.now
-        → IsSoFar (setting_over plan stores) plan calls h (length calls) result }
+    ensures { (script : Script) (stores : List Stored) (calls : List CallLine) (h : List Entry) → IsAfter script stores calls h stream.now
+        → IsSoFar (setting_over script stores) script calls h (length calls) result }
 {
     let counted = stream.counted();
     SoFar {

@@ -8,7 +8,7 @@ use Rattle.pager_model.specs.declared.reply.Reply.{Reply}
 use Rattle.pager_model.specs.declared.reply.Reply.TheVariants.{Done, Value, Clean, Written, Unmapped, Denied, Overlap, OutOfSpace, NotGrowing, RegionsFull, NoFrames, StoreFault, NoMemory, Busy}
 use Rattle.pager_model.specs.declared.summary.Summary.{Summary}
 use Rattle.pager_model.specs.Counts.{counts}
-use Rattle.pager_model.specs.Plans.{Plan}
+use Rattle.pager_model.specs.Scripts.{Script}
 use Rattle.pager_model.specs.Stored.{Stored}
 use Rattle.pager_model.specs.Stores.{setting_over}
 use Rattle.stream_core.specs.Streaming.{Streaming}
@@ -137,8 +137,8 @@ counts_answer calls c = record {
 -- the answer tells the counts of the calls so far
 pub record TellsCounts (s : Streaming) (answer : CountAnswer) : Type 0 where
   pub counted : Summary
-  pub counts_are : (plan : Plan) (stores : List Stored) (calls : List Line) (h : List Entry) → IsLive plan stores calls h s
-      → counted ≡ counts (setting_over plan stores) h
+  pub counts_are : (script : Script) (stores : List Stored) (calls : List Line) (h : List Entry) → IsLive script stores calls h s
+      → counted ≡ counts (setting_over script stores) h
   pub answer_is : answer ≡ counts_answer s.calls counted
 
 -- where there is no pager, each number beside the status is 0

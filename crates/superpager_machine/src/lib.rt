@@ -6,7 +6,7 @@
 
 ghost use Rattle.std.specs.Prelude.{◌≡◌, ◌≢◌, true, Some, None, IfSome, IfNone, [], is_some, if◌then◌else◌, replicate};
 ghost use Rattle.guarded_pager.specs.Guards.{is_setting, zero_store};
-ghost use Rattle.live_pager.specs.Live.{IsLive, plan_of};
+ghost use Rattle.live_pager.specs.Live.{IsLive, script_of};
 ghost use Rattle.superpager_machine.specs.Asked.{sizes_of};
 ghost use Rattle.superpager_machine.specs.Answers.{TellsCounts, refused_counts};
 
@@ -34,7 +34,7 @@ pub extern "C" fn superpager_machine_open(
 ) -> u32
     ensures closed { result ≡ 0 → machine.old.kept.state ≡ None }
     ensures opened { result ≡ 0 → IfSome machine.new.kept.state
-        (λ s. IsLive (plan_of setting.frames setting.processors setting.spaces (sizes_of setting)) (replicate setting.spaces zero_store) [] [] s) }
+        (λ s. IsLive (script_of setting.frames setting.processors setting.spaces (sizes_of setting)) (replicate setting.spaces zero_store) [] [] s) }
     ensures there { result ≡ 0 → is_some machine.new.kept.state ≡ true }
     ensures refused { result ≢ 0 → (machine.new.kept.state ≡ machine.old.kept.state)
         × (result ≡ (if is_some machine.old.kept.state then 2 else (if is_setting setting.frames setting.processors setting.spaces then 3 else 4))) }

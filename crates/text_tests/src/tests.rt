@@ -1,8 +1,8 @@
 //! Each crate's tests in a module.
 
+mod chunks;
 mod history;
 mod reader;
-mod rooms;
 mod stores;
 mod streams;
 mod texts;

@@ -8,8 +8,8 @@ use Rattle.pager_model.specs.declared.tile.Mapping.{Mapping}
 use Rattle.pager_model.specs.Regions.{in_range}
 use Rattle.pager_model.specs.SizeSets.{SizeSet}
 use Rattle.pager_model.specs.Tiles.{moved_by, is_promoted_in, promotions_in, count_pages}
-use Rattle.page_map.specs.declared.entry.Entry.{Entry}
-use Rattle.page_map.specs.Entries.{mapping_of}
+use Rattle.tiles.specs.declared.entry.TableEntry.{TableEntry}
+use Rattle.tiles.specs.TableEntries.{mapping_of}
 use Rattle.pager_model.proofs.CountLemmas.{weight}
 use Rattle.pager_model.proofs.ExtentLemmas.{coarser, eight_pos, in_extent, of_extent, range_of_extent}
 use Rattle.tiles.specs.declared.moves.Moves.{Moves}
@@ -72,7 +72,7 @@ protects_bare first from end rights r s on none so_far = record {
     right_past false m n h = refl
 
 -- a part of an entry gets rights
-pub protects_part : (size page : ℕ) (rights : Rights) (given : Mapping) (e : Entry) (r s : Resident) → FitsFrames r page e
+pub protects_part : (size page : ℕ) (rights : Rights) (given : Mapping) (e : TableEntry) (r s : Resident) → FitsFrames r page e
     → size ≤ e.extent.size → page % 8 ^ size ≡ 0 → given ≡ with_rights rights (mapping_of e page) → MapsExtent size page given r s
     → ProtectsTo page (page + 8 ^ size) rights r s
 protects_part size page rights given e r s fits small aligned is maps = record { frames = maps.frames; at = at }

@@ -3,9 +3,9 @@ use Rattle.std.proofs.Common.{◌≡◌, ◌≢◌, ℕ, zero, suc, ◌+◌, ◌
 use Rattle.std.proofs.Math.Nat.{mul-mod_left}
 use Rattle.std.proofs.lemmas.Bool.{cases_Bool, cases_eq, cases_lt, cond-true, eq-eqb, ne_eqb, eqb-true, false≢true}
 use Rattle.std.proofs.lemmas.Option.{none-some, same_Some}
-use Rattle.page_map.specs.declared.entry.Entry.{Entry}
-use Rattle.page_map.specs.Entries.{AreEntries, AreParts, Maps, entry_at, entry_with, extent_round, mapping_of, pages_in, part_of, tile_of_entry, mapping_at as said_at}
-use Rattle.page_map.proofs.Mappings.{first_is, join_mapping, maps_inside, maps_outside, split_mapping}
+use Rattle.tiles.specs.declared.entry.TableEntry.{TableEntry}
+use Rattle.tiles.specs.TableEntries.{AreEntries, AreParts, Maps, entry_at, entry_with, extent_round, mapping_of, pages_in, part_of, tile_of_entry, mapping_at as said_at}
+use Rattle.tiles.proofs.Mappings.{first_is, join_mapping, maps_inside, maps_outside, split_mapping}
 use Rattle.pager_model.specs.declared.extent.Extent.{Extent}
 use Rattle.pager_model.specs.declared.tile.Mapping.{Mapping}
 use Rattle.pager_model.specs.Extents.{IsExtent, extent_start}
@@ -20,22 +20,22 @@ use Rattle.tiles.proofs.Largest.{HasTile, resident_tile, size_is, tile_absent}
 
 -- ---- what the entry of a page says of it
 
-pub entry_says : (m : Resident) (p : ℕ) (entry : Entry) → entry_at m p ≡ Some entry → mapping_at m p ≡ Some (mapping_of entry p)
+pub entry_says : (m : Resident) (p : ℕ) (entry : TableEntry) → entry_at m p ≡ Some entry → mapping_at m p ≡ Some (mapping_of entry p)
 unfolding said_at
-entry_says m p entry at = ap (option_map (λ (e : Entry). mapping_of e p)) at
+entry_says m p entry at = ap (option_map (λ (e : TableEntry). mapping_of e p)) at
 
 pub none_says : (m : Resident) (p : ℕ) → entry_at m p ≡ None → mapping_at m p ≡ None
 unfolding said_at
-none_says m p at = ap (option_map (λ (e : Entry). mapping_of e p)) at
+none_says m p at = ap (option_map (λ (e : TableEntry). mapping_of e p)) at
 
 -- the entry of a page that is mapped
 record SaysSo (m : Resident) (p : ℕ) (n : Mapping) : Type 0 where
-  pub entry : Entry
+  pub entry : TableEntry
   pub at : entry_at m p ≡ Some entry
   pub is : mapping_of entry p ≡ n
 
-says_so : (m : Resident) (p : ℕ) (n : Mapping) (o : Option Entry) → entry_at m p ≡ o
-    → option_map (λ (e : Entry). mapping_of e p) o ≡ Some n → SaysSo m p n
+says_so : (m : Resident) (p : ℕ) (n : Mapping) (o : Option TableEntry) → entry_at m p ≡ o
+    → option_map (λ (e : TableEntry). mapping_of e p) o ≡ Some n → SaysSo m p n
 says_so m p n None at is = absurd (none-some n is)
 says_so m p n (Some entry) at is = record { entry = entry; at = at; is = same_Some (mapping_of entry p) n is }
 
@@ -46,7 +46,7 @@ mapped_by m p n is = says_so m p n (entry_at m p) refl is
 pub unmapped : (m : Resident) (p : ℕ) → mapping_at m p ≡ None → entry_at m p ≡ None
 unmapped m p none = of (entry_at m p) refl
   where
-    of : (o : Option Entry) → entry_at m p ≡ o → entry_at m p ≡ None
+    of : (o : Option TableEntry) → entry_at m p ≡ o → entry_at m p ≡ None
     of None at = at
     of (Some entry) at = absurd (none-some (mapping_of entry p) (sym none ∙ entry_says m p entry at))
 
@@ -58,14 +58,14 @@ not_moved n = ap (λ f. record { frame = f; region = n.region; rights = n.rights
 
 module _ (m : Resident) (entries : AreEntries m) where
   -- it is the entry of each page of its extent
-  pub same_entry : (p q : ℕ) (entry : Entry) → entry_at m p ≡ Some entry → q / 8 ^ entry.extent.size ≡ p / 8 ^ entry.extent.size
+  pub same_entry : (p q : ℕ) (entry : TableEntry) → entry_at m p ≡ Some entry → q / 8 ^ entry.extent.size ≡ p / 8 ^ entry.extent.size
       → entry_at m q ≡ Some entry
   same_entry p q entry at same =
       let begins : p / 8 ^ entry.extent.size ≡ entry.extent.first / 8 ^ entry.extent.size =
       sym (first_of_extent entry.extent.size p) ∙ ap (λ n. n / 8 ^ entry.extent.size) (first_is m p entry entries at) in
       entries.one p q entry at (eq-eqb _ _ (same ∙ begins))
 
-  entry_uniform : (p : ℕ) (entry : Entry) (i : ℕ) → entry_at m p ≡ Some entry → i < 8 ^ entry.extent.size
+  entry_uniform : (p : ℕ) (entry : TableEntry) (i : ℕ) → entry_at m p ≡ Some entry → i < 8 ^ entry.extent.size
       → mapping_at m (extent_start entry.extent.size p + i) ≡ Some (moved_by i entry.mapping)
   entry_uniform p entry i at within =
       let q = extent_start entry.extent.size p + i in
@@ -74,17 +74,17 @@ module _ (m : Resident) (entries : AreEntries m) where
       let by : q - entry.extent.first ≡ i = omega (arith, first_is m p entry entries at) in
       entry_says m q entry (same_entry p q entry at same) ∙ ap (λ n. Some (moved_by n entry.mapping)) by
 
-  pub first_there : (p : ℕ) (entry : Entry) → entry_at m p ≡ Some entry → entry_at m entry.extent.first ≡ Some entry
+  pub first_there : (p : ℕ) (entry : TableEntry) → entry_at m p ≡ Some entry → entry_at m entry.extent.first ≡ Some entry
   first_there p entry at = entries.one p entry.extent.first entry at (eq-eqb _ _ refl)
 
   -- its first page says its mapping
-  entry_begins : (p : ℕ) (entry : Entry) → entry_at m p ≡ Some entry → mapping_at m (extent_start entry.extent.size p) ≡ Some entry.mapping
+  entry_begins : (p : ℕ) (entry : TableEntry) → entry_at m p ≡ Some entry → mapping_at m (extent_start entry.extent.size p) ≡ Some entry.mapping
   entry_begins p entry at =
       ap (mapping_at m) {x = extent_start entry.extent.size p} {y = extent_start entry.extent.size p + 0} (omega arith)
       ∙ (entry_uniform p entry 0 at (eight_pos entry.extent.size) ∙ ap Some (not_moved entry.mapping))
 
   -- its extent is eligible
-  pub entry_has : AreAligned m → (p : ℕ) (entry : Entry) → entry_at m p ≡ Some entry → HasExtent (mapping_at m) entry.extent.size p
+  pub entry_has : AreAligned m → (p : ℕ) (entry : TableEntry) → entry_at m p ≡ Some entry → HasExtent (mapping_at m) entry.extent.size p
   entry_has aligned p entry at =
       record {
         head = entry.mapping;
@@ -95,7 +95,7 @@ module _ (m : Resident) (entries : AreEntries m) where
 pub tile_is : (m : Resident) → AreTiles m → (p : ℕ) → tile_of (mapping_at m) p ≡ option_map tile_of_entry (entry_at m p)
 tile_is m tiles p = of (entry_at m p) refl
   where
-    of : (o : Option Entry) → entry_at m p ≡ o → tile_of (mapping_at m) p ≡ option_map tile_of_entry (entry_at m p)
+    of : (o : Option TableEntry) → entry_at m p ≡ o → tile_of (mapping_at m) p ≡ option_map tile_of_entry (entry_at m p)
     of None at = tile_absent (mapping_at m) p (none_says m p at) ∙ ap (option_map tile_of_entry) (sym at)
     of (Some entry) at =
         let has = entry_has m tiles.entries tiles.aligned p entry at in
@@ -134,7 +134,7 @@ settled : (m : Resident) (page from : ℕ) → AreTilesBut m page from → ((siz
     → whole (mapping_at m) size page ≡ false) → AreTiles m
 settled m page from tiles none = record { entries = tiles.entries; aligned = tiles.aligned; largest = largest }
   where
-    largest : (p size : ℕ) (entry : Entry) → entry_at m p ≡ Some entry → entry.extent.size < size → size ≤ 3
+    largest : (p size : ℕ) (entry : TableEntry) → entry_at m p ≡ Some entry → entry.extent.size < size → size ≤ 3
         → whole (mapping_at m) size p ≡ false
     largest p size entry at more small = elim (cases_eq (p / 8 ^ size) (page / 8 ^ size)) [
       | inr apart ↦ tiles.largest p size entry at more small (λ same. absurd (apart same))
@@ -152,20 +152,20 @@ unmapped_whole pages page size small none = elim (cases_Bool (whole pages size p
 ]
 
 -- An extent that has a page gets other entries.
-module _ (m n : Resident) (extent : Extent) (given : ℕ → Option Entry) (maps : Maps extent given m n) where
+module _ (m n : Resident) (extent : Extent) (given : ℕ → Option TableEntry) (maps : Maps extent given m n) where
   says_given : (p : ℕ) → p / 8 ^ extent.size ≡ extent.first / 8 ^ extent.size
-      → mapping_at n p ≡ option_map (λ (e : Entry). mapping_of e p) (given p)
+      → mapping_at n p ≡ option_map (λ (e : TableEntry). mapping_of e p) (given p)
   unfolding said_at
-  says_given p same = ap (option_map (λ (e : Entry). mapping_of e p)) (maps_inside m n extent given p maps same)
+  says_given p same = ap (option_map (λ (e : TableEntry). mapping_of e p)) (maps_inside m n extent given p maps same)
 
   says_same : (p : ℕ) → p / 8 ^ extent.size ≢ extent.first / 8 ^ extent.size → mapping_at n p ≡ mapping_at m p
   unfolding said_at
-  says_same p apart = ap (option_map (λ (e : Entry). mapping_of e p)) (maps_outside m n extent given p maps apart)
+  says_same p apart = ap (option_map (λ (e : TableEntry). mapping_of e p)) (maps_outside m n extent given p maps apart)
 
   -- none of them lies in a larger eligible extent, but for those round the page
   changed : (page before from : ℕ) → extent.first / 8 ^ extent.size ≡ page / 8 ^ extent.size → extent.size ≤ 3 → extent.size ≤ from
       → from ≤ suc extent.size → AreTilesBut m page before
-      → ((p : ℕ) (entry : Entry) → p / 8 ^ extent.size ≡ extent.first / 8 ^ extent.size → given p ≡ Some entry
+      → ((p : ℕ) (entry : TableEntry) → p / 8 ^ extent.size ≡ extent.first / 8 ^ extent.size → given p ≡ Some entry
       → (entry.mapping.frame % 8 ^ entry.extent.size ≡ 0) × (from ≤ suc entry.extent.size)) → AreTilesBut n page from
   changed page before from has low above most tiles each = record { entries = maps.entries; aligned = aligned; largest = largest }
     where
@@ -183,7 +183,7 @@ module _ (m n : Resident) (extent : Extent) (given : ℕ → Option Entry) (maps
         | inr more ↦ away (sym same ∙ coarser extent.size size q page more small (here ∙ has))
       ])
 
-      largest : (p size : ℕ) (entry : Entry) → entry_at n p ≡ Some entry → entry.extent.size < size → size ≤ 3
+      largest : (p size : ℕ) (entry : TableEntry) → entry_at n p ≡ Some entry → entry.extent.size < size → size ≤ 3
           → (p / 8 ^ size ≡ page / 8 ^ size → size < from) → whole (mapping_at n) size p ≡ false
       largest p size entry at more small but = elim (cases_eq (p / 8 ^ extent.size) (extent.first / 8 ^ extent.size)) [
         | inl here ↦
@@ -199,23 +199,23 @@ module _ (m n : Resident) (extent : Extent) (given : ℕ → Option Entry) (maps
       ]
 
 -- The extent round a page gets one entry.
-one_entry : (m n : Resident) (entry : Entry) (page before : ℕ) → entry.extent.first / 8 ^ entry.extent.size ≡ page / 8 ^ entry.extent.size
+one_entry : (m n : Resident) (entry : TableEntry) (page before : ℕ) → entry.extent.first / 8 ^ entry.extent.size ≡ page / 8 ^ entry.extent.size
     → entry.extent.size ≤ 3 → entry.mapping.frame % 8 ^ entry.extent.size ≡ 0
     → AreTilesBut m page before → Maps entry.extent (λ _. Some entry) m n → AreTilesBut n page (suc entry.extent.size)
 one_entry m n entry page before has low aligned tiles maps =
     changed m n entry.extent (λ _. Some entry) maps page before (suc entry.extent.size) has low (omega arith) (omega arith) tiles
-    (λ p e _ is. let same = same_Some entry e is in subst (λ (x : Entry). (x.mapping.frame % 8 ^ x.extent.size ≡ 0)
+    (λ p e _ is. let same = same_Some entry e is in subst (λ (x : TableEntry). (x.mapping.frame % 8 ^ x.extent.size ≡ 0)
     × (suc entry.extent.size ≤ suc x.extent.size)) same (aligned, omega arith))
 
 -- ---- an entry of one page goes
 
-pub base_first : (m : Resident) (page : ℕ) (entry : Entry) → AreEntries m → entry_at m page ≡ Some entry → entry.extent.size ≡ 0
+pub base_first : (m : Resident) (page : ℕ) (entry : TableEntry) → AreEntries m → entry_at m page ≡ Some entry → entry.extent.size ≡ 0
     → entry.extent.first ≡ page
 base_first m page entry entries at base =
     let begins : extent_start 0 page ≡ page = omega arith in
     sym (first_is m page entry entries at) ∙ (ap (λ s. extent_start s page) base ∙ begins)
 
-pub removed_tiles : (m n : Resident) (entry : Entry) (page before : ℕ) → entry_at m page ≡ Some entry → entry.extent.size ≡ 0
+pub removed_tiles : (m n : Resident) (entry : TableEntry) (page before : ℕ) → entry_at m page ≡ Some entry → entry.extent.size ≡ 0
     → AreTilesBut m page before → Maps entry.extent (λ _. None) m n → AreTiles n
 removed_tiles m n entry page before there base tiles maps =
     let first : entry.extent.first / 8 ^ entry.extent.size ≡ page / 8 ^ entry.extent.size =
@@ -234,13 +234,13 @@ part_aligned k p first frame low starts aligned =
     subst (λ x. (frame + (extent_start k p - x)) % 8 ^ k ≡ 0) starts ((lies_in k p low).aligned frame aligned)
 
 -- The entry of a page breaks into its parts.
-pub record Breaks (m n : Resident) (entry : Entry) (page : ℕ) : Type 0 where
+pub record Breaks (m n : Resident) (entry : TableEntry) (page : ℕ) : Type 0 where
   pub entries : AreEntries m
   pub there : entry_at m page ≡ Some entry
   pub large : 0 < entry.extent.size
   pub maps : Maps entry.extent (λ p. Some (part_of entry p)) m n
 
-module _ (m n : Resident) (entry : Entry) (page : ℕ) (breaks : Breaks m n entry page) where
+module _ (m n : Resident) (entry : TableEntry) (page : ℕ) (breaks : Breaks m n entry page) where
   open breaks use {entries, there, large, maps}
 
   entry_here : (p : ℕ) → p / 8 ^ entry.extent.size ≡ entry.extent.first / 8 ^ entry.extent.size → entry_at m p ≡ Some entry
@@ -267,7 +267,7 @@ module _ (m n : Resident) (entry : Entry) (page : ℕ) (breaks : Breaks m n entr
       (entries.low page entry there) (omega (arith, large)) (omega (arith, large)) tiles
       (λ p e here is.
       let same = same_Some (part_of entry p) e is in
-      subst (λ (x : Entry). (x.mapping.frame % 8 ^ x.extent.size ≡ 0) × (suc (entry.extent.size - 1) ≤ suc x.extent.size)) same
+      subst (λ (x : TableEntry). (x.mapping.frame % 8 ^ x.extent.size ≡ 0) × (suc (entry.extent.size - 1) ≤ suc x.extent.size)) same
       (part_here tiles.aligned p here, omega (arith, large)))
 
   -- a part's frames are among the entry's
@@ -294,13 +294,13 @@ round_is_extent extent size page low is = subst (λ (x : Extent). IsExtent x.siz
     (low, mul-mod_left (page / 8 ^ size) (8 ^ size))
 
 -- The parts of an entry round a page join into it.
-pub record JoinsInto (m n : Resident) (w : Entry) (page : ℕ) : Type 0 where
+pub record JoinsInto (m n : Resident) (w : TableEntry) (page : ℕ) : Type 0 where
   pub round : w.extent ≡ extent_round w.extent.size page
   pub low : w.extent.size ≤ 3
   pub parts : AreParts w m
   pub maps : Maps w.extent (λ _. Some w) m n
 
-module _ (m n : Resident) (w : Entry) (page : ℕ) (joins : JoinsInto m n w page) where
+module _ (m n : Resident) (w : TableEntry) (page : ℕ) (joins : JoinsInto m n w page) where
   open joins use {round, low, parts, maps}
 
   whole_page : w.extent.first / 8 ^ w.extent.size ≡ page / 8 ^ w.extent.size
@@ -317,13 +317,13 @@ module _ (m n : Resident) (w : Entry) (page : ℕ) (joins : JoinsInto m n w page
 
 -- ---- or they don't, and then no larger extent round the page is eligible
 
-module _ (m : Resident) (page : ℕ) (entry : Entry) (low : suc entry.extent.size ≤ 3) (there : entry_at m page ≡ Some entry)
+module _ (m : Resident) (page : ℕ) (entry : TableEntry) (low : suc entry.extent.size ≤ 3) (there : entry_at m page ≡ Some entry)
     (tiles : AreTilesBut m page (suc entry.extent.size)) where
   abbrev k : ℕ
   k = entry.extent.size
 
   -- the entry of a page of an eligible extent of the next size has the size of the page's own
-  size_in_it : HasExtent (mapping_at m) (suc k) page → (p : ℕ) → p / 8 ^ suc k ≡ page / 8 ^ suc k → (e : Entry) → entry_at m p ≡ Some e
+  size_in_it : HasExtent (mapping_at m) (suc k) page → (p : ℕ) → p / 8 ^ suc k ≡ page / 8 ^ suc k → (e : TableEntry) → entry_at m p ≡ Some e
       → e.extent.size ≡ k
   size_in_it has p here e at = elim (cases_lt e.extent.size k) [
     | inl less ↦
@@ -338,7 +338,7 @@ module _ (m : Resident) (page : ℕ) (entry : Entry) (low : suc entry.extent.siz
           let also = same_entry m tiles.entries p page e at
           (sym (coarser (suc k) e.extent.size p page above (tiles.entries.low p e at) here)) in
           let same = same_Some e entry (sym also ∙ there) in
-          absurd (omega (arith, ap (λ (x : Entry). x.extent.size) same))
+          absurd (omega (arith, ap (λ (x : TableEntry). x.extent.size) same))
     ]
   ]
 
@@ -364,7 +364,7 @@ module _ (m : Resident) (page : ℕ) (entry : Entry) (low : suc entry.extent.siz
             (extent_start s p - extent_start (suc k) page) has.head;
       })) {x = k} {y = suc k - 1} (omega arith)
 
-  pub no_join : ((w : Entry) → w.extent ≡ extent_round (suc k) page → AreParts w m → ⊥) → AreTiles m
+  pub no_join : ((w : TableEntry) → w.extent ≡ extent_round (suc k) page → AreParts w m → ⊥) → AreTiles m
   no_join none = settled m page (suc k) tiles (λ size above small. elim (cases_Bool (whole (mapping_at m) size page)) [
     | inr fails ↦ fails
     | inl passes ↦
@@ -406,7 +406,7 @@ beside_page k page low = elim (cases_eq (page / 8 ^ k % 8) 0) [
     below (suc (suc (suc k))) l later = absurd (omega arith)
 
 -- the frame of an entry's aligned page is a multiple too
-frame_aligned : (m : Resident) (page : ℕ) (entry : Entry) → AreEntries m → AreAligned m → entry_at m page ≡ Some entry
+frame_aligned : (m : Resident) (page : ℕ) (entry : TableEntry) → AreEntries m → AreAligned m → entry_at m page ≡ Some entry
     → page % 8 ^ entry.extent.size ≡ 0 → (mapping_of entry page).frame % 8 ^ entry.extent.size ≡ 0
 frame_aligned m page entry entries aligned there first =
     let begins : mapping_at m page ≡ Some entry.mapping = ap (mapping_at m)
@@ -415,7 +415,7 @@ frame_aligned m page entry entries aligned there first =
     ap (λ (x : Mapping). x.frame % 8 ^ entry.extent.size) (sym same) ∙ aligned page entry there
 
 -- the entry of a size that begins at a page gets another mapping in its frames
-pub set_tiles : (m n : Resident) (entry : Entry) (size page before : ℕ) (mapping : Mapping) → entry_at m page ≡ Some entry
+pub set_tiles : (m n : Resident) (entry : TableEntry) (size page before : ℕ) (mapping : Mapping) → entry_at m page ≡ Some entry
     → entry.extent.size ≡ size → page % 8 ^ size ≡ 0 → mapping.frame ≡ (mapping_of entry page).frame → AreTilesBut m page before
     → Maps (extent_round size page) (λ _. Some (entry_with size page mapping)) m n → AreTilesBut n page (suc size)
 set_tiles m n entry size page before mapping there is first frame tiles maps =
@@ -426,7 +426,7 @@ set_tiles m n entry size page before mapping there is first frame tiles maps =
     (omega (arith, is, tiles.entries.low page entry there)) (ap (λ f. f % 8 ^ size) frame ∙ aligned) tiles maps
 
 -- The part of a size from a page on of a larger entry gets another mapping than it had.
-pub record SetsPart (m n : Resident) (entry : Entry) (size page : ℕ) (mapping : Mapping) : Type 0 where
+pub record SetsPart (m n : Resident) (entry : TableEntry) (size page : ℕ) (mapping : Mapping) : Type 0 where
   pub entries : AreEntries m
   pub there : entry_at m page ≡ Some entry
   pub smaller_part : size < entry.extent.size
@@ -434,7 +434,7 @@ pub record SetsPart (m n : Resident) (entry : Entry) (size page : ℕ) (mapping 
   pub other : mapping ≢ mapping_of entry page
   pub says : (p : ℕ) → mapping_at n p ≡ (if p / 8 ^ size == page / 8 ^ size then Some (moved_by (p - page) mapping) else mapping_at m p)
 
-module _ (m n : Resident) (entry : Entry) (size page : ℕ) (mapping : Mapping) (sets : SetsPart m n entry size page mapping) where
+module _ (m n : Resident) (entry : TableEntry) (size page : ℕ) (mapping : Mapping) (sets : SetsPart m n entry size page mapping) where
   open sets use {entries, there, smaller_part, frame, other, says}
 
   low : entry.extent.size ≤ 3
@@ -485,13 +485,13 @@ set_says l m n size page mapping low first before maps p =
     ]
 
 -- what each page says after a change of one
-pub one_says : (l m n : Resident) (extent : Extent) (page : ℕ) (given : Option Entry) (said : Option Mapping) → extent.size ≡ 0
-    → extent.first ≡ page → option_map (λ (e : Entry). mapping_of e page) given ≡ said → MapsAlike l m → Maps extent (λ _. given) m n
+pub one_says : (l m n : Resident) (extent : Extent) (page : ℕ) (given : Option TableEntry) (said : Option Mapping) → extent.size ≡ 0
+    → extent.first ≡ page → option_map (λ (e : TableEntry). mapping_of e page) given ≡ said → MapsAlike l m → Maps extent (λ _. given) m n
     → (p : ℕ) → mapping_at n p ≡ (if p == page then said else mapping_at l p)
 one_says l m n extent page given said size first is before maps p = elim (cases_eq p page) [
   | inl here ↦
       says_given m n extent (λ _. given) maps p (ap (λ q. q / 8 ^ extent.size) (here ∙ sym first))
-      ∙ (ap (λ q. option_map (λ (e : Entry). mapping_of e q) given) here ∙ is)
+      ∙ (ap (λ q. option_map (λ (e : TableEntry). mapping_of e q) given) here ∙ is)
       ∙ ap (λ b. if b then said else mapping_at l p) (sym (eq-eqb _ _ here))
   | inr apart ↦
       says_same m n extent (λ _. given) maps p (λ same. apart (one_page p extent.first extent.size size same ∙ first))

@@ -3,9 +3,9 @@ use Rattle.std.proofs.Common.{◌≡◌, ◌≢◌, ℕ, ◌+◌, ◌-◌, ◌/�
 use Rattle.std.specs.Option.{IfNone, IfSome}
 use Rattle.std.proofs.lemmas.Bool.{cases_eq, eq-eqb, ne_eqb}
 use Rattle.std.proofs.lemmas.Option.{none-some, same_Some}
-use Rattle.page_map.specs.declared.entry.Entry.{Entry}
-use Rattle.page_map.specs.Entries.{entry_at, mapping_at as said_at, mapping_of, pages_in, tile_of_entry, entry_count, is_first_of, AreEntries, IsNextEntry, NoneMapped}
-use Rattle.page_map.proofs.Mappings.{first_is, within}
+use Rattle.tiles.specs.declared.entry.TableEntry.{TableEntry}
+use Rattle.tiles.specs.TableEntries.{entry_at, mapping_at as said_at, mapping_of, pages_in, tile_of_entry, entry_count, is_first_of, AreEntries, IsNextEntry, NoneMapped}
+use Rattle.tiles.proofs.Mappings.{first_is, within}
 use Rattle.pager_model.specs.declared.tile.Mapping.{Mapping}
 use Rattle.pager_model.specs.declared.tile.Tile.{Tile}
 use Rattle.pager_model.specs.Tiles.{begins_at, begins_tile, count_pages, moved_by, size_in, tile_of, tiles_of_size}
@@ -32,17 +32,17 @@ pages_are r = refl
 -- ---- the extent of an entry
 
 -- it says what each of its pages is mapped by
-says : (r : Resident) → AreEntries r → (p other : ℕ) (e : Entry) → entry_at r p ≡ Some e → other / 8 ^ e.extent.size ≡ p / 8 ^ e.extent.size
+says : (r : Resident) → AreEntries r → (p other : ℕ) (e : TableEntry) → entry_at r p ≡ Some e → other / 8 ^ e.extent.size ≡ p / 8 ^ e.extent.size
     → mapping_at r other ≡ Some (mapping_of e other)
 says r entries p other e at joined = entry_says r other e (same_entry r entries p other e at joined)
 
-says_within : (r : Resident) → AreEntries r → (p other : ℕ) (e : Entry) → entry_at r p ≡ Some e → e.extent.first ≤ other
+says_within : (r : Resident) → AreEntries r → (p other : ℕ) (e : TableEntry) → entry_at r p ≡ Some e → e.extent.first ≤ other
     → other < e.extent.first + 8 ^ e.extent.size → mapping_at r other ≡ Some (mapping_of e other)
 says_within r entries p other e at from to =
     let first = first_is r p e entries at in
     says r entries p other e at (extent_of_frame (p / 8 ^ e.extent.size) (8 ^ e.extent.size) other (omega arith) (omega arith))
 
-pub entry_fits : (r : Resident) → ArePages r → (p : ℕ) (e : Entry) → entry_at r p ≡ Some e → FitsFrames r p e
+pub entry_fits : (r : Resident) → ArePages r → (p : ℕ) (e : TableEntry) → entry_at r p ≡ Some e → FitsFrames r p e
 entry_fits r kept p e at =
     let entries = kept.tiles.entries in
     let inside = within r p e entries at in
@@ -62,13 +62,13 @@ entry_fits r kept p e at =
       says = λ other. says_within r entries p other e at;
     }
 
-pub found_fits : (r : Resident) → ArePages r → (p : ℕ) (o : Option Entry) → o ≡ entry_at r p → IfSome o (FitsFrames r p)
+pub found_fits : (r : Resident) → ArePages r → (p : ℕ) (o : Option TableEntry) → o ≡ entry_at r p → IfSome o (FitsFrames r p)
 found_fits r kept p None at = tt
 found_fits r kept p (Some e) at = entry_fits r kept p e (sym at)
 
 -- ---- the next entry
 
-pub next_tile : (r : Resident) → ArePages r → (from end : ℕ) (o : Option Entry) → IfSome o (IsNextEntry r from end)
+pub next_tile : (r : Resident) → ArePages r → (from end : ℕ) (o : Option TableEntry) → IfSome o (IsNextEntry r from end)
     → IfSome o (IsNextTile r from end)
 next_tile r kept from end None next = tt
 next_tile r kept from end (Some e) next =
@@ -80,7 +80,7 @@ next_tile r kept from end (Some e) next =
       lowest = λ p on before. none_says r p (next.lowest p on (omega arith));
     }
 
-pub no_next : (r : Resident) (from end : ℕ) (o : Option Entry) → IfNone o (NoneMapped r from end)
+pub no_next : (r : Resident) (from end : ℕ) (o : Option TableEntry) → IfNone o (NoneMapped r from end)
     → IfNone o (NoneResident (mapping_at r) from end)
 no_next r from end None none = λ p on before. none_says r p (none p on before)
 no_next r from end (Some e) none = tt
@@ -104,7 +104,7 @@ fresh_kept r empty few = record {
   apart = λ p q n at _. absurd (no_frame p n at);
 }
   where
-    none : (p : ℕ) (e : Entry) → entry_at r p ≡ Some e → ⊥
+    none : (p : ℕ) (e : TableEntry) → entry_at r p ≡ Some e → ⊥
     none p e at = none-some e (sym (empty p) ∙ at)
 
     no_frame : (p n : ℕ) → frame_of_page r p ≡ Some n → ⊥
@@ -113,7 +113,7 @@ fresh_kept r empty few = record {
 -- ---- the tiles
 
 -- the tile of a page is its entry
-pub tile_there : (r : Resident) (p : ℕ) (e : Entry) (t : Tile) → AreTiles r → entry_at r p ≡ Some e → t ≡ tile_of_entry e
+pub tile_there : (r : Resident) (p : ℕ) (e : TableEntry) (t : Tile) → AreTiles r → entry_at r p ≡ Some e → t ≡ tile_of_entry e
     → Some t ≡ tile_of (mapping_at r) p
 tile_there r p e t tiles at is = ap Some is ∙ sym (tile_is r tiles p ∙ ap (option_map tile_of_entry) at)
 
@@ -122,7 +122,7 @@ pub counts_are : (r : Resident) → AreTiles r → (size : ℕ) → entry_count 
 counts_are r tiles size = ap count_pages (let tests : (λ p. is_first_of size p (entry_at r p)) ≡ begins_tile
     (mapping_at r) size = λ i p. each p i in tests)
   where
-    of : (p : ℕ) (o : Option Entry) → is_first_of size p o ≡ (begins_at p (option_map tile_of_entry o) && eqb
+    of : (p : ℕ) (o : Option TableEntry) → is_first_of size p o ≡ (begins_at p (option_map tile_of_entry o) && eqb
         (size_in (option_map tile_of_entry o)) size)
     of p None = refl
     of p (Some e) = refl
@@ -137,11 +137,11 @@ module _ (r : Resident) (kept : ArePages r) (page : ℕ) (given : Mapping) (abse
   bare : (p : ℕ) → entry_at r p ≡ None → is_some (frame_of_page r p) ≡ false
   bare p none = ap (λ (o : Option Mapping). is_some (option_map (λ (m : Mapping). m.frame) o)) (none_says r p none)
 
-  has : (p : ℕ) (e : Entry) → entry_at r p ≡ Some e → is_some (frame_of_page r p) ≡ true
+  has : (p : ℕ) (e : TableEntry) → entry_at r p ≡ Some e → is_some (frame_of_page r p) ≡ true
   has p e is = ap (λ (o : Option Mapping). is_some (option_map (λ (m : Mapping). m.frame) o)) (entry_says r p e is)
 
   -- a page has a frame, or is this one
-  one_more : (p : ℕ) (o : Option Entry) → entry_at r p ≡ o
+  one_more : (p : ℕ) (o : Option TableEntry) → entry_at r p ≡ o
       → weight (is_some (frame_of_page r p) || eqb p page) ≡ weight (is_some (entry_at r p)) + weight (eqb p page && true)
   one_more p None none = sums _ _ (eqb p page) (bare p none) (ap is_some none)
     where
@@ -227,7 +227,7 @@ remove_kept r s page kept tiles maps = keeps_frames r s kept tiles maps.frames h
     ]
 
 -- the pages of a part of an entry have another mapping in their frames
-pub set_kept : (r s : Resident) (size page : ℕ) (given : Mapping) (e : Entry) → ArePages r → entry_at r page ≡ Some e → size ≤ e.extent.size
+pub set_kept : (r s : Resident) (size page : ℕ) (given : Mapping) (e : TableEntry) → ArePages r → entry_at r page ≡ Some e → size ≤ e.extent.size
     → page % 8 ^ size ≡ 0 → given.frame ≡ (mapping_of e page).frame
     → AreTiles s → MapsExtent size page given r s → ArePages s
 set_kept r s size page given e kept at small aligned frame tiles maps =

@@ -1,3 +1,11 @@
+pub mod EntryChanges
+pub mod CountChanges
+pub mod EntryCounts
+pub mod Mappings
+pub mod NextEntries
+pub mod PageCounts
+pub mod Rows
+pub mod Wholes
 pub mod Behind
 pub mod Begun
 pub mod Blocks

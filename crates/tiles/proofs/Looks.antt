@@ -2,8 +2,8 @@
 use Rattle.std.proofs.Common.{◌≡◌, ℕ, suc, ◌+◌, ◌-◌, ◌*◌, ◌/◌, ◌<◌, ◌≤◌, Bool, true, false, if◌then◌else◌, ◌&&◌, nat_le, nat_lt, max, Option, Some, None, option_map, is_some, refl, sym, ap, ◌∙◌, arith}
 use Rattle.std.proofs.lemmas.Bool.Decides.{nat_tests}
 use Rattle.std.proofs.lemmas.Option.{none-some}
-use Rattle.page_map.specs.declared.entry.Entry.{Entry}
-use Rattle.page_map.specs.Entries.{mapping_of}
+use Rattle.tiles.specs.declared.entry.TableEntry.{TableEntry}
+use Rattle.tiles.specs.TableEntries.{mapping_of}
 use Rattle.pager_model.specs.declared.region.Rights.{Rights}
 use Rattle.pager_model.specs.declared.tile.Mapping.{Mapping}
 use Rattle.pager_model.proofs.CountLemmas.{weight}
@@ -102,11 +102,11 @@ still_resident first end rights r s protects p = ap is_some (protects.at p) ∙ 
     kept false m = refl
 
 -- the page of the next entry is resident
-pub next_resident : (r : Resident) (from end : ℕ) (e : Entry) → IsNextTile r from end e → has_page (mapping_at r) (max from e.extent.first) ≡ true
+pub next_resident : (r : Resident) (from end : ℕ) (e : TableEntry) → IsNextTile r from end e → has_page (mapping_at r) (max from e.extent.first) ≡ true
 next_resident r from end e next = ap is_some (next.fits.says (max from e.extent.first) next.fits.from next.fits.to)
 
 -- so there is none where no page is
-pub no_entry : (r : Resident) (from end low high : ℕ) (e : Entry) → IsNextTile r from end e → low ≤ from → end ≤ high
+pub no_entry : (r : Resident) (from end low high : ℕ) (e : TableEntry) → IsNextTile r from end e → low ≤ from → end ≤ high
     → NoneResident (mapping_at r) low high → ⊥
 no_entry r from end low high e next on before none =
     let page = max from e.extent.first in

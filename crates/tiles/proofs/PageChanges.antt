@@ -10,9 +10,9 @@ use Rattle.pager_model.specs.SizeSets.{size_within}
 use Rattle.pager_model.specs.Tiles.{tile_of, size_in, size_at, is_tile, same_tile}
 use Rattle.pager_model.proofs.ExtentLemmas.{eight_pos, eight_small}
 use Rattle.pager_model.proofs.TileParts.{same_tile-true, same_tile-refl}
-use Rattle.tiles.specs.declared.pages.Turn.{Turn}
+use Rattle.tiles.specs.declared.pages.TileChange.{TileChange}
 use Rattle.tiles.specs.Beside.{OthersSame}
-use Rattle.tiles.specs.Changes.{AreChanges, Came, HasPieces, IsRound, IsTurn, are_same, coming, cut_round, frame_within, moves_between, moves_of, times, pieces}
+use Rattle.tiles.specs.Changes.{AreChanges, Came, HasPieces, IsRound, IsTileChange, are_same, coming, cut_round, frame_within, moves_between, moves_of, times, pieces}
 use Rattle.tiles.specs.Kept.{ArePages}
 use Rattle.tiles.specs.Resident.{Resident, mapping_at, frames_in, Maps}
 use Rattle.tiles.specs.Sized.{AreMovesIn, size_by}
@@ -33,14 +33,14 @@ round_of r kept page (Some t) at =
     (ap (option_map (λ (m : Mapping). m.frame)) (uniform.1 0 (eight_pos t.extent.size))) in
     record { low = is.0.extent.0; starts = is.1; fits = omega (arith, frame, kept.few, eight_small t.extent.size is.0.extent.0) }
 
-pub turn_of : (r s : Resident) → ArePages r → ArePages s → (page : ℕ) (turn : Turn) → turn.before ≡ tile_of (mapping_at r) page
-    → turn.after ≡ tile_of (mapping_at s) page → IsTurn page r s turn
-turn_of r s kept later page turn before after =
+pub tile_change_of : (r s : Resident) → ArePages r → ArePages s → (page : ℕ) (change : TileChange) → change.before ≡ tile_of (mapping_at r) page
+    → change.after ≡ tile_of (mapping_at s) page → IsTileChange page r s change
+tile_change_of r s kept later page change before after =
     record {
       before = before;
       after = after;
-      before_round = round_of r kept page turn.before before;
-      after_round = round_of s later page turn.after after;
+      before_round = round_of r kept page change.before before;
+      after_round = round_of s later page change.after after;
     }
 
 -- a page's tile tells its frame
@@ -116,22 +116,22 @@ came_of old new page before after tiles others had has list = elim (same_or_othe
       (came_pieces old new page others (λ e. other (had ∙ e ∙ sym has)))
 ]
 
-pub changes_of : (r s : Resident) (page : ℕ) (given : Option Mapping) (turn : Turn) → page < 1048576 → Maps page given r s
-    → IsTurn page r s turn
-    → AreChanges r s (record { page = page; before = turn.before; after = turn.after })
-changes_of r s page given turn in_space maps turned =
+pub changes_of : (r s : Resident) (page : ℕ) (given : Option Mapping) (change : TileChange) → page < 1048576 → Maps page given r s
+    → IsTileChange page r s change
+    → AreChanges r s (record { page = page; before = change.before; after = change.after })
+changes_of r s page given change in_space maps changed =
     let others = others_same r s page given maps in
     record {
-      gone = came_of (mapping_at s) (mapping_at r) page turn.after turn.before _
-          (others_back (mapping_at r) (mapping_at s) page others) turned.after turned.before (has_pieces page turn.after turn.before);
-      came = came_of (mapping_at r) (mapping_at s) page turn.before turn.after _ others turned.before turned.after
-          (has_pieces page turn.before turn.after);
+      gone = came_of (mapping_at s) (mapping_at r) page change.after change.before _
+          (others_back (mapping_at r) (mapping_at s) page others) changed.after changed.before (has_pieces page change.after change.before);
+      came = came_of (mapping_at r) (mapping_at s) page change.before change.after _ others changed.before changed.after
+          (has_pieces page change.before change.after);
       moves_in = λ z.
-          subst (λ o. AreMovesIn z (mapping_at r) (mapping_at s) (moves_of z (record { page = page; before = turn.before; after = o })))
-          (sym turned.after)
-          (subst (λ b. AreMovesIn z (mapping_at r) (mapping_at s) (moves_between page turn.before b (size_by z (mapping_at s) page)))
-          (ap (λ o. size_within z (size_in o)) (sym turned.before))
-          (moves_one z (mapping_at r) (mapping_at s) page others in_space turn.before turned.before));
+          subst (λ o. AreMovesIn z (mapping_at r) (mapping_at s) (moves_of z (record { page = page; before = change.before; after = o })))
+          (sym changed.after)
+          (subst (λ b. AreMovesIn z (mapping_at r) (mapping_at s) (moves_between page change.before b (size_by z (mapping_at s) page)))
+          (ap (λ o. size_within z (size_in o)) (sym changed.before))
+          (moves_one z (mapping_at r) (mapping_at s) page others in_space change.before changed.before));
     }
 
 -- nothing goes or comes where each page is as it was

@@ -9,7 +9,7 @@ use Rattle.pager_model.specs.Extents.{extent_start}
 use Rattle.pager_model.specs.SizeSets.{SizeSet, size_within}
 use Rattle.pager_model.specs.Tiles.{same_tile, tile_of, is_tile, size_in}
 use Rattle.tiles.specs.declared.moves.Moves.{Moves}
-use Rattle.tiles.specs.declared.pages.Turn.{Turn}
+use Rattle.tiles.specs.declared.pages.TileChange.{TileChange}
 use Rattle.tiles.specs.Resident.{Resident, mapping_at}
 use Rattle.tiles.specs.Sized.{AreMovesIn}
 use Rattle.tiles.specs.Touched.{extent_range}
@@ -84,11 +84,11 @@ pub record HasPieces (page : ℕ) (before after : Option Tile) (tiles : List Til
   pub other : before ≢ after → tiles ≡ pieces page before after
 
 -- the tile of the page in the pages before a change and in those after it
-pub record IsTurn (page : ℕ) (old new : Resident) (turn : Turn) : Type 0 where
-  pub before : turn.before ≡ tile_of (mapping_at old) page
-  pub after : turn.after ≡ tile_of (mapping_at new) page
-  pub before_round : IfSome turn.before (IsRound page)
-  pub after_round : IfSome turn.after (IsRound page)
+pub record IsTileChange (page : ℕ) (old new : Resident) (change : TileChange) : Type 0 where
+  pub before : change.before ≡ tile_of (mapping_at old) page
+  pub after : change.after ≡ tile_of (mapping_at new) page
+  pub before_round : IfSome change.before (IsRound page)
+  pub after_round : IfSome change.after (IsRound page)
 
 -- What is told of a change of one page: its tile before and after.
 pub record PageChange : Type 0 where

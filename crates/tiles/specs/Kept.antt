@@ -1,7 +1,7 @@
 -- What is kept of the resident pages: the entry of each is its tile.
 use Rattle.std.specs.Prelude.{ℕ, ◌≡◌, ◌+◌, ◌-◌, ◌/◌, ◌%◌, ◌^◌, ◌<◌, ◌≤◌, false, max, ◌==◌, if◌then◌else◌, Some}
-use Rattle.page_map.specs.declared.entry.Entry.{Entry}
-use Rattle.page_map.specs.Entries.{AreEntries, IsNextEntry, entry_at, mapping_of, pages_in, tile_of_entry}
+use Rattle.tiles.specs.declared.entry.TableEntry.{TableEntry}
+use Rattle.tiles.specs.TableEntries.{AreEntries, IsNextEntry, entry_at, mapping_of, pages_in, tile_of_entry}
 use Rattle.pager_model.specs.declared.tile.Mapping.{Mapping}
 use Rattle.pager_model.specs.Bounds.{most_frames, space_pages}
 use Rattle.pager_model.specs.Extents.{extent_start}
@@ -11,20 +11,20 @@ use Rattle.tiles.specs.Resident.{Resident, mapping_at, frames_in, frame_of_page,
 
 -- the frames of each entry are an extent of its size
 abbrev pub AreAligned : Resident → Type 0
-AreAligned pages = (p : ℕ) (entry : Entry) → entry_at pages p ≡ Some entry → entry.mapping.frame % 8 ^ entry.extent.size ≡ 0
+AreAligned pages = (p : ℕ) (entry : TableEntry) → entry_at pages p ≡ Some entry → entry.mapping.frame % 8 ^ entry.extent.size ≡ 0
 
 -- Each entry is an eligible extent in no larger eligible one, but that those from one size on round a page may be eligible.
 pub record AreTilesBut (pages : Resident) (page from : ℕ) : Type 0 where
   pub entries : AreEntries pages
   pub aligned : AreAligned pages
-  pub largest : (p size : ℕ) (entry : Entry) → entry_at pages p ≡ Some entry → entry.extent.size < size → size ≤ 3
+  pub largest : (p size : ℕ) (entry : TableEntry) → entry_at pages p ≡ Some entry → entry.extent.size < size → size ≤ 3
       → (p / 8 ^ size ≡ page / 8 ^ size → size < from) → whole (mapping_at pages) size p ≡ false
 
 -- Each entry is an eligible extent in no larger eligible one.
 pub record AreTiles (pages : Resident) : Type 0 where
   pub entries : AreEntries pages
   pub aligned : AreAligned pages
-  pub largest : (p size : ℕ) (entry : Entry) → entry_at pages p ≡ Some entry → entry.extent.size < size → size ≤ 3
+  pub largest : (p size : ℕ) (entry : TableEntry) → entry_at pages p ≡ Some entry → entry.extent.size < size → size ≤ 3
       → whole (mapping_at pages) size p ≡ false
 
 -- The entries are others, and say the same of each page.
@@ -46,7 +46,7 @@ pub record ArePages (pages : Resident) : Type 0 where
   pub apart : (p q number : ℕ) → frame_of_page pages p ≡ Some number → frame_of_page pages q ≡ Some number → p ≡ q
 
 -- The entry has the page, in frames that there are, and says what each of its pages is mapped by.
-pub record FitsFrames (pages : Resident) (page : ℕ) (entry : Entry) : Type 0 where
+pub record FitsFrames (pages : Resident) (page : ℕ) (entry : TableEntry) : Type 0 where
   pub low : entry.extent.size ≤ 3
   pub in_space : page < space_pages
   pub starts : extent_start entry.extent.size page ≡ entry.extent.first
@@ -58,7 +58,7 @@ pub record FitsFrames (pages : Resident) (page : ℕ) (entry : Entry) : Type 0 w
       → mapping_at pages other ≡ Some (mapping_of entry other)
 
 -- It is the entry of the lowest resident page from one on and before an end, and that page's tile.
-pub record IsNextTile (pages : Resident) (from end : ℕ) (entry : Entry) : Type 0 where
+pub record IsNextTile (pages : Resident) (from end : ℕ) (entry : TableEntry) : Type 0 where
   pub next : IsNextEntry pages from end entry
   pub fits : FitsFrames pages (max from entry.extent.first) entry
   pub tile : tile_of (mapping_at pages) (max from entry.extent.first) ≡ Some (tile_of_entry entry)

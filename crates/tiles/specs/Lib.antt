@@ -1,3 +1,5 @@
+pub mod KeptEntries
+pub mod TableEntries
 pub mod Beside
 pub mod Blocks
 pub mod Changes

@@ -1,7 +1,7 @@
 -- The resident pages of a space, by the entries that map them. Contracts look at them only through the mapping of a page, where it is resident.
 use Rattle.std.specs.Prelude.{ℕ, ◌≡◌, ◌≢◌, ◌<◌, ◌≤◌, Bool, ◌==◌, if◌then◌else◌, option_map, Option, None}
 use Rattle.extent_tree.specs.Rows.{Arena}
-use Rattle.page_map.specs.Entries.{mapping_at as said_at, frames_in as room_in}
+use Rattle.tiles.specs.TableEntries.{mapping_at as said_at, frames_in as room_in}
 use Rattle.pager_model.specs.declared.region.Rights.{Rights}
 use Rattle.pager_model.specs.declared.tile.Mapping.{Mapping}
 use Rattle.pager_model.specs.Regions.{in_range}

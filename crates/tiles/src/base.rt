@@ -6,7 +6,7 @@ ghost use Rattle.pager_model.specs.Tiles.{tile_in, is_tile_in, tile_count_in, cu
 ghost use Rattle.pager_model.specs.declared.tile.Mapping.{Mapping};
 ghost use Rattle.tiles.specs.Resident.{mapping_at, frames_in, frame_of_page, Maps, Protects, IsNextResident, NoneResident, with_flag, with_rights};
 ghost use Rattle.tiles.specs.Changes.{AreChanges, IsRound, frame_before};
-ghost use Rattle.page_map.specs.Entries.{entry_at};
+ghost use Rattle.tiles.specs.TableEntries.{entry_at};
 ghost use Rattle.tiles.specs.Blocks.{KeepsRights, ProtectsTo, ProtectsInBlock, AreSizesOfBlock, OutsideSame};
 ghost use Rattle.tiles.specs.Sized.{AreMovesIn, size_by, begins_before_in, large_tiles_begun_in, large_tiles_meeting_in};
 ghost use Rattle.tiles.specs.Kept.{FitsFrames};
@@ -15,10 +15,10 @@ ghost use Rattle.pager_model.specs.Bounds.{most_frames, space_pages};
 
 use crate::changes::Changes;
 use crate::counted;
+use crate::entry::TableEntry;
+use crate::mixed::Mixed;
 use crate::moves::Moves;
-use crate::pages::Pages;
 use crate::tile_list::part_from;
-use page_map::Entry;
 use pager_model::{LARGEST, Mapping, NoMemory, PageRange, Rights, Size, Sizes, Steps, Tile};
 use std::alloc::Global;
 use std::marker::{Brand, Model};
@@ -34,19 +34,23 @@ pub struct Translation {
 /// The resident pages of a space, each mapped by its tile.
 #[derive(Drop)]
 pub struct Base {
-    pages: Pages,
+    /// The entry of each resident page is its tile.
+    pub(crate) map: Mixed,
 }
 
 impl Model for Base {
     ghost use Rattle.tiles.specs.Resident.{Resident};
+    ghost use Rattle.tiles.specs.Kept.{ArePages};
 
     ghost Value = { Resident };
 
-    ghost view = { λ b. b.pages };
+    ghost view = { λ b. b.map };
+
+    ghost invariant = { λ b. ArePages b.map };
 }
 
 /// The first page behind an entry.
-fn behind(entry: &Entry) -> u32
+fn behind(entry: &TableEntry) -> u32
     requires { entry.now.extent.first + 8 ^ entry.now.extent.size < 2 ^ 32 }
     ensures { result ≡ entry.now.extent.first + 8 ^ entry.now.extent.size }
 {
@@ -54,7 +58,7 @@ fn behind(entry: &Entry) -> u32
 }
 
 /// The size of the largest part of an entry that begins at a page and ends by another one.
-fn largest_part(entry: &Entry, page: u32, end: u32) -> Size
+fn largest_part(entry: &TableEntry, page: u32, end: u32) -> Size
     requires { page < end }
     ensures within { result ≤ entry.now.extent.size }
     ensures first { page % 8 ^ result ≡ 0 }
@@ -113,8 +117,8 @@ impl Base {
         ensures frames { IfOk result (λ b. frames_in b ≡ frames) }
         ensures none { IfOk result (λ b. (p : ℕ) → mapping_at b p ≡ None) }
     {
-        let pages = Pages::create(alloc, frames)?;
-        Ok(Base { pages })
+        let map = Mixed::create(alloc, frames)?;
+        Ok(Base { map })
     }
 
     /// What is said of a page, where it is resident.
@@ -122,7 +126,7 @@ impl Base {
         ensures mapping { result ≡ mapping_at self.now page }
         ensures in_space { IfSome result (λ m. (page < space_pages) × (m.frame < frames_in self.now)) }
     {
-        let entry = self.pages.lookup(page)?;
+        let entry = self.lookup(page)?;
         Some(entry.mapping_of(page))
     }
 
@@ -132,7 +136,7 @@ impl Base {
         ensures some { IfSome result (IsNextResident (mapping_at self.now) from end) }
         ensures none { IfNone result (NoneResident (mapping_at self.now) from end) }
     {
-        let entry = self.pages.next(from, end)?;
+        let entry = self.next(from, end)?;
         Some(from.max(entry.extent.first))
     }
 
@@ -142,7 +146,7 @@ impl Base {
         ensures tile { option_map (λ t. t.tile) result ≡ tile_in sizes (mapping_at self.now) page }
         ensures in_space { IfSome result (λ t. (page < space_pages) × (t.mapping.frame < frames_in self.now)) }
     {
-        let entry = self.pages.lookup(page)?;
+        let entry = self.lookup(page)?;
         Some(Translation {
             mapping: entry.mapping_of(page),
             tile: cut_to(sizes, page, &entry.tile()),
@@ -153,7 +157,7 @@ impl Base {
     pub fn tile_of(&self, page: u32, sizes: Sizes) -> Option<Tile>
         ensures { result ≡ tile_in sizes (mapping_at self.now) page }
     {
-        let entry = self.pages.lookup(page)?;
+        let entry = self.lookup(page)?;
         Some(cut_to(sizes, page, &entry.tile()))
     }
 
@@ -179,8 +183,8 @@ impl Base {
         ensures changes { AreChanges self.old self.new result }
         ensures cost { steps.new ≤ steps.old + 58 }
     {
-        let turn = self.pages.fill(page, mapping, steps);
-        Changes::of(page, turn)
+        let change = self.fill(page, mapping, steps);
+        Changes::of(page, change)
     }
 
     /// A page is resident no more.
@@ -190,11 +194,11 @@ impl Base {
         ensures frame { frame_before result ≡ frame_of_page self.old page }
         ensures cost { steps.new ≤ steps.old + 50 }
     {
-        let Some(entry) = self.pages.find(page, steps) else {
+        let Some(entry) = self.find(page, steps) else {
             return Changes::none();
         };
-        let turn = self.pages.remove(entry, page, steps);
-        Changes::of(page, turn)
+        let change = self.remove(entry, page, steps);
+        Changes::of(page, change)
     }
 
     /// The lowest resident page from `from` on and before `end` is resident no more. That page, and the frame that it had.
@@ -204,10 +208,10 @@ impl Base {
             × (frame_of_page self.old taken.0 ≡ Some taken.1) × Maps taken.0 None self.old self.new) }
         ensures none { IfNone result (NoneResident (mapping_at self.old) from end × (self.new ≡ self.old)) }
     {
-        let entry = self.pages.next(from, end)?;
+        let entry = self.next(from, end)?;
         let page = from.max(entry.extent.first);
         let frame = entry.mapping_of(page).frame;
-        counted::remove::<Brand>(&mut self.pages, entry, page, Blank::new(1));
+        counted::remove::<Brand>(self, entry, page, Blank::new(1));
         Some((page, frame))
     }
 
@@ -222,7 +226,7 @@ impl Base {
         ensures changes { AreChanges self.old self.new result }
         ensures cost { steps.new ≤ steps.old + 62 }
     {
-        let Some(entry) = self.pages.find(page, steps) else {
+        let Some(entry) = self.find(page, steps) else {
             return Changes::none();
         };
         if entry.mapping.dirty == dirty {
@@ -232,10 +236,8 @@ impl Base {
             dirty,
             ..entry.mapping_of(page)
         };
-        let turn = self
-            .pages
-            .set(entry, Size::at_level(0), page, mapping, steps);
-        Changes::of(page, turn)
+        let change = self.set(entry, Size::at_level(0), page, mapping, steps);
+        Changes::of(page, change)
     }
 
     /// A page has these rights, where it is resident.
@@ -249,7 +251,7 @@ impl Base {
         ensures changes { AreChanges self.old self.new result }
         ensures cost { steps.new ≤ steps.old + 62 }
     {
-        let Some(entry) = self.pages.find(page, steps) else {
+        let Some(entry) = self.find(page, steps) else {
             return Changes::none();
         };
         if !has_other_rights(&entry.mapping, rights) {
@@ -259,10 +261,8 @@ impl Base {
             rights,
             ..entry.mapping_of(page)
         };
-        let change = self
-            .pages
-            .set(entry, Size::at_level(0), page, mapping, steps);
-        Changes::of(page, change)
+        let protected = self.set(entry, Size::at_level(0), page, mapping, steps);
+        Changes::of(page, protected)
     }
 
     /// Whether a page of a range is resident with other rights.
@@ -281,7 +281,7 @@ impl Base {
             → (result ≡ false) × (steps.new + first / 512 ≤ steps.old + (end + 511) / 512) }
     {
         let mut from = first;
-        while let Some(entry) = self.pages.find_next(from, end, steps) {
+        while let Some(entry) = self.find_next(from, end, steps) {
             if has_other_rights(&entry.mapping, rights) {
                 return true;
             }
@@ -294,7 +294,7 @@ impl Base {
     /// already. The first page behind it.
     fn after_rights_of_part<L: Ledger>(
         &mut self,
-        entry: Entry,
+        entry: TableEntry,
         page: u32,
         end: u32,
         rights: Rights,
@@ -317,7 +317,7 @@ impl Base {
             rights,
             ..entry.mapping_of(page)
         };
-        self.pages.set(entry, size, page, mapping, steps);
+        self.set(entry, size, page, mapping, steps);
         page + size.pages()
     }
 
@@ -335,7 +335,7 @@ impl Base {
         ensures cost { steps.new ≤ steps.old + 4 * (end - first) + 58 * resident_in (mapping_at self.old) first (end - first) }
     {
         let mut from = first;
-        while let Some(entry) = self.pages.find_next(from, end, steps) {
+        while let Some(entry) = self.find_next(from, end, steps) {
             let page = from.max(entry.extent.first);
             from = self.after_rights_of_part(entry, page, end, rights, steps);
         }
@@ -354,7 +354,7 @@ impl Base {
         let end = first + LARGEST;
         let mut levels = [0; 64];
         let mut from = first;
-        while let Some(entry) = self.pages.find_next(from, end, steps) {
+        while let Some(entry) = self.find_next(from, end, steps) {
             let begun = (from.max(entry.extent.first) - first).div_ceil(8);
             let past = (behind(&entry).min(end) - first).div_ceil(8);
             set_places(
@@ -461,7 +461,7 @@ impl Base {
     fn size(&self, page: u32, sizes: Sizes) -> Size
         ensures { result ≡ size_by sizes (mapping_at self.now) page }
     {
-        match self.pages.lookup(page) {
+        match self.lookup(page) {
             Some(entry) => sizes.within(entry.extent.size),
             None => Size::at_level(0),
         }
@@ -491,7 +491,7 @@ impl Base {
         let end = first + length;
         let mut count = 0;
         let mut from = first;
-        while let Some(entry) = self.pages.next(from, end) {
+        while let Some(entry) = self.next(from, end) {
             let page = from.max(entry.extent.first);
             from = behind(&entry).min(end);
             count += large_begun(sizes.within(entry.extent.size), page, from);
@@ -503,7 +503,7 @@ impl Base {
     pub fn counts(&self, sizes: Sizes) -> [u32; 4]
         ensures { result ≡ tile_count_in sizes (mapping_at self.now) 0 ∷ tile_count_in sizes (mapping_at self.now) 1 ∷ tile_count_in sizes (mapping_at self.now) 2 ∷ tile_count_in sizes (mapping_at self.now) 3 ∷ [] }
     {
-        let whole = self.pages.counts();
+        let whole = self.uncut_counts();
         let mut counts = [0; 4];
         for level in 0..4 {
             let size = Size::at_level(level);

@@ -2,12 +2,12 @@
 
 ghost use Rattle.std.specs.Prelude.{◌≡◌, ◌<◌, ℕ, false, [], Option, None, IfSome};
 ghost use Rattle.pager_model.specs.Bounds.{space_pages};
-ghost use Rattle.tiles.specs.Changes.{AreChanges, IsRound, IsTurn, came_of, frame_before, frame_within, gone_of, moves_of};
+ghost use Rattle.tiles.specs.Changes.{AreChanges, IsRound, IsTileChange, came_of, frame_before, frame_within, gone_of, moves_of};
 ghost use Rattle.pager_model.specs.declared.tile.Mapping.{Mapping};
 ghost use Rattle.tiles.specs.Resident.{Maps, Resident, mapping_at};
 
 use crate::moves::Moves;
-use crate::pages::Turn;
+use crate::pages::TileChange;
 use crate::tile_list::{TileList, size_of};
 use pager_model::{Sizes, Tile};
 use std::marker::Model;
@@ -44,18 +44,18 @@ impl Changes {
         }
     }
 
-    /// The changes where a page alone is changed, with the turn of its tile.
-    pub(crate) fn of(page: u32, turn: Turn) -> Changes
+    /// The changes where a page alone is changed, with the change of its tile.
+    pub(crate) fn of(page: u32, change: TileChange) -> Changes
         requires page { page < space_pages }
-        requires before { IfSome turn.before (IsRound page) }
-        requires after { IfSome turn.after (IsRound page) }
-        ensures changes { (old new : Resident) (given : Option Mapping) → Maps page given old new → IsTurn page old new turn → AreChanges old new result }
-        ensures frame { frame_before result ≡ frame_within page turn.before }
+        requires before { IfSome change.before (IsRound page) }
+        requires after { IfSome change.after (IsRound page) }
+        ensures changes { (old new : Resident) (given : Option Mapping) → Maps page given old new → IsTileChange page old new change → AreChanges old new result }
+        ensures frame { frame_before result ≡ frame_within page change.before }
     {
         Changes {
             page,
-            before: turn.before,
-            after: turn.after,
+            before: change.before,
+            after: change.after,
         }
     }
 

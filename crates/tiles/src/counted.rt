@@ -1,7 +1,7 @@
 //! Calls with a counter of steps of their own, which begins at 0, for callers that count none.
 
 ghost use Rattle.std.specs.Prelude.{◌≡◌, ◌≢◌, ℕ, ◌+◌, ◌<◌, ◌≤◌, IfNone, IfSome, None, Some, option_map};
-ghost use Rattle.page_map.specs.Entries.{IsNextEntry, NoneMapped, entry_at};
+ghost use Rattle.tiles.specs.TableEntries.{IsNextEntry, NoneMapped, entry_at};
 ghost use Rattle.pager_model.specs.Bounds.{space_pages};
 ghost use Rattle.tiles.specs.Changes.{AreChanges, frame_before};
 ghost use Rattle.tiles.specs.Resident.{Maps, Protects, frame_of_page, frames_in, mapping_at, with_flag};
@@ -9,14 +9,14 @@ ghost use Rattle.tiles.specs.Sized.{AreMovesIn};
 
 use crate::base::Base;
 use crate::changes::Changes;
+use crate::entry::TableEntry;
+use crate::mixed::Mixed;
 use crate::moves::Moves;
-use crate::pages::Pages;
-use page_map::{Entry, Mixed};
 use pager_model::{Mapping, Rights, Sizes, Steps};
 use std::sync::ledger::{Blank, Ledger};
 
 /// The entry that maps a page, where one does.
-pub(crate) fn lookup<L: Ledger>(map: &Mixed, page: u32, blank: Blank) -> Option<Entry>
+pub(crate) fn lookup<L: Ledger>(map: &Mixed, page: u32, blank: Blank) -> Option<TableEntry>
     requires name { blank.name ≡ L.name }
     requires parts { blank.parts ≡ L.parts }
     requires share { 0 < blank.parts }
@@ -27,7 +27,7 @@ pub(crate) fn lookup<L: Ledger>(map: &Mixed, page: u32, blank: Blank) -> Option<
 }
 
 /// The entry of the lowest page from one on and before an end that is mapped.
-pub(crate) fn next<L: Ledger>(map: &Mixed, from: u32, end: u32, blank: Blank) -> Option<Entry>
+pub(crate) fn next<L: Ledger>(map: &Mixed, from: u32, end: u32, blank: Blank) -> Option<TableEntry>
     requires name { blank.name ≡ L.name }
     requires parts { blank.parts ≡ L.parts }
     requires share { 0 < blank.parts }
@@ -40,15 +40,15 @@ pub(crate) fn next<L: Ledger>(map: &Mixed, from: u32, end: u32, blank: Blank) ->
 }
 
 /// A page of an entry is resident no more.
-pub(crate) fn remove<L: Ledger>(pages: &mut Pages, entry: Entry, page: u32, blank: Blank)
+pub(crate) fn remove<L: Ledger>(base: &mut Base, entry: TableEntry, page: u32, blank: Blank)
     requires name { blank.name ≡ L.name }
     requires parts { blank.parts ≡ L.parts }
     requires share { 0 < blank.parts }
-    requires there { entry_at pages.old page ≡ Some entry }
-    ensures { Maps page None pages.old pages.new }
+    requires there { entry_at base.old page ≡ Some entry }
+    ensures { Maps page None base.old base.new }
 {
     let (book, share) = blank.open::<L>();
-    pages.remove(entry, page, &mut Steps::begin(book, share));
+    base.remove(entry, page, &mut Steps::begin(book, share));
 }
 
 /// A page that isn't resident is, with this mapping; no other page has its frame.

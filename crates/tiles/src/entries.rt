@@ -4,23 +4,24 @@
 //! that isn't an entry yet: those from one size on round one page are left out (`AreTilesBut`).
 
 ghost use Rattle.std.specs.Prelude.{◌≡◌, ◌≢◌, ℕ, suc, ◌+◌, ◌-◌, ◌*◌, ◌/◌, ◌%◌, ◌^◌, ◌<◌, ◌≤◌, ◌==◌, if◌then◌else◌, Some, None};
-ghost use Rattle.page_map.specs.Entries.{entry_at, frames_in, mapping_at, mapping_of, pages_in};
+ghost use Rattle.tiles.specs.TableEntries.{entry_at, frames_in, mapping_at, mapping_of, pages_in};
 ghost use Rattle.pager_model.specs.Bounds.{space_pages};
 ghost use Rattle.pager_model.specs.Tiles.{moved_by};
 ghost use Rattle.tiles.specs.Kept.{AreTiles, AreTilesBut, MapsAlike};
 
-use page_map::{Entry, Mixed};
+use crate::entry::TableEntry;
+use crate::mixed::Mixed;
 use pager_model::{Mapping, Size, Steps};
 use std::sync::ledger::Ledger;
 
 /// Breaks the entry of a page down to one of a size.
 fn split_to<L: Ledger>(
     map: &mut Mixed,
-    entry: Entry,
+    entry: TableEntry,
     size: Size,
     page: u32,
     steps: &mut Steps<L>,
-) -> Entry
+) -> TableEntry
     requires there { entry_at map.old page ≡ Some entry }
     requires size { size ≤ entry.extent.size }
     requires fits { entry.mapping.frame + 8 ^ entry.extent.size < 2 ^ 32 }
@@ -40,7 +41,12 @@ fn split_to<L: Ledger>(
 }
 
 /// Joins the entry of a page with those beside it as long as they form a larger one.
-fn join_up<L: Ledger>(map: &mut Mixed, entry: Entry, page: u32, steps: &mut Steps<L>) -> Entry
+fn join_up<L: Ledger>(
+    map: &mut Mixed,
+    entry: TableEntry,
+    page: u32,
+    steps: &mut Steps<L>,
+) -> TableEntry
     requires there { entry_at map.old page ≡ Some entry }
     requires tiles { AreTilesBut map.old page (suc entry.extent.size) }
     ensures there { entry_at map.new page ≡ Some result }
@@ -66,7 +72,7 @@ pub(crate) fn fill<L: Ledger>(
     page: u32,
     mapping: Mapping,
     steps: &mut Steps<L>,
-) -> Entry
+) -> TableEntry
     requires page { page < space_pages }
     requires absent { entry_at map.old page ≡ None }
     requires room { pages_in map.old < frames_in map.old }
@@ -77,13 +83,13 @@ pub(crate) fn fill<L: Ledger>(
     ensures frames { frames_in map.new ≡ frames_in map.old }
     ensures cost { steps.new ≤ steps.old + 58 }
 {
-    let entry = Entry::round(Size::at_level(0), page, mapping);
+    let entry = TableEntry::round(Size::at_level(0), page, mapping);
     map.put(&entry, steps);
     join_up(map, entry, page, steps)
 }
 
 /// Unmaps a page of an entry.
-pub(crate) fn remove<L: Ledger>(map: &mut Mixed, entry: Entry, page: u32, steps: &mut Steps<L>)
+pub(crate) fn remove<L: Ledger>(map: &mut Mixed, entry: TableEntry, page: u32, steps: &mut Steps<L>)
     requires there { entry_at map.old page ≡ Some entry }
     requires fits { entry.mapping.frame + 8 ^ entry.extent.size < 2 ^ 32 }
     requires tiles { AreTiles map.old }
@@ -102,12 +108,12 @@ pub(crate) fn remove<L: Ledger>(map: &mut Mixed, entry: Entry, page: u32, steps:
 /// A part of an entry that has another mapping than the rest joins nothing: each larger extent round it has pages of that rest too.
 pub(crate) fn set<L: Ledger>(
     map: &mut Mixed,
-    entry: Entry,
+    entry: TableEntry,
     size: Size,
     page: u32,
     mapping: Mapping,
     steps: &mut Steps<L>,
-) -> Entry
+) -> TableEntry
     requires there { entry_at map.old page ≡ Some entry }
     requires size { size ≤ entry.extent.size }
     requires first { page % 8 ^ size ≡ 0 }
@@ -121,7 +127,7 @@ pub(crate) fn set<L: Ledger>(
     ensures frames { frames_in map.new ≡ frames_in map.old }
     ensures cost { steps.new ≤ steps.old + 58 }
 {
-    let part = Entry::round(size, page, mapping);
+    let part = TableEntry::round(size, page, mapping);
     if entry.extent.size == size {
         map.replace(&part, steps);
         return join_up(map, part, page, steps);

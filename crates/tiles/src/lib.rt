@@ -14,10 +14,14 @@
 mod base;
 mod changes;
 pub mod counted;
+mod counts;
 mod entries;
+mod entry;
 pub mod laws;
+mod mixed;
 mod moves;
 mod pages;
+mod parts;
 mod tile_list;
 
 pub use base::{Base, Translation};

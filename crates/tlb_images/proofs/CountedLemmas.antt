@@ -9,7 +9,7 @@ use Rattle.std.proofs.lemmas.List.Folds.{list_any_none, sum_by-replicate}
 use Rattle.std.proofs.lemmas.List.Sums.{count_by-le-length, get_or-le-sum_by, sum_by-le, sum_by-set, sum_by_more}
 use Rattle.pager_model.specs.declared.tile.Tile.{Tile}
 use Rattle.pager_model.specs.declared.page_range.PageRange.{PageRange}
-use Rattle.pager_model.specs.Images.{image_room, touched}
+use Rattle.pager_model.specs.Images.{image_capacity, touched}
 use Rattle.pager_model.specs.Tiles.{same_tile}
 use Rattle.pager_model.proofs.Lists.{get_or-alike}
 use Rattle.pager_model.proofs.Ranges.{in_bounds}
@@ -21,7 +21,7 @@ pub AreCounted-new : (begun : List ℕ) (images : List (List Tile)) (count n : �
     → images ≡ replicate n [] → n ≤ 17 → AreCounted begun images
 AreCounted-new begun images count n none all is few = record {
   few = rw (is, length-replicate) few;
-  short = rw is (All-replicate (λ (image : List Tile). length image ≤ image_room) n [] (omega arith));
+  short = rw is (All-replicate (λ (image : List Tile). length image ≤ image_capacity) n [] (omega arith));
   all = rw none (length-replicate count 0 ∙ all);
   each = λ r below. rw (none, is) (get_or-alike count r 0 ∙ sym (sum_by-replicate (class_count r) n [] ∙ omega arith));
 }
@@ -30,7 +30,7 @@ AreCounted-new begun images count n none all is few = record {
 pub AreCounted-below : (begun : List ℕ) (images : List (List Tile)) → AreCounted begun images → AreBelow 65535 begun
 AreCounted-below begun images counted r below =
     let each : All (λ image. class_count r image ≤ 128) images =
-    All-weaker (λ image. length image ≤ image_room) (λ image. class_count r image ≤ 128)
+    All-weaker (λ image. length image ≤ image_capacity) (λ image. class_count r image ≤ 128)
     (λ image short. omega (arith, short, count_by-le-length (is_of_class r) image)) images counted.short in
     omega (arith, counted.each r below, counted.few, sum_by-le (class_count r) 128 images each)
 
@@ -45,10 +45,10 @@ AreCounted-has begun images i d below counted = record {
 -- one image is another, and the counts follow it
 pub AreCounted-set : (begun counts : List ℕ) (images : List (List Tile)) (i : ℕ) (image d : List Tile) → i < length images
     → AreCounted begun images
-    → Recounts begun counts (get_or images i d) image → length image ≤ image_room → AreCounted counts (set images i image)
+    → Recounts begun counts (get_or images i d) image → length image ≤ image_capacity → AreCounted counts (set images i image)
 AreCounted-set begun counts images i image d below counted recounts short = record {
   few = omega (arith, length-set images i image, counted.few);
-  short = All-set (λ t. length t ≤ image_room) images i image short counted.short;
+  short = All-set (λ t. length t ≤ image_capacity) images i image short counted.short;
   all = recounts.all ∙ counted.all;
   each = λ r bound. omega (arith, counted.each r bound, recounts.each r bound, sum_by-set (class_count r) images i image d below);
 }
@@ -97,8 +97,8 @@ pub mapped-more : (f : List Tile → List Tile) (old images : List (List Tile)) 
     → set images i new ≡ map f (take (i + 1) old) ++ drop (i + 1) old
 mapped-more f old images i image new below is at to = rw to (map_over_more f old images i image below is at)
 
-pub touched-short : (t : Tile) (ts : List Tile) → length (touched t ts) ≤ image_room
-touched-short t ts = omega (arith, length-take image_room (t ∷ filter (λ u. not (same_tile t u)) ts))
+pub touched-short : (t : Tile) (ts : List Tile) → length (touched t ts) ≤ image_capacity
+touched-short t ts = omega (arith, length-take image_capacity (t ∷ filter (λ u. not (same_tile t u)) ts))
 
 -- one tile more
 pub class_more : (r : ℕ) (tiles : List Tile) (i : ℕ) (t : Tile) → i < length tiles → t ≡ get_or tiles i t

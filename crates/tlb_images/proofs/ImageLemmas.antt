@@ -12,7 +12,7 @@ use Rattle.std.proofs.lemmas.List.Quantifiers.{position-Some}
 use Rattle.pager_model.specs.declared.region.Rights.TheVariants.{NoAccess}
 use Rattle.pager_model.specs.declared.tile.Tile.{Tile}
 use Rattle.pager_model.specs.declared.page_range.PageRange.{PageRange}
-use Rattle.pager_model.specs.Images.{image_room, touched}
+use Rattle.pager_model.specs.Images.{image_capacity, touched}
 use Rattle.pager_model.specs.Tiles.{same_tile}
 use Rattle.pager_model.proofs.TileParts.{same_tile-true, same_tile-refl}
 use Rattle.tlb_images.specs.Image.{IsImage, begins_in}
@@ -97,8 +97,8 @@ IsImage-without t ts image = record {
 without-differs : (t : Tile) (ts : List Tile) → All (λ u. same_tile t u ≡ false) (without t ts)
 without-differs t ts k d below = not-true _ (filter_passes (λ u. not (same_tile t u)) ts k d below)
 
-pub touched-absent : (t : Tile) (ts : List Tile) → list_any (same_tile t) ts ≡ false → take image_room (t ∷ ts) ≡ touched t ts
-touched-absent t ts absent = ap (λ us. take image_room (t ∷ us)) (sym (without-absent t ts absent))
+pub touched-absent : (t : Tile) (ts : List Tile) → list_any (same_tile t) ts ≡ false → take image_capacity (t ∷ ts) ≡ touched t ts
+touched-absent t ts absent = ap (λ us. take image_capacity (t ∷ us)) (sym (without-absent t ts absent))
 
 -- a tile that stands in the image comes to the front of the others, and none has to go
 pub touched-found : (t : Tile) (ts : List Tile) (n : ℕ) (d : Tile) → IsImage ts → position (same_tile t) ts ≡ Some n
@@ -106,8 +106,8 @@ pub touched-found : (t : Tile) (ts : List Tile) (n : ℕ) (d : Tile) → IsImage
 touched-found t ts n d image is =
     let found = position-Some (same_tile t) ts n d is in
     let rest = remove-at_position t ts n image.once is in
-    let room : length (t ∷ without t ts) ≤ image_room = rw (← rest) (omega (arith, image.at_most, length-remove ts n found.0)) in
-    (λ i. sym (same_tile-true t (get_or ts n d) found.1) i ∷ rest i) ∙ sym (take_all image_room (t ∷ without t ts) room)
+    let room : length (t ∷ without t ts) ≤ image_capacity = rw (← rest) (omega (arith, image.at_most, length-remove ts n found.0)) in
+    (λ i. sym (same_tile-true t (get_or ts n d) found.1) i ∷ rest i) ∙ sym (take_all image_capacity (t ∷ without t ts) room)
 
 Once-take : (n : ℕ) (ts : List Tile) → Once ts → Once (take n ts)
 Once-take n ts once i j d lt below =
@@ -121,21 +121,21 @@ IsImage-touched t ts image =
     let differ : All (λ u. t ≢ u) (without t ts) = λ k d below same.
     false≢true (sym (without-differs t ts k d below) ∙ ap (same_tile t) (sym same) ∙ same_tile-refl t) in
     record {
-      at_most = omega (arith, length-take image_room (t ∷ without t ts));
-      once = Once-take image_room (t ∷ without t ts) (AllPairs-cons (λ u v. u ≢ v) t (without t ts) differ left.once);
+      at_most = omega (arith, length-take image_capacity (t ∷ without t ts));
+      once = Once-take image_capacity (t ∷ without t ts) (AllPairs-cons (λ u v. u ≢ v) t (without t ts) differ left.once);
     }
 
 -- bringing a tile to the front loses none, and makes no other
-pub count-turned : (f : Tile → Bool) (ts : List Tile) (n : ℕ) (d : Tile) → n < length ts
+pub count-rotated : (f : Tile → Bool) (ts : List Tile) (n : ℕ) (d : Tile) → n < length ts
     → count_by f (get_or ts n d ∷ remove ts n) ≡ count_by f ts
-count-turned f ts n d below =
+count-rotated f ts n d below =
     omega (arith, sum_by-cons (λ u. cond (f u) 1 0) (get_or ts n d) (remove ts n), sum_by-remove (λ u. cond (f u) 1 0) ts n d below)
 
--- turning the front of a list by one brings the place that it ends with to the front
-pub turned : (ts : List Tile) (n : ℕ) (d : Tile) → n < length ts
+-- rotating the front of a list by one brings the place that it ends with to the front
+pub rotated : (ts : List Tile) (n : ℕ) (d : Tile) → n < length ts
     → (let front = take (n + 1) ts in (drop (length front - 1) front ++ take (length front - 1) front) ++ drop
     (n + 1) ts ≡ get_or ts n d ∷ remove ts n)
-turned ts n d below =
+rotated ts n d below =
     let front : List Tile = take (n + 1) ts in
     let one : length front - 1 ≡ n = omega (arith, length-take-le (n + 1) ts (omega arith)) in
     let split : front ≡ take n ts ++ get_or ts n d ∷ [] = take_more ts n d below in

@@ -4,7 +4,7 @@ use Rattle.std.specs.List.{sum_by}
 use Rattle.pager_model.specs.Bounds.{most_actors}
 use Rattle.pager_model.specs.declared.page_range.PageRange.{PageRange}
 use Rattle.pager_model.specs.declared.tile.Tile.{Tile}
-use Rattle.pager_model.specs.Images.{image_room}
+use Rattle.pager_model.specs.Images.{image_capacity}
 use Rattle.tlb_images.specs.Image.{begins_in}
 
 -- how many remainders there are
@@ -21,7 +21,7 @@ class_count r tiles = count_by (is_of_class r) tiles
 -- the counts of all images
 pub record AreCounted (begun : List ℕ) (images : List (List Tile)) : Type 0 where
   pub few : length images ≤ most_actors
-  pub short : All (λ image. length image ≤ image_room) images
+  pub short : All (λ image. length image ≤ image_capacity) images
   pub all : length begun ≡ remainders
   pub each : (r : ℕ) → r < remainders → slice_index begun r ≡ sum_by (class_count r) images
 

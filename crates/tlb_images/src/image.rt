@@ -5,7 +5,7 @@ ghost use Rattle.std.specs.Fn.{FnReturnsAt};
 ghost use Rattle.std.specs.Option.{option_to_list};
 ghost use Rattle.std.specs.List.{list_any, position};
 ghost use Rattle.pager_model.specs.declared.tile.Tile.{Tile as Item};
-ghost use Rattle.pager_model.specs.Images.{image_room, is_in_image, touched};
+ghost use Rattle.pager_model.specs.Images.{image_capacity, is_in_image, touched};
 ghost use Rattle.pager_model.specs.Tiles.{same_tile};
 ghost use Rattle.tlb_images.specs.Image.{IsImage, AnswersTest, begins_in};
 
@@ -14,7 +14,7 @@ use std::alloc::Global;
 use std::marker::Model;
 
 /// The most tiles that an image has.
-const ROOM: usize = 128;
+const CAPACITY: usize = 128;
 
 /// Whether the two are the same tile.
 fn is_same(one: &Tile, other: &Tile) -> bool
@@ -43,7 +43,7 @@ pub(crate) fn any_begins_in(tiles: &[Tile], range: PageRange) -> bool
 }
 
 /// Brings the tile at a place to the front, and moves those before it one place back.
-fn turn(tiles: &mut [Tile], place: usize)
+fn rotate(tiles: &mut [Tile], place: usize)
     requires { place < length tiles.old }
     ensures { (d : Item) → tiles.new ≡ slice_index_or tiles.old place d ∷ remove tiles.old place }
 {
@@ -59,14 +59,14 @@ pub struct Image {
 impl Model for Image {
     ghost use Rattle.std.specs.Prelude.{◌≤◌, List, vec_capacity};
     ghost use Rattle.pager_model.specs.declared.tile.Tile.{Tile};
-    ghost use Rattle.pager_model.specs.Images.{image_room};
+    ghost use Rattle.pager_model.specs.Images.{image_capacity};
     ghost use Rattle.tlb_images.specs.Image.{IsImage};
 
     ghost Value = { List Tile };
 
     ghost view = { λ image. image.tiles.items };
 
-    ghost invariant = { λ image. IsImage image.tiles.items × (image_room ≤ vec_capacity image.tiles) };
+    ghost invariant = { λ image. IsImage image.tiles.items × (image_capacity ≤ vec_capacity image.tiles) };
 }
 
 impl Image {
@@ -74,7 +74,7 @@ impl Image {
     pub fn create(alloc: Global) -> Result<Image, NoMemory>
         ensures { IfOk result (λ image. image ≡ []) }
     {
-        let tiles = Vec::with_capacity(alloc, ROOM)?;
+        let tiles = Vec::with_capacity(alloc, CAPACITY)?;
         Ok(Image { tiles })
     }
 
@@ -83,7 +83,7 @@ impl Image {
         ensures { result ≡ is_in_image self.now tile }
     {
         match tile {
-            Some(tile) => self.place_of(&tile).is_some(),
+            Some(tile) => self.position_of(&tile).is_some(),
             None => false,
         }
     }
@@ -95,10 +95,10 @@ impl Image {
         ensures same_ones { (f : Item → Bool) → count_by f self.new ≡ count_by f self.old }
         ensures absent { result ≡ false → self.new ≡ self.old }
     {
-        let Some(place) = self.place_of(tile) else {
+        let Some(place) = self.position_of(tile) else {
             return false;
         };
-        turn(&mut self.tiles, place);
+        rotate(&mut self.tiles, place);
         true
     }
 
@@ -108,7 +108,7 @@ impl Image {
         ensures touched { self.new ≡ touched tile self.old }
         ensures ones { (f : Item → Bool) → count_by f self.new + count_by f (option_to_list result) ≡ count_by f self.old + count_by f (tile ∷ []) }
     {
-        let last = if self.tiles.len() == ROOM {
+        let last = if self.tiles.len() == CAPACITY {
             self.tiles.pop()
         } else {
             None
@@ -120,7 +120,7 @@ impl Image {
     /// Its tiles.
     pub(crate) fn tiles(&self) -> &[Tile]
         ensures tiles { result.now ≡ self.now }
-        ensures few { length result.now ≤ image_room }
+        ensures few { length result.now ≤ image_capacity }
     {
         &self.tiles
     }
@@ -136,7 +136,7 @@ impl Image {
     }
 
     /// Where the tile stands, if it does.
-    fn place_of(&self, tile: &Tile) -> Option<usize>
+    fn position_of(&self, tile: &Tile) -> Option<usize>
         ensures value { result ≡ position (same_tile tile.now) self.now }
         ensures image { IsImage self.now }
     {

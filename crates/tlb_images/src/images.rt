@@ -4,7 +4,7 @@ ghost use Rattle.std.specs.Prelude.{All, ◌≡◌, ◌+◌, ◌%◌, ◌^◌, �
 ghost use Rattle.std.specs.Fn.{FnReturnsAt};
 ghost use Rattle.pager_model.specs.Bounds.{most_actors};
 ghost use Rattle.pager_model.specs.declared.tile.Tile.{Tile as Item};
-ghost use Rattle.pager_model.specs.Images.{image_room, is_in_image, touched};
+ghost use Rattle.pager_model.specs.Images.{image_capacity, is_in_image, touched};
 ghost use Rattle.tlb_images.specs.Counted.{AreCounted, remainders, class_count, HasCounts, AreBelow, Recounts, NoneBegins};
 ghost use Rattle.tlb_images.specs.Image.{AnswersTest, begins_in};
 
@@ -170,7 +170,7 @@ fn sift<F: Fn(&Tile) -> bool>(begun: &mut [u16], image: &mut Image, keeps: F)
     requires room { AreBelow (2 ^ 16) begun.old }
     ensures kept { (test : Item → Bool) → AnswersTest (FnReturnsAt F.Fn keeps) test → image.new ≡ filter test image.old }
     ensures counts { Recounts begun.old begun.new image.old image.new }
-    ensures short { length image.new ≤ image_room }
+    ensures short { length image.new ≤ image_capacity }
 {
     uncount_all(begun, image.tiles());
     image.retain(keeps);

@@ -18,8 +18,8 @@ pub record AreAlike (one other : SpaceState) (call : Call) : Type 0 where
   pub told : one.told ≡ true
   pub told_too : other.told ≡ true
 
-pub turned : {one other : SpaceState} {call : Call} → AreAlike one other call → AreAlike other one call
-turned alike = record {
+pub alike_back : {one other : SpaceState} {call : Call} → AreAlike one other call → AreAlike other one call
+alike_back alike = record {
   reply = sym alike.reply;
   regions = sym alike.regions;
   base = λ p. sym (alike.base p);

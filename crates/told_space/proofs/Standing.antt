@@ -23,7 +23,7 @@ use Rattle.pager_model.specs.Tiles.{mapping_with, mappings}
 use Rattle.followed_space.proofs.Keeping.{absent_base}
 use Rattle.followed_space.specs.Follows.{rights_at}
 use Rattle.tiles.specs.Resident.{frame_of_page, mapping_at}
-use Rattle.told_space.proofs.Alike.{AreAlike, frees_alike, reply_alike, turned}
+use Rattle.told_space.proofs.Alike.{AreAlike, frees_alike, reply_alike, alike_back}
 use Rattle.told_space.specs.Told.{AllowsBefore, AllowsReply, AllowsWhat, Kept, Stands, dirty_in, flat_in, state_in}
 
 dirty_with : (f : ℕ) (r : Option Region) (x : Rights) (d : Bool) → is_some r ≡ true → dirty_in (mapping_with (Some f) r x d) ≡ d
@@ -198,7 +198,7 @@ module _ (kept : Kept) (st : SpaceState) (stands : Stands kept st) where
       → MayGoOn kept.next c (Answer number call answered) → AllowsReply (state_in kept) frames c call answered → AllowsReply st frames c call answered
   answer_told frames c number call answered known goes is =
       let same = alike call (λ page copies. no_copy kept.next c number call answered page copies goes) in record {
-        reply = reply_alike (state_in kept) st call (turned same) c answered.reply is.reply;
+        reply = reply_alike (state_in kept) st call (alike_back same) c answered.reply is.reply;
         parts = is.parts ∙ sym (frees_alike st (state_in kept) stands.follows.base call answered.reply);
         hit = is.hit ∙ sym (same_hit c known call answered.reply);
       }

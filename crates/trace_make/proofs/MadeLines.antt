@@ -6,7 +6,7 @@ use Rattle.std.proofs.lemmas.List.FromFn.{length-map-range_with_len, get_or-map-
 use Rattle.std.proofs.lemmas.Nat.{mod_below}
 use Rattle.pager_model.specs.declared.call.Line.{Line}
 use Rattle.pager_model.specs.TraceText.{HasLine, HasText, IsCall, IsLine}
-use Rattle.pager_model.specs.TurnOrders.{next_state, drawn}
+use Rattle.pager_model.specs.Schedules.{next_state, drawn}
 use Rattle.trace_make.specs.Made.{CanMake, after_line, call_of_kind, drawn_address, drawn_call, drawn_line, drawn_lines, drawn_page, made, map_line}
 
 -- the first of the lines that are left, and the others

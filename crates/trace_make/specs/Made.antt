@@ -10,9 +10,9 @@ use Rattle.pager_model.specs.declared.region.Kind.TheVariants.{Fixed}
 use Rattle.pager_model.specs.declared.region.Rights.{Rights}
 use Rattle.pager_model.specs.declared.region.Rights.TheVariants.{Read, Write}
 use Rattle.pager_model.specs.Bounds.{most_calls, most_frames, most_processors, most_spaces}
-use Rattle.pager_model.specs.Plans.{Plan}
+use Rattle.pager_model.specs.Scripts.{Script}
 use Rattle.pager_model.specs.SizeSets.{all_sizes}
-use Rattle.pager_model.specs.TurnOrders.{next_state, drawn}
+use Rattle.pager_model.specs.Schedules.{next_state, drawn}
 
 -- what a trace can be made of: a multiple of 512 frames from 512 to 32,768, one to sixteen processors and spaces, and at least as many calls as
 -- spaces, up to 262,144
@@ -89,7 +89,7 @@ made_calls number calls processors spaces =
     map (map_line processors) (range_with_len 0 spaces) ++ drawn_lines processors spaces (calls - spaces) number
 
 -- the trace that is made from this number, of so many calls
-abbrev pub made : (number calls processors spaces frames : ℕ) → Plan
+abbrev pub made : (number calls processors spaces frames : ℕ) → Script
 made number calls processors spaces frames =
     record {
       version = 1;

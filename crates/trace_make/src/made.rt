@@ -2,7 +2,7 @@
 
 ghost use Rattle.std.specs.Prelude.{◌≡◌, ◌-◌, ◌%◌, ◌++◌, ◌<◌, IfOk, map};
 ghost use Rattle.std.specs.List.{range_with_len};
-ghost use Rattle.pager_model.specs.TurnOrders.{next_state};
+ghost use Rattle.pager_model.specs.Schedules.{next_state};
 ghost use Rattle.trace_make.specs.Made.{CanMake, after_call, after_line, drawn_address, drawn_call, drawn_line, drawn_lines, drawn_page, drawn_rights, made, map_line};
 
 use pager_model::{

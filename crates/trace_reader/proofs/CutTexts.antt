@@ -16,7 +16,7 @@ use Rattle.pager_model.specs.declared.region.Kind.{Kind}
 use Rattle.pager_model.specs.declared.region.Kind.TheVariants.{Fixed, Growing, Wired}
 use Rattle.pager_model.specs.declared.region.Rights.{Rights}
 use Rattle.pager_model.specs.declared.region.Rights.TheVariants.{NoAccess, Read, Write}
-use Rattle.pager_model.specs.Plans.{Plan}
+use Rattle.pager_model.specs.Scripts.{Script}
 use Rattle.pager_model.specs.declared.trace.Daemon.{Daemon}
 use Rattle.pager_model.specs.TraceText.{kind_word, rights_word, sizes_word, call_words, line_words, line_of_words, call_line, daemon_line, daemon_words, first_words, first_line, text_of, IsCall, IsDaemon, IsLine, HasText}
 use Rattle.pager_model.proofs.Texts.{text_is_short, version_low}
@@ -48,19 +48,19 @@ unnamed_or : (unnamed : Bool) (word : List ℕ) → IsWord word → AllByRecursi
 unnamed_or true word is = tt
 unnamed_or false word is = (is, tt)
 
-pub first_words_are : (plan : Plan) → HasText plan → AllByRecursion IsWord
-    (first_words plan.version plan.frames plan.processors plan.spaces plan.sizes)
-first_words_are plan has =
-    let version = version_low plan.version plan.sizes has.version_in in
-    let sizes = sizes_are plan.sizes.one plan.sizes.two plan.sizes.three in (
+pub first_words_are : (script : Script) → HasText script → AllByRecursion IsWord
+    (first_words script.version script.frames script.processors script.spaces script.sizes)
+first_words_are script has =
+    let version = version_low script.version script.sizes has.version_in in
+    let sizes = sizes_are script.sizes.one script.sizes.two script.sizes.three in (
       is_word (codes "trace") refl,
       (
-        decimal_is plan.version (omega (arith, version)),
+        decimal_is script.version (omega (arith, version)),
         (
-          decimal_is plan.frames (omega (arith, has.frames_in)),
+          decimal_is script.frames (omega (arith, has.frames_in)),
           (
-            decimal_is plan.processors (omega (arith, has.processors_in)),
-            (decimal_is plan.spaces (omega (arith, has.spaces_in)), unnamed_or (plan.version == 1) (sizes_word plan.sizes) sizes),
+            decimal_is script.processors (omega (arith, has.processors_in)),
+            (decimal_is script.spaces (omega (arith, has.spaces_in)), unnamed_or (script.version == 1) (sizes_word script.sizes) sizes),
           ),
         ),
       ),
@@ -211,43 +211,43 @@ daemon_is_lawful version processors spaces (Some d) calls some few is are =
 
 -- ---- the whole text
 
-abbrev pub head_of : Plan → Head
-head_of plan = record {
-  version = plan.version;
-  frames = plan.frames;
-  processors = plan.processors;
-  spaces = plan.spaces;
-  sizes = plan.sizes;
+abbrev pub head_of : Script → Head
+head_of script = record {
+  version = script.version;
+  frames = script.frames;
+  processors = script.processors;
+  spaces = script.spaces;
+  sizes = script.sizes;
 }
 
-pub text_is : (plan : Plan) → text_of plan ≡ first_line plan ++ behind_text plan.daemon plan.calls
-text_is plan =
-    append_assoc (first_line plan ++ daemon_line plan.daemon) (flat_map call_line plan.calls) end_line
-    ∙ append_assoc (first_line plan) (daemon_line plan.daemon) (calls_text plan.calls)
+pub text_is : (script : Script) → text_of script ≡ first_line script ++ behind_text script.daemon script.calls
+text_is script =
+    append_assoc (first_line script ++ daemon_line script.daemon) (flat_map call_line script.calls) end_line
+    ∙ append_assoc (first_line script) (daemon_line script.daemon) (calls_text script.calls)
 
-pub first_again : (plan : Plan) → HasText plan
-    → lines_of (text_of plan) ≡ join_with_byte 32 (first_words plan.version plan.frames plan.processors plan.spaces plan.sizes) ∷ lines_of
-    (behind_text plan.daemon plan.calls)
-first_again plan has = ap lines_of (text_is plan) ∙ line_again
-    (first_words plan.version plan.frames plan.processors plan.spaces plan.sizes) (behind_text plan.daemon plan.calls)
-    (first_words_are plan has)
+pub first_again : (script : Script) → HasText script
+    → lines_of (text_of script) ≡ join_with_byte 32 (first_words script.version script.frames script.processors script.spaces script.sizes) ∷ lines_of
+    (behind_text script.daemon script.calls)
+first_again script has = ap lines_of (text_is script) ∙ line_again
+    (first_words script.version script.frames script.processors script.spaces script.sizes) (behind_text script.daemon script.calls)
+    (first_words_are script has)
 
-pub first_words_again : (plan : Plan) → HasText plan
+pub first_words_again : (script : Script) → HasText script
     → words_of (join_with_byte 32
-    (first_words plan.version plan.frames plan.processors plan.spaces plan.sizes)) ≡ first_words plan.version plan.frames plan.processors plan.spaces plan.sizes
-first_words_again plan has = words_again (codes "trace")
-    (decimal plan.version ∷ decimal plan.frames ∷ decimal plan.processors ∷ decimal plan.spaces ∷
-    (if plan.version == 1 then [] else sizes_word plan.sizes ∷ [])) (first_words_are plan has)
+    (first_words script.version script.frames script.processors script.spaces script.sizes)) ≡ first_words script.version script.frames script.processors script.spaces script.sizes
+first_words_again script has = words_again (codes "trace")
+    (decimal script.version ∷ decimal script.frames ∷ decimal script.processors ∷ decimal script.spaces ∷
+    (if script.version == 1 then [] else sizes_word script.sizes ∷ [])) (first_words_are script has)
 
-pub not_refused : (plan : Plan) → HasText plan → refusal_of (text_of plan) ≡ None
-not_refused plan has =
-    let is : IsInRange (head_of plan) = (has.version_in, has.frames_in, has.frames_whole, has.processors_in, has.spaces_in) in
-    let lines = recursion_from_All _ plan.calls has.lines in
-    let behind = behind_first_line (text_of plan)
-    (join_with_byte 32 (first_words plan.version plan.frames plan.processors plan.spaces plan.sizes))
-    (behind_text plan.daemon plan.calls) (head_of plan) (text_is_short plan has) (first_again plan has)
-    (first_words_again plan has) is in
-    let second = daemon_is_lawful plan.version plan.processors plan.spaces plan.daemon plan.calls (omega (arith, has.processors_in))
+pub not_refused : (script : Script) → HasText script → refusal_of (text_of script) ≡ None
+not_refused script has =
+    let is : IsInRange (head_of script) = (has.version_in, has.frames_in, has.frames_whole, has.processors_in, has.spaces_in) in
+    let lines = recursion_from_All _ script.calls has.lines in
+    let behind = behind_first_line (text_of script)
+    (join_with_byte 32 (first_words script.version script.frames script.processors script.spaces script.sizes))
+    (behind_text script.daemon script.calls) (head_of script) (text_is_short script has) (first_again script has)
+    (first_words_again script has) is in
+    let second = daemon_is_lawful script.version script.processors script.spaces script.daemon script.calls (omega (arith, has.processors_in))
     (omega (arith, has.spaces_in)) has.daemon_in lines in
-    behind ∙ second ∙ calls_are_lawful plan.version plan.processors plan.spaces (first_call plan.daemon) 0 plan.calls (omega (arith, has.processors_in))
+    behind ∙ second ∙ calls_are_lawful script.version script.processors script.spaces (first_call script.daemon) 0 script.calls (omega (arith, has.processors_in))
     (omega (arith, has.spaces_in)) lines (omega (arith, has.few))

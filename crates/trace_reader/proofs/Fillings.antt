@@ -14,7 +14,7 @@ use Rattle.pager_model.specs.declared.region.Kind.{Kind}
 use Rattle.pager_model.specs.declared.region.Kind.TheVariants.{Fixed, Growing, Wired}
 use Rattle.pager_model.specs.declared.region.Rights.{Rights}
 use Rattle.pager_model.specs.declared.region.Rights.TheVariants.{NoAccess, Read, Write}
-use Rattle.pager_model.specs.Plans.{Plan}
+use Rattle.pager_model.specs.Scripts.{Script}
 use Rattle.pager_model.specs.SizeSets.{SizeSet, all_sizes}
 use Rattle.pager_model.specs.declared.trace.Daemon.{Daemon}
 use Rattle.pager_model.specs.TraceText.{kind_word, rights_word, sizes_word, line_words, line_of_words, call_line, daemon_words, first_words, IsDaemon, IsLine, IsTextOf}
@@ -399,7 +399,7 @@ behind_says version processors spaces (line ∷ next ∷ lines) none =
     ]
 
 text_says : (text : List ℕ) (lines : List (List ℕ)) → lines_of text ≡ lines → refusal_of_lines lines ≡ None
-    → (plan : Plan) × IsTextOf text plan
+    → (script : Script) × IsTextOf text script
 text_says text [] is none = absurd cc
 text_says text (first ∷ []) is none = absurd cc
 text_says text (first ∷ next ∷ lines) is none =
@@ -427,7 +427,7 @@ text_says text (first ∷ next ∷ lines) is none =
           (All-from_recursion _ calls behind.3) behind.4 refl,
     )
 
-pub some_trace : (text : List ℕ) → refusal_of text ≡ None → (plan : Plan) × IsTextOf text plan
+pub some_trace : (text : List ℕ) → refusal_of text ≡ None → (script : Script) × IsTextOf text script
 some_trace text none =
     elim (cases_lt 16777216 (length text)) [
       | inl more ↦ absurd (let fault = sym none ∙ too_long text more in cc)

@@ -12,7 +12,7 @@ use Rattle.pager_model.specs.declared.region.Kind.{Kind}
 use Rattle.pager_model.specs.declared.region.Kind.TheVariants.{Fixed, Growing, Wired}
 use Rattle.pager_model.specs.declared.region.Rights.{Rights}
 use Rattle.pager_model.specs.declared.region.Rights.TheVariants.{NoAccess, Read, Write}
-use Rattle.pager_model.specs.Plans.{Plan}
+use Rattle.pager_model.specs.Scripts.{Script}
 use Rattle.pager_model.specs.SizeSets.{SizeSet, all_sizes}
 use Rattle.pager_model.specs.declared.trace.Daemon.{Daemon}
 use Rattle.pager_model.proofs.Texts.{version_low}
@@ -198,8 +198,8 @@ sizes_are_back version frames processors spaces z is =
           rw (ne_eqb version 1 (λ one. omega (arith, above, one))) (sizes_again z.one z.two z.three)
     ]
 
-abbrev plan_of : List (List ℕ) → List (List ℕ) → Plan
-plan_of words lines =
+abbrev script_of : List (List ℕ) → List (List ℕ) → Script
+script_of words lines =
     record {
       version = number_back words 1;
       frames = number_back words 2;
@@ -210,19 +210,19 @@ plan_of words lines =
       calls = calls_behind lines;
     }
 
-abbrev plan_back : List ℕ → Plan
-plan_back text = plan_of (words_of (get_or (lines_of text) 0 [])) (drop 1 (lines_of text))
+abbrev script_back : List ℕ → Script
+script_back text = script_of (words_of (get_or (lines_of text) 0 [])) (drop 1 (lines_of text))
 
-plan_is_back : (plan : Plan) → HasText plan → plan_back (text_of plan) ≡ plan
-plan_is_back plan has =
-    let version = decimal_value plan.version (let small = version_low plan.version plan.sizes has.version_in in omega (arith, small)) in
-    let frames = decimal_value plan.frames (omega (arith, has.frames_in)) in
-    let processors = decimal_value plan.processors (omega (arith, has.processors_in)) in
-    let spaces = decimal_value plan.spaces (omega (arith, has.spaces_in)) in
-    let behind = behind_is_back plan.version plan.processors plan.spaces plan.daemon plan.calls (omega (arith, has.processors_in))
-    (omega (arith, has.spaces_in)) has.daemon_in (recursion_from_All _ plan.calls has.lines) in
-    let sizes = sizes_are_back plan.version plan.frames plan.processors plan.spaces plan.sizes has.version_in in
-    rw (first_again plan has, first_words_again plan has, version, frames, processors, spaces, sizes, behind.0, behind.1) refl
+script_is_back : (script : Script) → HasText script → script_back (text_of script) ≡ script
+script_is_back script has =
+    let version = decimal_value script.version (let small = version_low script.version script.sizes has.version_in in omega (arith, small)) in
+    let frames = decimal_value script.frames (omega (arith, has.frames_in)) in
+    let processors = decimal_value script.processors (omega (arith, has.processors_in)) in
+    let spaces = decimal_value script.spaces (omega (arith, has.spaces_in)) in
+    let behind = behind_is_back script.version script.processors script.spaces script.daemon script.calls (omega (arith, has.processors_in))
+    (omega (arith, has.spaces_in)) has.daemon_in (recursion_from_All _ script.calls has.lines) in
+    let sizes = sizes_are_back script.version script.frames script.processors script.spaces script.sizes has.version_in in
+    rw (first_again script has, first_words_again script has, version, frames, processors, spaces, sizes, behind.0, behind.1) refl
 
-pub one_plan : (a b : Plan) → HasText a → HasText b → text_of a ≡ text_of b → a ≡ b
-one_plan a b p q same = sym (plan_is_back a p) ∙ ap plan_back same ∙ plan_is_back b q
+pub one_script : (a b : Script) → HasText a → HasText b → text_of a ≡ text_of b → a ≡ b
+one_script a b p q same = sym (script_is_back a p) ∙ ap script_back same ∙ script_is_back b q

@@ -6,7 +6,7 @@ use Rattle.line_source.specs.declared.Next.{Next}
 use Rattle.line_source.specs.declared.Next.TheVariants as next
 use Rattle.pager_model.specs.declared.call.Line.{Line as Call}
 use Rattle.pager_model.specs.declared.trace.Daemon.{Daemon}
-use Rattle.pager_model.specs.Plans.{Plan}
+use Rattle.pager_model.specs.Scripts.{Script}
 use Rattle.pager_model.specs.TraceText.{IsDaemon, daemon_line, daemon_words, first_words, line_of_words}
 use Rattle.trace_lines.specs.declared.cause.LineCause.{LineCause}
 use Rattle.trace_lines.specs.declared.line.Head.{Head}
@@ -125,11 +125,11 @@ pub lawful_first : (head : Head) (line : List ℕ) → IsInRange head
     → words_of line ≡ first_words head.version head.frames head.processors head.spaces head.sizes → line_fault first_forms (words_of line) ≡ None
 lawful_first head line is words = rw words (first_is_lawful head is)
 
--- the plan of what was read
-pub opens_with : (before then after : Option (List ℕ)) (line : List ℕ) (head : Head) (daemon : Option Daemon) (calls : List Call) (plan : Plan)
+-- the script of what was read
+pub opens_with : (before then after : Option (List ℕ)) (line : List ℕ) (head : Head) (daemon : Option Daemon) (calls : List Call) (script : Script)
     → length line ≤ 4095
     → IsInRange head → words_of line ≡ first_words head.version head.frames head.processors head.spaces head.sizes
-    → plan ≡ record {
+    → script ≡ record {
       version = head.version;
       frames = head.frames;
       processors = head.processors;
@@ -137,9 +137,9 @@ pub opens_with : (before then after : Option (List ℕ)) (line : List ℕ) (head
       sizes = head.sizes;
       daemon = daemon;
       calls = calls;
-    } → calls ≡ [] → IfSome before (IsCut line then) → IfSome then (λ bytes. OpensBehind bytes daemon after) → IfSome before (λ bytes. OpensWith bytes plan after)
-opens_with before then after line head daemon calls plan short is words made none cut behind =
-    subst (λ (p : Plan). IfSome before (λ bytes. OpensWith bytes p after)) (sym made) (IfSome_then before cut (λ bytes at.
+    } → calls ≡ [] → IfSome before (IsCut line then) → IfSome then (λ bytes. OpensBehind bytes daemon after) → IfSome before (λ bytes. OpensWith bytes script after)
+opens_with before then after line head daemon calls script short is words made none cut behind =
+    subst (λ (p : Script). IfSome before (λ bytes. OpensWith bytes p after)) (sym made) (IfSome_then before cut (λ bytes at.
     let next : OpensBehind at.rest daemon after =
     subst (λ (o : Option (List ℕ)). IfSome o (λ bytes. OpensBehind bytes daemon after)) at.to_come behind in
     let text : List ℕ = line_of_words (first_words head.version head.frames head.processors head.spaces head.sizes) in

@@ -6,7 +6,7 @@ use Rattle.std.proofs.lemmas.Option.{IfSome_then}
 use Rattle.std.proofs.lemmas.Slice.Eq.{bytes_eq-Decides}
 use Rattle.line_source.specs.Lines.{IsLineAt, seen}
 use Rattle.pager_model.specs.declared.call.Line.{Line as Call}
-use Rattle.pager_model.specs.Plans.{Plan}
+use Rattle.pager_model.specs.Scripts.{Script}
 use Rattle.pager_model.specs.TraceText.{IsLine, line_words}
 use Rattle.trace_lines.specs.declared.cause.LineCause.{LineCause}
 use Rattle.trace_lines.specs.declared.line.Head.{Head}
@@ -23,8 +23,8 @@ use Rattle.trace_stream.specs.Streams.{GoesOn, HasOpening, IsKept, forms_of, mis
 use Rattle.trace_stream.proofs.NextLines.{IsCut, are_ahead, are_seen, cause_as, is_cut, unless_long-any, unless_long-short}
 
 -- the forms of the calls behind a first line
-pub forms_same : (head : Head) (plan : Plan) → HasOpening head plan → call_forms head.version head.processors head.spaces ≡ forms_of plan
-forms_same head plan has = rw (has.version, has.processors, has.spaces) refl
+pub forms_same : (head : Head) (script : Script) → HasOpening head script → call_forms head.version head.processors head.spaces ≡ forms_of script
+forms_same head script has = rw (has.version, has.processors, has.spaces) refl
 
 -- the line at the front, of the bytes that are to come
 pub cuts : (left left' : Option (List ℕ)) (first ahead line behind : List ℕ) (n : ℕ) → IfSome left (λ _. seen ahead left' ≡ seen first left)
@@ -83,10 +83,10 @@ too_many forms number calls before then line short other lawful many cut =
     IfSome_then before cut (λ bytes. many_at forms number calls line then bytes short other lawful many)
 
 -- what was read as a call has no fault
-pub lawful : (head : Head) (plan : Plan) (line : List ℕ) (call : Call) → IsInRange head → HasOpening head plan
-    → IsLine head.version head.processors head.spaces call → words_of line ≡ line_words call → line_fault (forms_of plan) (words_of line) ≡ None
-lawful head plan line call range has is words =
-    subst (λ (forms : List (List Place)). line_fault forms (words_of line) ≡ None) (forms_same head plan has)
+pub lawful : (head : Head) (script : Script) (line : List ℕ) (call : Call) → IsInRange head → HasOpening head script
+    → IsLine head.version head.processors head.spaces call → words_of line ≡ line_words call → line_fault (forms_of script) (words_of line) ≡ None
+lawful head script line call range has is words =
+    subst (λ (forms : List (List Place)). line_fault forms (words_of line) ≡ None) (forms_same head script has)
     (rw words (line_is_lawful head.version head.processors head.spaces call (omega (arith, range.3.1)) (omega (arith, range.4.1)) is))
 
 -- ---- the end

@@ -10,7 +10,7 @@ use Rattle.pager_model.specs.declared.region.Kind.TheVariants.{Fixed, Growing, W
 use Rattle.pager_model.specs.declared.region.Rights.{Rights}
 use Rattle.pager_model.specs.declared.region.Rights.TheVariants.{NoAccess, Read, Write}
 use Rattle.pager_model.specs.declared.trace.Daemon.{Daemon}
-use Rattle.pager_model.specs.Plans.{Plan}
+use Rattle.pager_model.specs.Scripts.{Script}
 use Rattle.pager_model.specs.TraceText.{HasText, IsCall, IsDaemon, IsLine, call_words, daemon_words, first_words, kind_word, line_words, rights_word, sizes_word}
 use Rattle.pager_model.proofs.Texts.{version_low}
 
@@ -90,9 +90,9 @@ first_by version frames processors spaces word v f p s short false =
           (lit≤ tt, (number version v, (number frames f, (number processors p, (number spaces s, (short, tt)))))),
     )
 
-pub first_short : (plan : Plan) → HasText plan
-    → length (join_with_byte 32 (first_words plan.version plan.frames plan.processors plan.spaces plan.sizes)) ≤ 4095
-first_short plan has =
-    first_by plan.version plan.frames plan.processors plan.spaces (sizes_word plan.sizes)
-    (let low = version_low plan.version plan.sizes has.version_in in omega arith) (omega (arith, has.frames_in)) (omega (arith, has.processors_in))
-    (omega (arith, has.spaces_in)) (sizes_are plan.sizes.one plan.sizes.two plan.sizes.three) (plan.version == 1)
+pub first_short : (script : Script) → HasText script
+    → length (join_with_byte 32 (first_words script.version script.frames script.processors script.spaces script.sizes)) ≤ 4095
+first_short script has =
+    first_by script.version script.frames script.processors script.spaces (sizes_word script.sizes)
+    (let low = version_low script.version script.sizes has.version_in in omega arith) (omega (arith, has.frames_in)) (omega (arith, has.processors_in))
+    (omega (arith, has.spaces_in)) (sizes_are script.sizes.one script.sizes.two script.sizes.three) (script.version == 1)

@@ -5,7 +5,7 @@ use Rattle.std.proofs.lemmas.Bool.{ne_eqb}
 use Rattle.std.proofs.lemmas.List.Elements.{recursion_from_All}
 use Rattle.pager_model.specs.declared.call.Line.{Line}
 use Rattle.pager_model.specs.declared.trace.Daemon.{Daemon}
-use Rattle.pager_model.specs.Plans.{Plan}
+use Rattle.pager_model.specs.Scripts.{Script}
 use Rattle.pager_model.specs.TraceText.{IsDaemon, IsLine, daemon_words, first_words, line_words, text_of}
 use Rattle.trace_lines.specs.Forms.{call_forms, first_forms, line_fault}
 use Rattle.trace_lines.specs.Heads.{IsInRange}
@@ -42,13 +42,13 @@ next_lawful version processors spaces number before (call ∷ calls) some few ar
     (call_short version processors spaces call (omega arith) (omega arith) are.0)
     ∙ rw (other, lawful, ne_eqb before 4294967295 more) refl)
 
-pub next_is_not_refused : (plan : Plan) (before after : List Line) → HasStream plan → plan.calls ≡ before ++ after
-    → next_refusal (forms_of plan) (first_call plan.daemon + length before) (length before) (calls_text after) ≡ None
-next_is_not_refused plan before after has split =
-    next_lawful plan.version plan.processors plan.spaces (first_call plan.daemon + length before) (length before) after has.opening.processors_in.1
+pub next_is_not_refused : (script : Script) (before after : List Line) → HasStream script → script.calls ≡ before ++ after
+    → next_refusal (forms_of script) (first_call script.daemon + length before) (length before) (calls_text after) ≡ None
+next_is_not_refused script before after has split =
+    next_lawful script.version script.processors script.spaces (first_call script.daemon + length before) (length before) after has.opening.processors_in.1
     has.opening.spaces_in.1
-    (all_after (IsLine plan.version plan.processors plan.spaces) before after
-    (subst (AllByRecursion (IsLine plan.version plan.processors plan.spaces)) split (recursion_from_All _ plan.calls has.lines)))
+    (all_after (IsLine script.version script.processors script.spaces) before after
+    (subst (AllByRecursion (IsLine script.version script.processors script.spaces)) split (recursion_from_All _ script.calls has.lines)))
     (omega (arith, has.few, ap length split, length-append before after))
 
 -- ---- the lines before the calls
@@ -74,20 +74,20 @@ opening_by : (line next : List ℕ) (lines : List (List ℕ)) → length line �
     → opening_refusal_of (line ∷ next ∷ lines) ≡ daemon_refusal (next ∷ lines)
 opening_by line next lines short fault = unless_long-short 1 line _ short ∙ rw fault refl
 
-pub opening_is_not_refused : (plan : Plan) → HasStream plan → opening_refusal (text_of plan) ≡ None
+pub opening_is_not_refused : (script : Script) → HasStream script → opening_refusal (text_of script) ≡ None
 unfolding opening_refusal
-opening_is_not_refused plan has =
-    let bare = with_calls plan [] in
+opening_is_not_refused script has =
+    let bare = with_calls script [] in
     let opening = has.opening in
-    let words = first_words plan.version plan.frames plan.processors plan.spaces plan.sizes in
-    let behind = behind_text plan.daemon plan.calls in
+    let words = first_words script.version script.frames script.processors script.spaces script.sizes in
+    let behind = behind_text script.daemon script.calls in
     let p = some_piece 10 behind in
-    let first : lines_of (text_of plan) ≡ join_with_byte 32 words ∷ lines_of behind =
-    ap lines_of (text_is plan) ∙ line_again words behind (first_words_are bare opening) in
-    let is : IsInRange (head_of plan) =
+    let first : lines_of (text_of script) ≡ join_with_byte 32 words ∷ lines_of behind =
+    ap lines_of (text_is script) ∙ line_again words behind (first_words_are bare opening) in
+    let is : IsInRange (head_of script) =
     (opening.version_in, opening.frames_in, opening.frames_whole, opening.processors_in, opening.spaces_in) in
-    let lawful = daemon_lawful plan.version plan.processors plan.spaces plan.daemon plan.calls opening.processors_in.1 opening.spaces_in.1
-    opening.daemon_in (recursion_from_All _ plan.calls has.lines) in
+    let lawful = daemon_lawful script.version script.processors script.spaces script.daemon script.calls opening.processors_in.1 opening.spaces_in.1
+    opening.daemon_in (recursion_from_All _ script.calls has.lines) in
     rw (first, p.2) (opening_by (join_with_byte 32 words) p.0 p.1 (first_short bare opening)
-    (ap (line_fault first_forms) (first_words_again bare opening) ∙ first_is_lawful (head_of plan) is)
+    (ap (line_fault first_forms) (first_words_again bare opening) ∙ first_is_lawful (head_of script) is)
     ∙ subst (λ (l : List (List ℕ)). daemon_refusal l ≡ None) p.2 lawful)

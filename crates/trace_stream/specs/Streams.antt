@@ -5,7 +5,7 @@ use Rattle.std.specs.Str.{bytes_eq}
 use Rattle.line_source.specs.Lines.{HasNoFeed}
 use Rattle.pager_model.specs.declared.call.Line.{Line as CallLine}
 use Rattle.pager_model.specs.declared.trace.Daemon.{Daemon}
-use Rattle.pager_model.specs.Plans.{Plan}
+use Rattle.pager_model.specs.Scripts.{Script}
 use Rattle.pager_model.specs.TraceText.{HasText, IsLine, call_line, daemon_line, first_line, line_of_words}
 use Rattle.trace_lines.specs.declared.line.Head.{Head}
 use Rattle.trace_lines.specs.Forms.{Place, call_forms, daemon_form, first_forms, fits, leftmost, line_fault}
@@ -25,18 +25,18 @@ longest_line = 4095
 -- The lines before the calls.
 
 -- their text
-abbrev pub opening_text : Plan → List ℕ
-opening_text plan = first_line plan ++ daemon_line plan.daemon
+abbrev pub opening_text : Script → List ℕ
+opening_text script = first_line script ++ daemon_line script.daemon
 
 -- the trace is one without calls, that this first line begins
-pub record HasOpening (head : Head) (plan : Plan) : Type 0 where
-  pub has : HasText plan
-  pub version : plan.version ≡ head.version
-  pub frames : plan.frames ≡ head.frames
-  pub processors : plan.processors ≡ head.processors
-  pub spaces : plan.spaces ≡ head.spaces
-  pub sizes : plan.sizes ≡ head.sizes
-  pub none : plan.calls ≡ []
+pub record HasOpening (head : Head) (script : Script) : Type 0 where
+  pub has : HasText script
+  pub version : script.version ≡ head.version
+  pub frames : script.frames ≡ head.frames
+  pub processors : script.processors ≡ head.processors
+  pub spaces : script.spaces ≡ head.spaces
+  pub sizes : script.sizes ≡ head.sizes
+  pub none : script.calls ≡ []
 
 -- a line of them, or a part of one, that isn't too long
 abbrev pub IsPart : List ℕ → Type 0
@@ -52,8 +52,8 @@ IsUnopened bytes after =
 -- The lines of calls.
 
 -- the forms that their lines may have
-abbrev pub forms_of : Plan → List (List Place)
-forms_of plan = call_forms plan.version plan.processors plan.spaces
+abbrev pub forms_of : Script → List (List Place)
+forms_of script = call_forms script.version script.processors script.spaces
 
 -- the line that ends a text
 abbrev pub end_line : List ℕ
@@ -108,14 +108,14 @@ IsAllOpening None rest = is_daemon_next (lines_of rest) ≡ false
 IsAllOpening (Some d) rest = Unit {0}
 
 -- the bytes begin with them, and these are behind them
-pub record Opens (bytes : List ℕ) (plan : Plan) (rest : List ℕ) : Type 0 where
-  pub split : bytes ≡ opening_text plan ++ rest
-  pub all : IsAllOpening plan.daemon rest
+pub record Opens (bytes : List ℕ) (script : Script) (rest : List ℕ) : Type 0 where
+  pub split : bytes ≡ opening_text script ++ rest
+  pub all : IsAllOpening script.daemon rest
   pub not_refused : opening_refusal bytes ≡ None
 
 -- and so are those that are to come
-abbrev pub OpensWith : List ℕ → Plan → Option (List ℕ) → Type 0
-OpensWith bytes plan after = (rest : List ℕ) × Opens bytes plan rest × (after ≡ Some rest)
+abbrev pub OpensWith : List ℕ → Script → Option (List ℕ) → Type 0
+OpensWith bytes script after = (rest : List ℕ) × Opens bytes script rest × (after ≡ Some rest)
 
 -- the bytes behind the first line begin with this daemon's line or none, aren't refused, and the others are to come
 abbrev pub OpensBehind : List ℕ → Option Daemon → Option (List ℕ) → Type 0
@@ -148,15 +148,15 @@ IsOfStream fault = ⊥
 -- Streams.
 
 -- the trace with these calls
-abbrev pub with_calls : Plan → List CallLine → Plan
-with_calls plan calls = record plan { calls = calls }
+abbrev pub with_calls : Script → List CallLine → Script
+with_calls script calls = record script { calls = calls }
 
 -- The traces that have a stream: those that begin as a trace does, and have no more calls than can be numbered, each in its ranges.
-pub record HasStream (plan : Plan) : Type 0 where
-  pub opening : HasText (with_calls plan [])
-  pub lines : All (IsLine plan.version plan.processors plan.spaces) plan.calls
-  pub few : length plan.calls ≤ most_stream_calls
+pub record HasStream (script : Script) : Type 0 where
+  pub opening : HasText (with_calls script [])
+  pub lines : All (IsLine script.version script.processors script.spaces) script.calls
+  pub few : length script.calls ≤ most_stream_calls
 
 -- these bytes are the text of this trace
-abbrev pub IsStreamOf : List ℕ → Plan → Type 0
-IsStreamOf bytes plan = HasStream plan × (bytes ≡ opening_text plan ++ flat_map call_line plan.calls ++ end_line)
+abbrev pub IsStreamOf : List ℕ → Script → Type 0
+IsStreamOf bytes script = HasStream script × (bytes ≡ opening_text script ++ flat_map call_line script.calls ++ end_line)

@@ -144,7 +144,7 @@ impl Flight {
         match pool.take(own, page, &want) {
             Ok(taken) => {
                 let frame = taken.number();
-                space.place(page, taken);
+                space.map_page(page, taken);
                 self.phase = Phase::Fill { page, frame };
                 self.entry(Some(own), true, What::Take { page, frame, want })
             }
@@ -217,7 +217,7 @@ impl Flight {
         let own = space.number();
         let taken = pool.use_held(self.processor, own, page, &want);
         let frame = taken.number();
-        space.place(page, taken);
+        space.map_page(page, taken);
         self.phase = Phase::Fill { page, frame };
         self.entry(Some(own), true, What::UseHeld { page, frame, want })
     }

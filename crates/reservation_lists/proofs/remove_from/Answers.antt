@@ -24,16 +24,16 @@ compared (Some x) ms place gone within =
 
 pub returns-then-eq-clause-items : goal.returns-then-eq-clause-items
 returns-then-eq-clause-items c =
-    let place = rw c.as_slice.ensures.value at c.place_of-place.ensures in
-    let read : Decides c.eq.result (slice_get c.deref.result.now c.place_of-place.result ≡ Some c.args.gone.now) =
+    let place = rw c.as_slice.ensures.value at c.position_of-place.ensures in
+    let read : Decides c.eq.result (slice_get c.deref.result.now c.position_of-place.result ≡ Some c.args.gone.now) =
     Decides-at _ _ c.eq.ensures (compared c.get.result _ _ _ c.get.ensures.lookup.3) in
     let stands = (rw (c.deref.ensures.value, place) at read).0 c.if-eq.true in
     rw place at c.remove.ensures.items ∙ sym (without_member_at_place c.args.gone.now c.args.list.now.items c.requires stands)
 
 pub returns-else-eq-clause-items : goal.returns-else-eq-clause-items
 returns-else-eq-clause-items c =
-    let place = rw c.as_slice.ensures.value at c.place_of-place.ensures in
-    let read : Decides c.eq.result (slice_get c.deref.result.now c.place_of-place.result ≡ Some c.args.gone.now) =
+    let place = rw c.as_slice.ensures.value at c.position_of-place.ensures in
+    let read : Decides c.eq.result (slice_get c.deref.result.now c.position_of-place.result ≡ Some c.args.gone.now) =
     Decides-at _ _ c.eq.ensures (compared c.get.result _ _ _ c.get.ensures.lookup.3) in
     let stands = (rw (c.deref.ensures.value, place) at read).1 in
     sym (without_member_elsewhere c.args.gone.now c.args.list.now.items c.requires (λ at. false≢true (sym c.if-eq.false ∙ stands at)))

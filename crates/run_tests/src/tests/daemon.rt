@@ -7,9 +7,9 @@ ghost use Rattle.run_tests.specs.Calling.{MayMakeCalls};
 
 use super::machine::{NO_MEMORY, stores_of};
 use journal_core::Pass;
+use pager_locks::daemon::{Turned, turn};
 use pager_locks::{Named, Pager, Prepared, Running};
 use pager_model::{Call, Kind, Rights, Sizes};
-use paging_daemon::{Turned, turn};
 use std::marker::Brand;
 use std::process::Abort;
 use std::sync::Wait;

@@ -11,7 +11,7 @@ ghost use Rattle.space_core.specs.Saving.{HadMemory, unwritten_by};
 ghost use Rattle.space_core.specs.Standing.{IsResting, frame_at, must_write, one_more_if, CanBegin};
 ghost use Rattle.pager_model.specs.Bounds.{space_pages};
 
-use super::{Begun, Found, OutFault, Space, copied};
+use super::{Begun, Lookup, OutFault, Space, copied};
 use crate::access::{accessed_page, answered, permits};
 use pager_model::{Answered, Call, Kind, Region, Reply, Rights, Want};
 use store_core::Store;
@@ -194,9 +194,9 @@ impl<S: Store + Send + Drop> Space<S> {
             unreachable!()
         };
         match self.look(page, call) {
-            Found::Refused(refusal) => Begun::Answered(answered(refusal)),
-            Found::Absent(want) => Begun::NeedsFrame { page, want },
-            Found::Resident(found) => Begun::Answered(self.finish(processor, call, found)),
+            Lookup::Refused(refusal) => Begun::Answered(answered(refusal)),
+            Lookup::Absent(want) => Begun::NeedsFrame { page, want },
+            Lookup::Resident(found) => Begun::Answered(self.finish(processor, call, found)),
         }
     }
 
@@ -211,13 +211,13 @@ impl<S: Store + Send + Drop> Space<S> {
     {
         let page = accessed_page(call)?;
         match self.look(page, call) {
-            Found::Absent(want) => Some((page, want)),
-            Found::Refused(_) | Found::Resident(_) => None,
+            Lookup::Absent(want) => Some((page, want)),
+            Lookup::Refused(_) | Lookup::Resident(_) => None,
         }
     }
 
     /// What there is at the page of a load or a store. A resident page is mapped with its rights, so its region isn't looked for.
-    fn look(&self, page: u32, call: &Call) -> Found
+    fn look(&self, page: u32, call: &Call) -> Lookup
         requires space { space_of_call call.now ≡ self.now.number }
         requires can { CanBegin call.now }
         requires page { access_page call.now ≡ Some page }
@@ -225,14 +225,14 @@ impl<S: Store + Send + Drop> Space<S> {
         ensures { Finds self.now call.now page result }
     {
         match self.table.translate(page) {
-            Some(found) if permits(found.mapping.rights, call) => Found::Resident(found),
-            Some(_) => Found::Refused(Reply::Denied),
+            Some(found) if permits(found.mapping.rights, call) => Lookup::Resident(found),
+            Some(_) => Lookup::Refused(Reply::Denied),
             None => self.look_at_region(page, call),
         }
     }
 
     /// The same for a page that isn't resident, by its region.
-    fn look_at_region(&self, page: u32, call: &Call) -> Found
+    fn look_at_region(&self, page: u32, call: &Call) -> Lookup
         requires space { space_of_call call.now ≡ self.now.number }
         requires can { CanBegin call.now }
         requires page { access_page call.now ≡ Some page }
@@ -241,15 +241,15 @@ impl<S: Store + Send + Drop> Space<S> {
         ensures { Finds self.now call.now page result }
     {
         let Some(region) = self.regions.find(page) else {
-            return Found::Refused(Reply::Unmapped);
+            return Lookup::Refused(Reply::Unmapped);
         };
         if !permits(self.rights(page, region), call) {
-            return Found::Refused(Reply::Denied);
+            return Lookup::Refused(Reply::Denied);
         }
         let Some(want) = self.regions.want_at(page) else {
             unreachable!()
         };
-        Found::Absent(want)
+        Lookup::Absent(want)
     }
 
     /// Writes the copy of a page where it is dirty, and answers.

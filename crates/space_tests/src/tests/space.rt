@@ -188,7 +188,7 @@ fn serve(
             let Some(frame) = spare.pop() else {
                 panic!(rt; "no frame is left");
             };
-            space.place(page, frame);
+            space.map_page(page, frame);
             match space.read_in(page) {
                 Ok(found) => (space.finish(0, call, found).reply, None),
                 Err(count) => (fault(count), Some(space.remove(page).number())),

@@ -16,13 +16,13 @@ follow_history-requires-clause-start c =
 pub returns : goal.returns
 returns c = record {
   curves = λ g run.
-      let plan = c.args.trace.now in
+      let script = c.args.trace.now in
       let history = entries_in c.args.history.now.items in
       let curves = c.curves.result in
       let text = c.create.ensures.text in
-      let stands = c.follow_history.ensures.stands g (c.in_ok-counting.ensures.starts g (Begins-run plan g history run))
-      (EachComes-run plan g history text run) in
+      let stands = c.follow_history.ensures.stands g (c.in_ok-counting.ensures.starts g (Begins-run script g history run))
+      (EachComes-run script g history text run) in
       subst (λ n. AreCurves n g history curves.tiles.items curves.pages.items)
       (c.follow_history.ensures.places ∙ c.in_ok-counting.ensures.places)
-      (c.curves.ensures.curves g history stands (AnswersAlone-legal plan g history text.daemon_in run.marks run.legal c.requires.one));
+      (c.curves.ensures.curves g history stands (AnswersAlone-legal script g history text.daemon_in run.marks run.legal c.requires.one));
 }

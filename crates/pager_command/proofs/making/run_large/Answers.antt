@@ -2,9 +2,9 @@ use Rattle.std.proofs.Common.{map, inl, inr, rules, refl, sym, subst, arith}
 use Rattle.flight_core.specs.Lacking.{NoneLacked}
 use Rattle.pager_model.specs.Legal.{entries_in}
 use Rattle.run_history.specs.Kept.{Kept}
-use Rattle.pager_command.specs.declared.form.Order.TheVariants.{InTurns}
+use Rattle.pager_command.specs.declared.form.Order.TheVariants.{InOneThread}
 use Rattle.pager_command.specs.declared.form.Report.TheVariants.{Counts}
-use Rattle.pager_command.specs.declared.form.Turns.TheVariants.{Drawn}
+use Rattle.pager_command.specs.declared.form.Schedule.TheVariants.{Drawn}
 use Rattle.pager_command.specs.Views.{ending, out_views}
 use Rattle.pager_command.proofs.FormRuns.{MadeRun-gathered, WasRun-gathered}
 use Rattle.pager_command.proofs.LargeRuns.{RunsLarge-made, RunsLarge-unmade}
@@ -43,7 +43,7 @@ returns-in-Ok-clause-runs g c =
     let end = ending c.args.sink.now c.write_run.new.sink c.write_run.result in
     let out = out_views g.K.Sink.taken g.K.Sink.faults g.S.Store.seen in
     RunsLarge-made out c.args.number c.args.seed c.args.stores.items end c.in-Ok.trace wrote.trace ran.trace
-    (MadeRun-gathered out (InTurns (Drawn c.args.seed)) Counts c.args.stores.items end c.in-Ok.trace c.in-Ok.gathered
+    (MadeRun-gathered out (InOneThread (Drawn c.args.seed)) Counts c.args.stores.items end c.in-Ok.trace c.in-Ok.gathered
     ran.stored ran.run ran.counts ran.seeded wrote.refusal wrote.history wrote.stores wrote.ends)
 
 pub returns-in-Ok-clause-lasting : goal.returns-in-Ok-clause-lasting

@@ -1,6 +1,6 @@
 use Rattle.std.proofs.Common.{◌≡◌, ◌+◌, ◌^◌, ◌<◌, true, if◌then◌else◌, refl, ap, sym, subst, ◌∙◌, arith}
 use Rattle.pager_model.specs.FrameStates.{FrameState}
-use Rattle.step_log.specs.Logged.{Stepped}
+use Rattle.flight_core.specs.Logged.{Stepped}
 use Rattle.pager_core.proofs.SilentSteps.{HasPassed-none, HasPassed-more, Stepped-passed}
 use Rattle.pager_core.proofs.machine.make_entry.Goals as goal
 

@@ -4,7 +4,7 @@ use Rattle.pager_model.specs.Legal.{frames_at}
 use Rattle.pager_model.specs.Settings.{Given}
 use Rattle.flight_core.specs.Lacking.{NeverLacks}
 use Rattle.flight_core.specs.Rows.{row_of}
-use Rattle.step_log.specs.Flying.{IsHere}
+use Rattle.flight_core.specs.Flying.{IsHere}
 use Rattle.pager_core.proofs.SilentSteps.{HasPassed}
 use Rattle.pager_core.proofs.machine.make_entry.Given as goal
 

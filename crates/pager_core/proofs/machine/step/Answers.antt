@@ -1,5 +1,5 @@
 use Rattle.std.proofs.Common.{sym, subst, ◌∙◌}
-use Rattle.step_log.specs.Logged.{Stepped}
+use Rattle.flight_core.specs.Logged.{Stepped}
 use Rattle.pager_core.proofs.SilentSteps.{needs_space, needs_both}
 use Rattle.flight_core.specs.Rows.{row_of}
 use Rattle.pager_core.proofs.machine.step.Goals as goal

@@ -1,5 +1,5 @@
 use Rattle.std.proofs.Common.{Some, None, sym, ◌∙◌, arith}
-use Rattle.step_log.proofs.FlightSteps.{going_on_frames}
+use Rattle.flight_core.proofs.FlightSteps.{going_on_frames}
 use Rattle.pager_locks.specs.declared.logs.Held.{Held}
 use Rattle.pager_locks.specs.Logs.{HasGrown, GoesOn}
 use Rattle.pager_locks.proofs.Flights.{flown_on}

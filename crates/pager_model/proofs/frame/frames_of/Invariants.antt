@@ -8,4 +8,4 @@ invariant-loop-number l =
     (l.frames.items ≡ map zero_frame (range_with_len 0 l.number))
     × (vec_capacity l.frames ≡ l.count)
     × (vec_len l.frames ≡ l.number)
-    × (l.rooms.items ≡ replicate (l.count - l.number) [])
+    × (l.chunks.items ≡ replicate (l.count - l.number) [])

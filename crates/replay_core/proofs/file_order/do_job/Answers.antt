@@ -1,6 +1,6 @@
 use Rattle.std.proofs.Common.{sym, ◌∙◌, subst}
-use Rattle.replay_core.specs.Replays.{DidJob}
-use Rattle.replay_core.proofs.WholeJobs.{InJob-start, InJob-step, DidJob-end, flight_there, still_in, turn_steps}
+use Rattle.replay_core.specs.DoneJobs.{DidJob}
+use Rattle.replay_core.proofs.WholeJobs.{InJob-start, InJob-step, DidJob-end, flight_there, still_in, advance_steps}
 use Rattle.pager_core.specs.Running.{flight_at}
 use Rattle.replay_core.proofs.StandingLemmas.{known_flight}
 use Rattle.replay_core.proofs.file_order.do_job.Goals as goal
@@ -22,18 +22,18 @@ pub loop-machine-smaller : goal.loop-machine-smaller
 loop-machine-smaller g c =
     let still = still_in c.args.machine.now c.loop-machine.machine c.args.actor c.done-number.result c.loop-machine.invariant
     (sym c.done.ensures.made ∙ c.loop-machine-test.true) in
-    let stepped = turn_steps c.args.machine.now c.loop-machine.machine c.turn.new.self c.args.actor c.done-number.result c.turn.result
-    c.requires.none_keeps c.loop-machine.invariant still c.turn.ensures.ended c.turn.ensures.waits in
-    (c.turn.ensures.stepped stepped).fewer
+    let stepped = advance_steps c.args.machine.now c.loop-machine.machine c.advance.new.self c.args.actor c.done-number.result c.advance.result
+    c.requires.none_keeps c.loop-machine.invariant still c.advance.ensures.ended c.advance.ensures.waits in
+    (c.advance.ensures.stepped stepped).fewer
 
 pub loop-machine-preserved : goal.loop-machine-preserved
 loop-machine-preserved g c =
     let still = still_in c.args.machine.now c.loop-machine.machine c.args.actor c.done-number.result c.loop-machine.invariant
     (sym c.done.ensures.made ∙ c.loop-machine-test.true) in
-    let stepped = turn_steps c.args.machine.now c.loop-machine.machine c.turn.new.self c.args.actor c.done-number.result c.turn.result
-    c.requires.none_keeps c.loop-machine.invariant still c.turn.ensures.ended c.turn.ensures.waits in
-    InJob-step c.args.machine.now c.loop-machine.machine c.turn.new.self c.args.actor c.done-number.result c.loop-machine.invariant still
-    (c.turn.ensures.stepped stepped) c.turn.ensures.same_jobs c.turn.ensures.same_unused c.turn.ensures.lawful
+    let stepped = advance_steps c.args.machine.now c.loop-machine.machine c.advance.new.self c.args.actor c.done-number.result c.advance.result
+    c.requires.none_keeps c.loop-machine.invariant still c.advance.ensures.ended c.advance.ensures.waits in
+    InJob-step c.args.machine.now c.loop-machine.machine c.advance.new.self c.args.actor c.done-number.result c.loop-machine.invariant still
+    (c.advance.ensures.stepped stepped) c.advance.ensures.same_jobs c.advance.ensures.same_unused c.advance.ensures.lawful
 
 pub returns : goal.returns
 returns g c =

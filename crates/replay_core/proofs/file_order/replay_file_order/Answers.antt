@@ -7,8 +7,9 @@ use Rattle.pager_model.specs.declared.region.Rights.TheVariants.{NoAccess}
 use Rattle.pager_model.specs.Legal.{entries_in}
 use Rattle.pager_model.specs.Showing.{IsFiled}
 use Rattle.flight_core.specs.Lacking.{NoneLacked}
-use Rattle.replay_core.specs.Replays.{IsReplay, IsBetween, DidNext, DidRest}
-use Rattle.pager_model.specs.Plans.{Plan}
+use Rattle.pager_core.specs.Replays.{IsReplay}
+use Rattle.replay_core.specs.DoneJobs.{IsBetween, DidNext, DidRest}
+use Rattle.pager_model.specs.Scripts.{Script}
 use Rattle.pager_model.specs.Stored.{Stored}
 use Rattle.pager_model.specs.TraceText.{HasText}
 use Rattle.pager_core.specs.Running.{Running, flight_at}
@@ -47,10 +48,10 @@ do_next-requires-clause-none_keeps g c κs within =
     (let below = it.within in omega (arith, below)) c.loop-line.machine c.loop-line.invariant
 
 -- after the daemon's turn before a line
-turned_here : (plan : Plan) (has : HasText plan) (stores : List Stored) (k daemon : ℕ) (run new : Running) → k < length plan.calls
-    → Filing plan stores k run → daemon ≡ plan.processors → DidNext run new daemon → Turned plan stores k new
-turned_here plan has stores k daemon run new below filing same did =
-    Turned-next plan has stores k (omega (arith, below)) run filing new (subst (DidNext run new) same did)
+turned_here : (script : Script) (has : HasText script) (stores : List Stored) (k daemon : ℕ) (run new : Running) → k < length script.calls
+    → Filing script stores k run → daemon ≡ script.processors → DidNext run new daemon → Turned script stores k new
+turned_here script has stores k daemon run new below filing same did =
+    Turned-next script has stores k (omega (arith, below)) run filing new (subst (DidNext run new) same did)
 
 pub do_job-requires-clause-lawful : goal.do_job-requires-clause-lawful
 do_job-requires-clause-lawful g c κs within =
@@ -109,8 +110,8 @@ loop-line-preserved g c =
 all_lines : (index : ℕ) (items calls : List Line) → items ≡ calls → index ≡ length items → index ≡ length calls
 all_lines index items calls same all = all ∙ ap length same
 
-within_all : (plan : Plan) (k : ℕ) → k ≡ length plan.calls → k ≤ length plan.calls
-within_all plan k all = omega (arith, all)
+within_all : (script : Script) (k : ℕ) → k ≡ length script.calls → k ≤ length script.calls
+within_all script k all = omega (arith, all)
 
 pub do_rest-requires-clause-lawful : goal.do_rest-requires-clause-lawful
 do_rest-requires-clause-lawful g c κs within = c.loop-line.invariant.filed.of.lawful
@@ -129,13 +130,13 @@ do_rest-requires-clause-none_keeps g c κs within =
     (within_all c.args.trace.now c.loop-line.line-index all) c.loop-line.machine c.loop-line.invariant
 
 -- after all lines and turns
-at_end : (plan : Plan) (has : HasText plan) (stores : List Stored) (k daemon : ℕ) (run new : Running) → k ≡ length plan.calls
-    → Filing plan stores k run → daemon ≡ plan.processors → DidRest run new daemon
-    → ((t : ℕ) × Filed plan stores (length plan.calls) t new) × (flight_at new.flights plan.processors ≡ None)
-at_end plan has stores k daemon run new all filing same did =
-    let rest : DidRest run new plan.processors = subst (DidRest run new) same did in
-    let filed = Filed-rest plan has stores k (omega (arith, all)) run filing new rest in
-    ((filed.0, subst (λ n. Filed plan stores n filed.0 new) all filed.1), rest.2)
+at_end : (script : Script) (has : HasText script) (stores : List Stored) (k daemon : ℕ) (run new : Running) → k ≡ length script.calls
+    → Filing script stores k run → daemon ≡ script.processors → DidRest run new daemon
+    → ((t : ℕ) × Filed script stores (length script.calls) t new) × (flight_at new.flights script.processors ≡ None)
+at_end script has stores k daemon run new all filing same did =
+    let rest : DidRest run new script.processors = subst (DidRest run new) same did in
+    let filed = Filed-rest script has stores k (omega (arith, all)) run filing new rest in
+    ((filed.0, subst (λ n. Filed script stores n filed.0 new) all filed.1), rest.2)
 
 pub finish-requires : goal.finish-requires
 finish-requires g c =

@@ -4,15 +4,15 @@ use Rattle.std.proofs.lemmas.Bool.{true≢false}
 use Rattle.std.specs.List.{AllByRecursion, range_with_len}
 use Rattle.pager_model.specs.Legal.{entries_in}
 use Rattle.pager_model.specs.Showing.{actors}
-use Rattle.pager_model.specs.TurnOrders.{IsScheduled}
+use Rattle.pager_model.specs.Schedules.{IsScheduled}
 use Rattle.pager_model.proofs.Actors.{actors_few}
 use Rattle.flight_core.specs.Lacking.{NoneLacked}
-use Rattle.replay_core.specs.Replays.{IsReplay}
-use Rattle.replay_core.specs.Turns.{IsStuck, FirstStepped}
+use Rattle.pager_core.specs.Replays.{IsReplay}
+use Rattle.replay_core.specs.Schedules.{IsStuck, FirstStepped}
 use Rattle.replay_core.proofs.RunLemmas.{length-jobs, IsReplay-whole, AreItsCounts-whole}
 use Rattle.replay_core.proofs.StandingLemmas.{known_in}
-use Rattle.replay_core.proofs.TurnLemmas.{range_known, range_can}
-use Rattle.replay_core.proofs.OrderLemmas.{Following-start, Following-turn, Lowering-start, Lowering-step, fewer_lowest, IsScheduled-end}
+use Rattle.replay_core.proofs.ScheduleLemmas.{range_known, range_can}
+use Rattle.replay_core.proofs.OrderLemmas.{Following-start, Following-advance, Lowering-start, Lowering-step, fewer_lowest, IsScheduled-end}
 use Rattle.replay_core.proofs.scheduled.replay_schedule.Goals as goal
 
 pub loop-actor-init : goal.loop-actor-init
@@ -21,20 +21,20 @@ loop-actor-init g c =
     Following-start c.args.trace.now (map g.S.Store.seen c.args.stores.items) c.args.schedule.now c.in_ok-machine.machine
     (record { given = made.0; unused = c.in_ok-machine.ensures.unused; jobs = made.2; lawful = made.4 }) made.1
 
-pub turn-requires-after_bounds : goal.turn-requires-after_bounds
-turn-requires-after_bounds g c κs within =
+pub advance-requires-after_bounds : goal.advance-requires-after_bounds
+advance-requires-after_bounds g c κs within =
     known_in c.args.trace.now (map g.S.Store.seen c.args.stores.items) c.loop-actor.machine c.loop-actor.invariant.of
     (get_or c.args.schedule.now c.loop-actor.actor-index 0)
     (c.requires.known c.loop-actor.actor-index 0 c.loop-actor-test.true)
 
 pub loop-actor-preserved : goal.loop-actor-preserved
 loop-actor-preserved g c =
-    let turn = c.turn.ensures in
-    Following-turn c.args.trace.now
+    let advance = c.advance.ensures in
+    Following-advance c.args.trace.now
     (map g.S.Store.seen c.args.stores.items) c.args.schedule.now c.loop-actor.actor-index c.loop-actor.machine c.loop-actor.invariant
     (record { below = c.loop-actor-test.true; known = c.requires.known c.loop-actor.actor-index 0 c.loop-actor-test.true })
-    c.turn.new.self c.turn.result
-    turn.ended turn.not_ended turn.waits turn.not_waiting turn.stepped turn.same_jobs turn.same_unused turn.lawful
+    c.advance.new.self c.advance.result
+    advance.ended advance.not_ended advance.waits advance.not_waiting advance.stepped advance.same_jobs advance.same_unused advance.lawful
 
 pub loop-actors-init : goal.loop-actors-init
 loop-actors-init g c = Lowering-start c.args.trace.now

@@ -1,6 +1,6 @@
 use Rattle.std.proofs.Common.{◌≡◌, take}
 use Rattle.std.specs.List.{AllByRecursion}
-use Rattle.replay_core.specs.Turns.{IsStuck}
+use Rattle.replay_core.specs.Schedules.{IsStuck}
 use Rattle.replay_core.proofs.stepping.step_first.Given as goal
 
 abbrev pub invariant-loop-actor : goal.invariant-loop-actor

@@ -29,16 +29,16 @@ lines-init g c = record {
 
 pub make_line-requires-clause-can : goal.make_line-requires-clause-can
 make_line-requires-clause-can g c κs within =
-    let plan = c.args.opening.now.trace in
+    let script = c.args.opening.now.trace in
     let can = c.requires.can in
     let goes = c.lines.invariant.goes None can.0 can.1 tt in
     record {
-      plan = plan;
+      script = script;
       stores = can.0;
       calls = goes.calls;
       history = goes.history;
       after = goes.stands.after;
-      next = IsNext-of c.args.opening.now.head plan goes.calls c.in-Ok-Some.field-0 c.in-Ok-Some.line c.calls.result c.requires.opening
+      next = IsNext-of c.args.opening.now.head script goes.calls c.in-Ok-Some.field-0 c.in-Ok-Some.line c.calls.result c.requires.opening
           c.in-Ok-Some.field-0-is c.in-Ok-Some.ensures.line c.in-Ok-Some.ensures.few (c.calls.ensures ∙ goes.stands.after.at.calls_are);
     }
 
@@ -50,12 +50,12 @@ make_line-requires-clause-left g c κs within =
 
 pub lines-smaller : goal.lines-smaller
 lines-smaller g c =
-    let plan = c.args.opening.now.trace in
+    let script = c.args.opening.now.trace in
     let can = c.requires.can in
     let goes = c.lines.invariant.goes None can.0 can.1 tt in
-    let next = IsNext-of c.args.opening.now.head plan goes.calls c.in-Ok-Some.field-0 c.in-Ok-Some.line c.calls.result c.requires.opening
+    let next = IsNext-of c.args.opening.now.head script goes.calls c.in-Ok-Some.field-0 c.in-Ok-Some.line c.calls.result c.requires.opening
     c.in-Ok-Some.field-0-is c.in-Ok-Some.ensures.line c.in-Ok-Some.ensures.few (c.calls.ensures ∙ goes.stands.after.at.calls_are) in
-    let more = one_call_more g.S.Store.lasts c.lines.telling.every c.args.every c.lines.invariant.every plan can.0 c.lines.telling.left
+    let more = one_call_more g.S.Store.lasts c.lines.telling.every c.args.every c.lines.invariant.every script can.0 c.lines.telling.left
     c.make_line.new.telling.left c.lines.stream c.make_line.new.stream c.in-Ok-Some.line _ _ goes next (g.K.Sink.taken c.make_line.new.sink)
     c.in_default.ensures.on in
     let few = next.few in
@@ -66,11 +66,11 @@ pub lines-preserved : goal.lines-preserved
 lines-preserved g c = record {
   every = c.in_default.ensures.every ∙ c.lines.invariant.every;
   goes = λ left stores after opens.
-      let plan = c.args.opening.now.trace in
+      let script = c.args.opening.now.trace in
       let goes = c.lines.invariant.goes left stores after opens in
-      let next = IsNext-of c.args.opening.now.head plan goes.calls c.in-Ok-Some.field-0 c.in-Ok-Some.line c.calls.result c.requires.opening
+      let next = IsNext-of c.args.opening.now.head script goes.calls c.in-Ok-Some.field-0 c.in-Ok-Some.line c.calls.result c.requires.opening
       c.in-Ok-Some.field-0-is c.in-Ok-Some.ensures.line c.in-Ok-Some.ensures.few (c.calls.ensures ∙ goes.stands.after.at.calls_are) in
-      Goes-more g.S.Store.lasts c.lines.telling.every c.args.every c.lines.invariant.every plan stores c.lines.telling.left
+      Goes-more g.S.Store.lasts c.lines.telling.every c.args.every c.lines.invariant.every script stores c.lines.telling.left
       c.make_line.new.telling.left c.lines.stream c.make_line.new.stream c.in-Ok-Some.line _ _ goes next (g.K.Sink.taken c.make_line.new.sink)
       c.in_default.ensures.on c.in-Ok-Some.field-0 (seen c.next_call.new.ahead (g.T.Source.left c.next_call.new.source)) _ _
       c.in-Ok-Some.field-0-is c.in-Ok-Some.ensures.reads
@@ -80,7 +80,7 @@ lines-preserved g c = record {
 
 pub returns-in-Ok-None-clause-ended : goal.returns-in-Ok-None-clause-ended
 returns-in-Ok-None-clause-ended g c = λ left stores after opens.
-    let plan = c.args.opening.now.trace in
+    let script = c.args.opening.now.trace in
     let goes = c.lines.invariant.goes left stores after opens in
     let at = goes.stands.after.at in
     let mid = seen c.lines.ahead (g.T.Source.left c.lines.source) in
@@ -93,9 +93,9 @@ returns-in-Ok-None-clause-ended g c = λ left stores after opens.
       told = goes.told;
       after_calls = goes.stands.after;
       lasting = goes.stands.lasting;
-      told_are = AreToldBy-of _ plan goes.calls goes.history c.args.every goes.told c.lines.telling.left goes.stands.next goes.stands.each;
+      told_are = AreToldBy-of _ script goes.calls goes.history c.args.every goes.told c.lines.telling.left goes.stands.next goes.stands.each;
       ends = (
-        reads_whole left mid left' c.next_call.new.ahead plan goes.calls at.opening at.lines at.few_calls goes.reads read,
+        reads_whole left mid left' c.next_call.new.ahead script goes.calls at.opening at.lines at.few_calls goes.reads read,
         goes.wrote,
       );
       read_fault = c.in-Ok-None.ensures.no_other_fault (λ is. cc) ∙ goes.no_read_fault;
@@ -105,7 +105,7 @@ returns-in-Ok-None-clause-ended g c = λ left stores after opens.
 
 pub returns-in-Err-clause-ended : goal.returns-in-Err-clause-ended
 returns-in-Err-clause-ended g c = λ left stores after opens.
-    let plan = c.args.opening.now.trace in
+    let script = c.args.opening.now.trace in
     let fault = c.in-Err.fault in
     let goes = c.lines.invariant.goes left stores after opens in
     let mid = seen c.lines.ahead (g.T.Source.left c.lines.source) in
@@ -119,9 +119,9 @@ returns-in-Err-clause-ended g c = λ left stores after opens.
       told = goes.told;
       after_calls = goes.stands.after;
       lasting = goes.stands.lasting;
-      told_are = AreToldBy-of _ plan goes.calls goes.history c.args.every goes.told c.lines.telling.left goes.stands.next goes.stands.each;
+      told_are = AreToldBy-of _ script goes.calls goes.history c.args.every goes.told c.lines.telling.left goes.stands.next goes.stands.each;
       ends = (
-        reads_stopped left mid left' ahead plan goes.calls c.calls.result fault goes.reads (c.calls.ensures ∙ goes.stands.after.at.calls_are)
+        reads_stopped left mid left' ahead script goes.calls c.calls.result fault goes.reads (c.calls.ensures ∙ goes.stands.after.at.calls_are)
             c.in-Err.ensures.few_ahead c.in-Err.ensures.own_fault (λ is. c.in-Err.ensures.unread (ap Err is)) c.in-Err.ensures.kept c.in-Err.ensures.refused,
         c.in-Err.ensures.own_fault,
         goes.wrote,
@@ -133,11 +133,11 @@ returns-in-Err-clause-ended g c = λ left stores after opens.
 
 pub returns-in-Err-make_line-clause-ended : goal.returns-in-Err-make_line-clause-ended
 returns-in-Err-make_line-clause-ended g c = λ left stores after opens.
-    let plan = c.args.opening.now.trace in
+    let script = c.args.opening.now.trace in
     let goes = c.lines.invariant.goes left stores after opens in
-    let next = IsNext-of c.args.opening.now.head plan goes.calls c.in-Ok-Some.field-0 c.in-Ok-Some.line c.calls.result c.requires.opening
+    let next = IsNext-of c.args.opening.now.head script goes.calls c.in-Ok-Some.field-0 c.in-Ok-Some.line c.calls.result c.requires.opening
     c.in-Ok-Some.field-0-is c.in-Ok-Some.ensures.line c.in-Ok-Some.ensures.few (c.calls.ensures ∙ goes.stands.after.at.calls_are) in
-    CallsEnd-part g.S.Store.lasts c.lines.telling.every c.args.every c.lines.invariant.every plan stores c.lines.telling.left
+    CallsEnd-part g.S.Store.lasts c.lines.telling.every c.args.every c.lines.invariant.every script stores c.lines.telling.left
     c.make_line.new.telling.left c.lines.stream c.make_line.new.stream c.in-Ok-Some.line _ _ goes next (g.K.Sink.taken c.make_line.new.sink)
     c.in-Err-make_line.ensures.part c.in-Ok-Some.field-0 c.next_call.new.ahead (g.T.Source.left c.next_call.new.source) _ _
     c.in-Ok-Some.field-0-is c.in-Ok-Some.ensures.reads c.in-Ok-Some.ensures.few_ahead

@@ -1,6 +1,6 @@
 use Rattle.std.proofs.Common.{◌≤◌, length, map, inl, inr, refl, subst, arith}
 use Rattle.std.proofs.lemmas.List.{length-map}
-use Rattle.pager_model.specs.Plans.{Plan}
+use Rattle.pager_model.specs.Scripts.{Script}
 use Rattle.stream_run.specs.Reports.{Admits}
 use Rattle.stream_run.specs.Streams.{RanSome, ports}
 use Rattle.stream_run.proofs.ReadText.{was_opened}
@@ -14,7 +14,7 @@ returns g c =
     let own = ok.enough in
     let enough : c.in-Ok.opening.trace.spaces ≤ length stores = omega (arith, longer, own) in
     inl (record {
-      why = was_opened (λ (p : Plan). Admits c.args.report p × (p.spaces ≤ length stores)) (g.T.Source.left c.args.source.now)
+      why = was_opened (λ (p : Script). Admits c.args.report p × (p.spaces ≤ length stores)) (g.T.Source.left c.args.source.now)
           (g.T.Source.left c.opening_to_run.new.source) c.opening_to_run.new.ahead c.in-Ok.opening.head c.in-Ok.opening.trace ok.opening
           ok.few_ahead (ok.admitted, enough) ok.reads;
       read_fault = ok.unfailed;

@@ -1,5 +1,5 @@
 use Rattle.std.proofs.Common.{◌≡◌, ℕ, suc, ◌≤◌, sym, ap, subst, ◌∙◌, arith}
-use Rattle.page_map.specs.Entries.{extent_round}
+use Rattle.tiles.specs.TableEntries.{extent_round}
 use Rattle.pager_model.specs.declared.extent.Extent.{Extent}
 use Rattle.tiles.specs.Kept.{AreTilesBut}
 use Rattle.tiles.proofs.EntryTiles.{JoinsInto, alike_on, join_alike, join_there, join_tiles, no_join, round_is_extent}

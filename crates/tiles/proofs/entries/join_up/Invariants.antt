@@ -1,5 +1,5 @@
 use Rattle.std.proofs.Common.{◌≡◌, suc, ◌+◌, ◌-◌, ◌*◌, ◌≤◌, Some}
-use Rattle.page_map.specs.Entries.{entry_at}
+use Rattle.tiles.specs.TableEntries.{entry_at}
 use Rattle.tiles.specs.Kept.{AreTilesBut, MapsAlike}
 use Rattle.tiles.proofs.entries.join_up.Given as goal
 

@@ -3,8 +3,8 @@ use Rattle.std.proofs.lemmas.Bool.{cases_eq, eq-eqb, eqb-true, false≢true}
 use Rattle.std.proofs.lemmas.Option.{same_Some}
 use Rattle.pager_model.specs.declared.tile.Mapping.{Mapping}
 use Rattle.pager_model.specs.declared.extent.Extent.{Extent}
-use Rattle.page_map.specs.declared.entry.Entry.{Entry}
-use Rattle.page_map.specs.Entries.{AreEntries, entry_at, entry_with, extent_round, mapping_of}
+use Rattle.tiles.specs.declared.entry.TableEntry.{TableEntry}
+use Rattle.tiles.specs.TableEntries.{AreEntries, entry_at, entry_with, extent_round, mapping_of}
 use Rattle.tiles.specs.Resident.{Resident}
 use Rattle.tiles.proofs.EntryTiles.{alike_all, entry_says, first_there, put_there, set_apart, set_says, set_tiles, tiles_but}
 use Rattle.tiles.proofs.entries.set.Goals as goal
@@ -13,12 +13,12 @@ is_less : (a b : ℕ) → a ≤ b → eqb b a ≡ false → a < b
 is_less a b most differs = elim (cases_eq b a) [ inl same ↦ absurd (false≢true (sym differs ∙ eq-eqb b a same)) | inr apart ↦ omega arith ]
 
 -- the part is the extent of an entry that is there
-stands : (m : Resident) (before part : Entry) (size page : ℕ) (mapping : Mapping) → AreEntries m → entry_at m page ≡ Some before
+stands : (m : Resident) (before part : TableEntry) (size page : ℕ) (mapping : Mapping) → AreEntries m → entry_at m page ≡ Some before
     → before.extent.size ≡ size → part ≡ entry_with size page mapping
-    → (e : Entry) × (entry_at m part.extent.first ≡ Some e) × (e.extent ≡ part.extent)
+    → (e : TableEntry) × (entry_at m part.extent.first ≡ Some e) × (e.extent ≡ part.extent)
 stands m before part size page mapping entries there sized is =
     let same : before.extent ≡ part.extent = sym (entries.round page before there) ∙ ap (λ (k : ℕ). extent_round k page) sized
-    ∙ ap (λ (e : Entry). e.extent) (sym is) in
+    ∙ ap (λ (e : TableEntry). e.extent) (sym is) in
     (before, ap (λ (x : Extent). entry_at m x.first) (sym same) ∙ first_there m entries page before there, same)
 
 pub replace-requires : goal.replace-requires

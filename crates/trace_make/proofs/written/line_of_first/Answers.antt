@@ -1,18 +1,18 @@
 use Rattle.std.proofs.Common.{ℕ, ◌≡◌, ◌==◌, if◌then◌else◌, [], ◌∷◌, ◌++◌, codes, decimal, ap, ◌∙◌}
-use Rattle.pager_model.specs.Plans.{Plan}
+use Rattle.pager_model.specs.Scripts.{Script}
 use Rattle.pager_model.specs.SizeSets.{SizeSet}
 use Rattle.pager_model.specs.TraceText.{first_line, first_words, line_of_words, sizes_word}
 use Rattle.report_text.proofs.Lines.{line-gained, adds-more}
 use Rattle.trace_make.proofs.written.line_of_first.Goals as goal
 
 -- the first line of a trace by what it says
-same : (plan : Plan) (version frames processors spaces : ℕ) (z : SizeSet) → version ≡ plan.version → frames ≡ plan.frames
-    → processors ≡ plan.processors → spaces ≡ plan.spaces → z ≡ plan.sizes
-    → line_of_words (first_words version frames processors spaces z) ≡ first_line plan
-same plan version frames processors spaces z v f p s e =
+same : (script : Script) (version frames processors spaces : ℕ) (z : SizeSet) → version ≡ script.version → frames ≡ script.frames
+    → processors ≡ script.processors → spaces ≡ script.spaces → z ≡ script.sizes
+    → line_of_words (first_words version frames processors spaces z) ≡ first_line script
+same script version frames processors spaces z v f p s e =
     rw (v, f, p)
-    (ap (λ (n : ℕ). line_of_words (first_words plan.version plan.frames plan.processors n z)) s
-    ∙ ap (λ (y : SizeSet). line_of_words (first_words plan.version plan.frames plan.processors plan.spaces y)) e)
+    (ap (λ (n : ℕ). line_of_words (first_words script.version script.frames script.processors n z)) s
+    ∙ ap (λ (y : SizeSet). line_of_words (first_words script.version script.frames script.processors script.spaces y)) e)
 
 pub returns : goal.returns
 returns c =

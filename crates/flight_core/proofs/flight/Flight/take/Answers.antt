@@ -18,8 +18,8 @@ wants : (f : Flight) (page : ℕ) (want : Want) (kept : Kept) (st : SpaceState) 
     → WantsFrame (call_in f.purpose) kept page want
 wants f page want kept st is ready = subst (PhaseStands (call_in f.purpose) kept) is ready.found
 
-pub place-requires-clause-other : goal.place-requires-clause-other
-place-requires-clause-other g c κs within =
+pub map_page-requires-clause-other : goal.map_page-requires-clause-other
+map_page-requires-clause-other g c κs within =
     unused_elsewhere c.args.space.now c.args.pool.now c.in-Ok.taken.number c.requires.agree c.in-Ok.ensures.unused.1
 
 pub returns-in-Ok-clause-entry : goal.returns-in-Ok-clause-entry
@@ -39,14 +39,14 @@ returns-in-Ok-clause-entry g c =
       frames = c.args.pool.now;
     })
     (record {
-      space = c.place.new.self;
+      space = c.map_page.new.self;
       frames = c.take.new.self;
     }) c.requires.phase (c.number-own.ensures.number ∙ sym own) c.requires.agree c.requires.owns (record {
       taking = taken.0;
       takes = taken.1;
       number_is = c.number-frame.ensures ∙ taken.3;
       after_is = taken.2;
-      places = subst (Places c.args.space.now c.place.new.self c.args.page) taken.3 c.place.ensures;
+      places = subst (Places c.args.space.now c.map_page.new.self c.args.page) taken.3 c.map_page.ensures;
     }) st)
 
 pub returns-in-Err-clause-entry : goal.returns-in-Err-clause-entry
@@ -72,16 +72,16 @@ pub take-requires-clause-wanted : goal.take-requires-clause-wanted
 take-requires-clause-wanted g c =
     let ready = c.requires.ready in (wants c.args.self.now c.args.page c.args.want c.args.space.now ready.0 c.requires.phase ready.1).for_page
 
-pub place-requires-clause-absent : goal.place-requires-clause-absent
-place-requires-clause-absent g c κs within =
+pub map_page-requires-clause-absent : goal.map_page-requires-clause-absent
+map_page-requires-clause-absent g c κs within =
     let ready = c.requires.ready in (wants c.args.self.now c.args.page c.args.want c.args.space.now ready.0 c.requires.phase ready.1).lacks.absent
 
-pub place-requires-clause-page : goal.place-requires-clause-page
-place-requires-clause-page g c κs within =
+pub map_page-requires-clause-page : goal.map_page-requires-clause-page
+map_page-requires-clause-page g c κs within =
     let ready = c.requires.ready in (wants c.args.self.now c.args.page c.args.want c.args.space.now ready.0 c.requires.phase ready.1).lacks.lawful.in_space
 
-pub place-requires-clause-resting : goal.place-requires-clause-resting
-place-requires-clause-resting g c κs within =
+pub map_page-requires-clause-resting : goal.map_page-requires-clause-resting
+map_page-requires-clause-resting g c κs within =
     let ready = c.requires.ready in (wants c.args.self.now c.args.page c.args.want c.args.space.now ready.0 c.requires.phase ready.1).lacks.resting
 
 pub returns-in-Ok-clause-nearer : goal.returns-in-Ok-clause-nearer

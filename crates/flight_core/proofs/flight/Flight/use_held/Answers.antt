@@ -3,8 +3,8 @@ use Rattle.space_core.specs.Beginning.{Places}
 use Rattle.flight_core.proofs.HeldFrames.{wants_still, taken_known, taken_elsewhere, held_used}
 use Rattle.flight_core.proofs.flight.Flight.use_held.Goals as goal
 
-pub place-requires-clause-known : goal.place-requires-clause-known
-place-requires-clause-known g c κs within =
+pub map_page-requires-clause-known : goal.map_page-requires-clause-known
+map_page-requires-clause-known g c κs within =
     let taken = c.use_held-taken.ensures in
     let phase = c.requires.phase in
     let ready = c.requires.ready in
@@ -20,8 +20,8 @@ place-requires-clause-known g c κs within =
       takes = taken.1;
     }))
 
-pub place-requires-clause-other : goal.place-requires-clause-other
-place-requires-clause-other g c κs within = λ p is.
+pub map_page-requires-clause-other : goal.map_page-requires-clause-other
+map_page-requires-clause-other g c κs within = λ p is.
     let taken = c.use_held-taken.ensures in
     let phase = c.requires.phase in
     let ready = c.requires.ready in
@@ -54,12 +54,12 @@ returns-clause-entry g c =
       frames = c.args.pool.now;
     })
     (record {
-      space = c.place.new.self;
+      space = c.map_page.new.self;
       frames = c.use_held-taken.new.self;
     }) phase (c.number-own.ensures.number ∙ sym wants.0) c.requires.agree c.requires.owns (record {
       taking = taken.0;
       takes = taken.1;
       number_is = c.number-frame.ensures ∙ taken.3;
       after_is = taken.2;
-      places = subst (Places c.args.space.now c.place.new.self c.args.page) taken.3 c.place.ensures;
+      places = subst (Places c.args.space.now c.map_page.new.self c.args.page) taken.3 c.map_page.ensures;
     }) st)

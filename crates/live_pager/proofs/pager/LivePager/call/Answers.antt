@@ -1,5 +1,5 @@
 use Rattle.std.proofs.Common.{refl, ap, sym, ◌∙◌, ◌-◌}
-use Rattle.step_log.specs.declared.counted.Counted.{Counted}
+use Rattle.flight_core.specs.declared.counted.Counted.{Counted}
 use Rattle.live_pager.proofs.Pagers.{answers, call_in, counted, demoted, evicted, preempted, promoted, stands, tells}
 use Rattle.live_pager.proofs.pager.LivePager.call.Goals as goal
 

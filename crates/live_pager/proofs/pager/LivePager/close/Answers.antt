@@ -3,6 +3,6 @@ use Rattle.live_pager.specs.Live.{IsLive}
 use Rattle.live_pager.proofs.pager.LivePager.close.Goals as goal
 
 pub returns : goal.returns
-returns g c = λ plan stores calls h is.
-    let live = subst (IsLive plan stores calls h) (sym c.self.view_is) is in
-    c.stop.ensures plan stores calls h live.after
+returns g c = λ script stores calls h is.
+    let live = subst (IsLive script stores calls h) (sym c.self.view_is) is in
+    c.stop.ensures script stores calls h live.after

@@ -1,7 +1,7 @@
 use Rattle.std.proofs.Common.{◌≡◌, ◌+◌, length, map, sum, Some, rules, refl, ap, sym, subst, ◌∙◌, arith}
 use Rattle.std.specs.List.{All}
 use Rattle.std.proofs.lemmas.List.{with_items_is}
-use Rattle.lru_stack.specs.Stacks.{AreDistinct, Kept, Passes, found_at, kept_at, moved_down, place_of}
+use Rattle.lru_stack.specs.Stacks.{AreDistinct, Kept, Passes, found_at, kept_at, moved_down, position_of}
 use Rattle.lru_stack.proofs.DistinctTiles.{IsKept-used, distinct-fewer}
 use Rattle.lru_stack.proofs.StackLemmas.{kept_unused, kept_used}
 use Rattle.lru_stack.proofs.stack.Stack.step.Goals as goal
@@ -45,7 +45,7 @@ returns-in-Some-clause-after g c = λ was test told all.
     ∙ c.follow_use-place.ensures.after was test told (subst (All (Passes was)) (sym row) all)
     ∙ ap (λ ps. moved_down u.after (Some u.after) (map (kept_at test) ps)) row)
     (with_items_is before.found c.count.new.found (search rules) ∙ c.count.ensures.counted ∙ ap (found_at c.follow_use-place.result) counts
-    ∙ ap (λ place. found_at place now.found) (c.follow_use-place.ensures.found ∙ ap (place_of u.before) row))
+    ∙ ap (λ place. found_at place now.found) (c.follow_use-place.ensures.found ∙ ap (position_of u.before) row))
     (ap (λ (k : Kept). k.uses + 1) c.self.view_is)
 
 pub returns-in-None-clause-after : goal.returns-in-None-clause-after

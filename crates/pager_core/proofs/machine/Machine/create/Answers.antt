@@ -1,6 +1,6 @@
 use Rattle.std.proofs.Common.{◌≡◌, ◌≤◌, List, length, map, reverse, drop, take, replicate, None, ap, sym, subst, ◌∙◌, arith}
 use Rattle.std.proofs.Math.ListN.{length-map}
-use Rattle.pager_model.specs.Plans.{Plan}
+use Rattle.pager_model.specs.Scripts.{Script}
 use Rattle.pager_model.specs.Settings.{Given}
 use Rattle.pager_model.specs.Stored.{Stored}
 use Rattle.pager_model.specs.Stores.{setting_over, AreCapped}
@@ -15,17 +15,17 @@ use Rattle.pager_core.proofs.Stores.{length-rooms, as_long}
 use Rattle.pager_core.proofs.machine.Machine.create.Given.{Over}
 use Rattle.pager_core.proofs.machine.Machine.create.Goals as goal
 
-known : {P : Type 0} (seen : P → Stored) (plan : Plan) (stores : List P) → plan.spaces ≤ length stores
-    → plan.spaces ≤ length (map seen stores)
-known seen plan stores enough = (let many = length-map stores seen in omega (arith, many, enough))
+known : {P : Type 0} (seen : P → Stored) (script : Script) (stores : List P) → script.spaces ≤ length stores
+    → script.spaces ≤ length (map seen stores)
+known seen script stores enough = (let many = length-map stores seen in omega (arith, many, enough))
 
 -- a machine has a room for each space of its trace
-length-rooms_of : {P : Type 0} (seen : P → Stored) (plan : Plan) (stores : List P) (given : Given) (rooms : List Capacity)
-    → plan.spaces ≤ length stores → given ≡ setting_over plan (map seen stores)
-    → AreRoomsOver given (take plan.spaces (map seen stores)) rooms → length rooms ≡ plan.spaces
-length-rooms_of seen plan stores given rooms enough is over =
-    length-rooms given (take plan.spaces (map seen stores)) rooms over
-    ∙ length-told plan (map seen stores) (known seen plan stores enough) given is
+length-rooms_of : {P : Type 0} (seen : P → Stored) (script : Script) (stores : List P) (given : Given) (rooms : List Capacity)
+    → script.spaces ≤ length stores → given ≡ setting_over script (map seen stores)
+    → AreRoomsOver given (take script.spaces (map seen stores)) rooms → length rooms ≡ script.spaces
+length-rooms_of seen script stores given rooms enough is over =
+    length-rooms given (take script.spaces (map seen stores)) rooms over
+    ∙ length-told script (map seen stores) (known seen script stores enough) given is
 
 pub over-spaces-requires : goal.over-spaces-requires
 over-spaces-requires g c =

@@ -2,7 +2,7 @@ use Rattle.std.proofs.Common.{sym, ap, ◌∙◌}
 use Rattle.pager_model.specs.Settings.{mark_of}
 use Rattle.pager_core.specs.Running.{jobs_at, progress_by_flight}
 use Rattle.flight_core.proofs.NextFlights.{made_going}
-use Rattle.pager_core.proofs.WholeTurns.{flies_in, flight_read}
+use Rattle.pager_core.proofs.WholeAdvances.{flies_in, flight_read}
 use Rattle.pager_core.proofs.machine.Machine.done.Goals as goal
 
 pub returns-in-Some-clause-made : goal.returns-in-Some-clause-made

@@ -1,6 +1,6 @@
 use Rattle.std.proofs.Common.{arith}
 use Rattle.pager_core.proofs.ReadyFlights.{space_within}
-use Rattle.pager_core.proofs.WholeTurns.{flies_in, is_other, must_wait}
+use Rattle.pager_core.proofs.WholeAdvances.{flies_in, is_other, must_wait}
 use Rattle.pager_core.proofs.machine.Machine.must_wait.Goals as goal
 
 pub index-requires : goal.index-requires

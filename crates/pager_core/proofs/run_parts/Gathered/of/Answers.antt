@@ -3,7 +3,7 @@ use Rattle.std.proofs.Math.ListN.{length-map}
 use Rattle.pager_model.specs.declared.entry.Numbered.{Numbered}
 use Rattle.pager_model.specs.Legal.{entries_in}
 use Rattle.space_core.specs.Standing.{Kept}
-use Rattle.step_log.specs.Counting.{most_in_history}
+use Rattle.flight_core.specs.Counting.{most_in_history}
 use Rattle.pager_core.specs.RunParts.{AreAtRest}
 use Rattle.pager_core.proofs.run_parts.Gathered.of.Goals as goal
 

@@ -14,9 +14,9 @@ first seen stores n m same = sym (take-map seen n stores) ∙ ap (λ k. take k (
 
 pub returns-clause-setting : goal.returns-clause-setting
 returns-clause-setting g c =
-    let plan = c.args.trace.now in
-    let marks : c.as_slice.result.now ≡ marks_of plan = c.as_slice.ensures.value ∙ c.in_ok-marks.ensures in
-    let own = first g.S.Store.seen c.args.stores.now c.spaces-spaces.result plan.spaces c.spaces-spaces.ensures.spaces in
+    let script = c.args.trace.now in
+    let marks : c.as_slice.result.now ≡ marks_of script = c.as_slice.ensures.value ∙ c.in_ok-marks.ensures in
+    let own = first g.S.Store.seen c.args.stores.now c.spaces-spaces.result script.spaces c.spaces-spaces.ensures.spaces in
     IfOk-weaker c.create.result _ _
     (λ room is. is ∙ (λ i. given_over (c.frames.ensures.frames i) (c.sizes.ensures.sizes i) (marks i) (own i)))
     c.create.ensures.setting

@@ -8,7 +8,7 @@ use Rattle.pager_model.specs.SpaceStates.{empty_state}
 use Rattle.space_core.specs.Rooms.{Capacity}
 use Rattle.space_core.specs.Standing.{Kept, StandsFor}
 use Rattle.pager_core.specs.RunParts.{AreRoomsOver}
-use Rattle.pager_core.proofs.Stores.{in_order-more, first_used, left_over, are_new, turned_back, AreNew, AreNew-push}
+use Rattle.pager_core.proofs.Stores.{in_order-more, first_used, left_over, are_new, reversed_back, AreNew, AreNew-push}
 use Rattle.pager_core.proofs.run_parts.SpaceRooms.over.Given.{Over}
 use Rattle.pager_core.proofs.run_parts.SpaceRooms.over.Goals as goal
 
@@ -29,7 +29,7 @@ loop-room-init g c =
         subst (AreNew room) (sym none) (AreNew-none room),
       );
       stores =
-          sym (turned_back g.S.Store.seen c.args.stores.items left c.reverse.ensures.items)
+          sym (reversed_back g.S.Store.seen c.args.stores.items left c.reverse.ensures.items)
           ∙ ap (λ l. map (λ (k : Kept). k.store) l ++ map g.S.Store.seen (reverse left)) (sym none);
       enough = omega (arith, same_rooms, as_many, c.requires.enough);
       room = omega (arith, ap length none, c.self.invariant.2);

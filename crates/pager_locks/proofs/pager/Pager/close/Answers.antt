@@ -14,7 +14,8 @@ use Rattle.pager_core.specs.Running.{IsNumbered}
 use Rattle.pager_laws.proofs.KeptLaws.{KeepsLawsAllAlong-legal}
 use Rattle.pager_laws.proofs.OrderedRefusals.{IsNeverShort-legal}
 use Rattle.run_history.specs.Kept.{Kept}
-use Rattle.pager_locks.proofs.ClosedPagers.{journals_all, AreAtRest-closed, IsNumbered-closed, whole_at}
+use Rattle.pager_core.proofs.ShownReplays.{IsNumbered-closed}
+use Rattle.pager_locks.proofs.ClosedPagers.{journals_all, AreAtRest-closed, whole_at}
 use Rattle.pager_locks.proofs.Meetings.{few_numbered}
 use Rattle.pager_locks.proofs.pager.Pager.close.Given.{Over}
 use Rattle.pager_locks.proofs.pager.Pager.close.Goals as goal

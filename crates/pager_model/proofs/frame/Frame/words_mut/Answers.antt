@@ -29,28 +29,28 @@ pub returns : goal.returns
 returns c =
     let inside = c.if-is_empty.self-inside in
     let old = c.self.inside in
-    let filled : (length inside.room ≡ 1024) × (framed inside.number inside.room ≡ c.args.self.now) = elim c.if-is_empty.branch [
+    let filled : (length inside.chunk ≡ 1024) × (framed inside.number inside.chunk ≡ c.args.self.now) = elim c.if-is_empty.branch [
       | then-is_empty w ↦
-          let none = eqb-true (length old.room) 0 (sym w.if-is_empty.ensures) in
+          let none = eqb-true (length old.chunk) 0 (sym w.if-is_empty.ensures) in
           rw w.self-inside-is (
             ap length w.fill_zeros.ensures ∙ length-replicate {A = ℕ} 1024 0,
-            ap (framed old.number) (w.fill_zeros.ensures ∙ sym (empty_are_zeros old.room none)) ∙ c.self.view_is,
+            ap (framed old.number) (w.fill_zeros.ensures ∙ sym (empty_are_zeros old.chunk none)) ∙ c.self.view_is,
           )
       | else-is_empty w ↦
-          let lent : c.as_mut_slice.result.now ≡ old.room = c.as_mut_slice.ensures.words ∙ ap (λ i. i.room) w.self-inside-is in
-          let whole : length old.room ≡ 1024 = elim c.as_mut_slice.ensures.count [
-            | inl none ↦ absurd (true≢false (sym (eq-eqb (length old.room) 0 (ap length (sym lent ∙ none))) ∙ sym w.if-is_empty.ensures))
+          let lent : c.as_mut_slice.result.now ≡ old.chunk = c.as_mut_slice.ensures.words ∙ ap (λ i. i.chunk) w.self-inside-is in
+          let whole : length old.chunk ≡ 1024 = elim c.as_mut_slice.ensures.count [
+            | inl none ↦ absurd (true≢false (sym (eq-eqb (length old.chunk) 0 (ap length (sym lent ∙ none))) ∙ sym w.if-is_empty.ensures))
             | inr whole ↦ sym (ap length lent) ∙ whole
           ] in
-          rw w.self-inside-is (whole, ap (framed old.number) (sym (kept_are_kept old.room whole)) ∙ c.self.view_is)
+          rw w.self-inside-is (whole, ap (framed old.number) (sym (kept_are_kept old.chunk whole)) ∙ c.self.view_is)
     ] in
     let whole = filled.0 in
     let shown = filled.1 in (
       (
         refl,
         λ w.
-            ap (λ (n : ℕ). framed inside.number (words_or_zeros (take n (w ++ drop (length w) inside.room)))) whole
-            ∙ ap (framed inside.number) (kept_are_kept (take 1024 (w ++ drop (length w) inside.room)) (still_whole inside.room w whole))
+            ap (λ (n : ℕ). framed inside.number (words_or_zeros (take n (w ++ drop (length w) inside.chunk)))) whole
+            ∙ ap (framed inside.number) (kept_are_kept (take 1024 (w ++ drop (length w) inside.chunk)) (still_whole inside.chunk w whole))
             ∙ ap (λ (f : Framed). with_words f w) shown,
       ),
       record {

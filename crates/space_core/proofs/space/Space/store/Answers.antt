@@ -90,7 +90,7 @@ returns-then-found g c =
       };
       uses = record {
         mid = record old { frames = length u.frames; table = u };
-        turned = inr (record { sizes = writes.same.sizes; images = refl; promotions = refl; demotions = refl }, same);
+        changed = inr (record { sizes = writes.same.sizes; images = refl; promotions = refl; demotions = refl }, same);
         tile = c.args.found.tile;
         tile_is = tile_alike u.sizes t.sizes (mapping_in u) (mapping_in t) page writes.same.sizes same ∙ found.tile;
         touches = c.touch.ensures.touched;
@@ -118,7 +118,7 @@ returns g c =
       };
       uses = record {
         mid = c.follow.new.self;
-        turned = inl (rw c.follow.ensures
+        changed = inl (rw c.follow.ensures
             (retouched_by _ _ c.set_word-moves.result writes.same.sizes c.set_word-moves.ensures.moves refl refl refl));
         tile = c.in-Some.then.tile;
         tile_is = sym (rw (c.page_of-page.ensures.page, table) at c.in-Some.ensures.tile);

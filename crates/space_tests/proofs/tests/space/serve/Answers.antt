@@ -7,13 +7,13 @@ use Rattle.pager_model.proofs.SpaceEntries.{base-unnamed}
 use Rattle.space_tests.proofs.SpareFrames.{allowed_same, kept_others, popped, rest_spare, still_spare}
 use Rattle.space_tests.proofs.tests.space.serve.Goals as goal
 
-pub place-requires-clause-known : goal.place-requires-clause-known
-place-requires-clause-known g c κs =
+pub map_page-requires-clause-known : goal.map_page-requires-clause-known
+map_page-requires-clause-known g c κs =
     let last = popped _ _ _ c.requires.spare.lowest c.in-Some.ensures.items in
     omega (arith, last, c.requires.spare.few, ap (λ (k : Kept). k.frames) c.in-NeedsFrame.ensures.begins.same)
 
-pub place-requires-clause-other : goal.place-requires-clause-other
-place-requires-clause-other g c κs p has =
+pub map_page-requires-clause-other : goal.map_page-requires-clause-other
+map_page-requires-clause-other g c κs p has =
     let last = popped _ _ _ c.requires.spare.lowest c.in-Some.ensures.items in
     let was = ap (λ (k : Kept). frame_at k p) (sym c.in-NeedsFrame.ensures.begins.same) ∙ has in
     omega (arith, last, c.requires.spare.apart p _ was)
@@ -21,8 +21,8 @@ place-requires-clause-other g c κs p has =
 pub finish-requires-clause-allowed : goal.finish-requires-clause-allowed
 finish-requires-clause-allowed g c κs =
     let call = c.args.call.now in
-    allowed_same c.place.new.self c.read_in.new.self call c.in-Ok.ensures.read.same.same
-    ∙ allowed_same c.begin.new.self c.place.new.self call c.place.ensures.same ∙ ap (λ (k : Kept). is_allowed k call) c.in-NeedsFrame.ensures.begins.same
+    allowed_same c.map_page.new.self c.read_in.new.self call c.in-Ok.ensures.read.same.same
+    ∙ allowed_same c.begin.new.self c.map_page.new.self call c.map_page.ensures.same ∙ ap (λ (k : Kept). is_allowed k call) c.in-NeedsFrame.ensures.begins.same
     ∙ c.in-NeedsFrame.ensures.begins.needs.allowed
 
 pub returns-in-Answered-clause-spare : goal.returns-in-Answered-clause-spare
@@ -39,9 +39,9 @@ returns-in-Ok-clause-spare g c =
     let last = popped _ _ _ spare.lowest c.in-Some.ensures.items in
     let begun = c.in-NeedsFrame.ensures.begins.same in
     let stands : StandsFor c.begin.new.self spare.state = rw begun spare.stands in
-    let placed = c.place.ensures.stands spare.state 0 c.in-NeedsFrame.want stands in
+    let placed = c.map_page.ensures.stands spare.state 0 c.in-NeedsFrame.want stands in
     let read = c.in-Ok.ensures.read in
-    let same : (p : ℕ) → frame_at c.finish.new.self p ≡ frame_at c.place.new.self p = λ p. c.finish.ensures.same.frame p
+    let same : (p : ℕ) → frame_at c.finish.new.self p ≡ frame_at c.map_page.new.self p = λ p. c.finish.ensures.same.frame p
     ∙ read.same.frame p in
     record {
       resting = c.finish.ensures.resting;
@@ -50,7 +50,7 @@ returns-in-Ok-clause-spare g c =
         spare.processors,
         c.finish.ensures.same.same.processors,
         read.same.same.processors,
-        c.place.ensures.same.processors,
+        c.map_page.ensures.same.processors,
         ap (λ (k : Kept). length k.images) begun,
       );
       state = _;
@@ -62,16 +62,16 @@ returns-in-Ok-clause-spare g c =
         spare.few,
         c.finish.ensures.same.same.frames,
         read.same.same.frames,
-        c.place.ensures.same.frames,
+        c.map_page.ensures.same.frames,
         ap (λ (k : Kept). k.frames) begun,
       );
       apart = λ p number has. elim (cases_eq p c.in-NeedsFrame.page) [
-        | inl e ↦ omega (arith, last, same_Some _ _ (sym (same p ∙ ap (frame_at c.place.new.self) e ∙ c.place.ensures.resident) ∙ has))
+        | inl e ↦ omega (arith, last, same_Some _ _ (sym (same p ∙ ap (frame_at c.map_page.new.self) e ∙ c.map_page.ensures.resident) ∙ has))
         | inr n ↦ omega (
           arith,
           last,
           spare.apart p number
-              (sym (same p ∙ c.place.ensures.same_others p n ∙ ap (λ (k : Kept). frame_at k p) begun) ∙ has),
+              (sym (same p ∙ c.map_page.ensures.same_others p n ∙ ap (λ (k : Kept). frame_at k p) begun) ∙ has),
         )
       ];
     }
@@ -82,15 +82,15 @@ returns-in-Err-clause-spare g c =
     let last = popped _ _ _ spare.lowest c.in-Some.ensures.items in
     let begun = c.in-NeedsFrame.ensures.begins.same in
     let stands : StandsFor c.begin.new.self spare.state = rw begun spare.stands in
-    let placed = c.place.ensures.stands spare.state 0 c.in-NeedsFrame.want stands in
+    let placed = c.map_page.ensures.stands spare.state 0 c.in-NeedsFrame.want stands in
     let failed = c.in-Err.ensures.failed in
     let gave = c.remove.ensures.gave in
     still_spare c.args.space.now _ _ _ c.remove.ensures.resting (c.remove.ensures.stands _ (failed.stands _ placed 0) 0)
-    (gave.same.frames ∙ failed.same.same.frames ∙ c.place.ensures.same.frames ∙ ap (λ (k : Kept). k.frames) begun)
-    (gave.same.processors ∙ failed.same.same.processors ∙ c.place.ensures.same.processors ∙ ap (λ (k : Kept). length k.images) begun)
+    (gave.same.frames ∙ failed.same.same.frames ∙ c.map_page.ensures.same.frames ∙ ap (λ (k : Kept). k.frames) begun)
+    (gave.same.processors ∙ failed.same.same.processors ∙ c.map_page.ensures.same.processors ∙ ap (λ (k : Kept). length k.images) begun)
     (λ p number has. elim (cases_eq p c.in-NeedsFrame.page) [
       | inl e ↦ absurd (none-some number (sym gave.gone ∙ ap (frame_at c.remove.new.self) (sym e) ∙ has))
-      | inr n ↦ sym (gave.same_others p n ∙ failed.same.frame p ∙ c.place.ensures.same_others p n ∙ ap (λ (k : Kept). frame_at k p) begun)
+      | inr n ↦ sym (gave.same_others p n ∙ failed.same.frame p ∙ c.map_page.ensures.same_others p n ∙ ap (λ (k : Kept). frame_at k p) begun)
           ∙ has
     ])
     (rest_spare _ _ _ _ last spare)

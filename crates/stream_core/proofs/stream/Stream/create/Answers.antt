@@ -1,7 +1,7 @@
 use Rattle.std.proofs.Common.{◌≡◌, ◌≤◌, List, length, map, drop, take, refl, ap, sym, subst, ◌∙◌, arith}
 use Rattle.std.proofs.Math.ListN.{length-map}
 use Rattle.std.proofs.lemmas.List.{get_or-replicate}
-use Rattle.pager_model.specs.Plans.{Plan}
+use Rattle.pager_model.specs.Scripts.{Script}
 use Rattle.pager_model.specs.Settings.{Given}
 use Rattle.pager_model.specs.Stored.{Stored}
 use Rattle.pager_model.specs.Stores.{setting_over, AreCapped}
@@ -10,32 +10,32 @@ use Rattle.space_core.specs.Standing.{Kept}
 use Rattle.pager_core.specs.RunParts.{AreNewSpaces, AreRoomsOver}
 use Rattle.pager_core.proofs.StartMachines.{length-told}
 use Rattle.pager_core.proofs.Stores.{as_long, length-rooms}
-use Rattle.replay_core.proofs.RunLemmas.{told-over}
+use Rattle.pager_core.proofs.ShownReplays.{told-over}
 use Rattle.stream_core.proofs.Streams.{IsAfter-start}
 use Rattle.stream_core.proofs.stream.Stream.create.Goals as goal
 
-module _ {P : Type 0} (seen : P → Stored) (plan : Plan) (stores slice : List P) (same : slice ≡ stores) (enough : plan.spaces ≤ length stores)
-    (given : Given) (rooms : List Capacity) (is : given ≡ setting_over plan (map seen slice))
-    (over : AreRoomsOver given (take plan.spaces (map seen slice)) rooms) where
-  known : plan.spaces ≤ length (map seen stores)
+module _ {P : Type 0} (seen : P → Stored) (script : Script) (stores slice : List P) (same : slice ≡ stores) (enough : script.spaces ≤ length stores)
+    (given : Given) (rooms : List Capacity) (is : given ≡ setting_over script (map seen slice))
+    (over : AreRoomsOver given (take script.spaces (map seen slice)) rooms) where
+  known : script.spaces ≤ length (map seen stores)
   known = (let many = length-map stores seen in omega (arith, many, enough))
 
-  given_is : given ≡ setting_over plan (map seen stores)
-  given_is = is ∙ ap (λ l. setting_over plan (map seen l)) same
+  given_is : given ≡ setting_over script (map seen stores)
+  given_is = is ∙ ap (λ l. setting_over script (map seen l)) same
 
-  over_all : AreRoomsOver given (take plan.spaces (map seen stores)) rooms
-  over_all = subst (λ l. AreRoomsOver given (take plan.spaces (map seen l)) rooms) same over
+  over_all : AreRoomsOver given (take script.spaces (map seen stores)) rooms
+  over_all = subst (λ l. AreRoomsOver given (take script.spaces (map seen l)) rooms) same over
 
   -- there is a room for each space of the trace
-  many : length rooms ≡ plan.spaces
-  many = length-rooms given (take plan.spaces (map seen stores)) rooms over_all ∙ length-told plan (map seen stores) known given given_is
+  many : length rooms ≡ script.spaces
+  many = length-rooms given (take script.spaces (map seen stores)) rooms over_all ∙ length-told script (map seen stores) known given given_is
 
   over_own : AreRoomsOver given (take (length rooms) (map seen stores)) rooms
   over_own = subst (λ n. AreRoomsOver given (take n (map seen stores)) rooms) (sym many) over_all
 
   -- and as many spaces
-  count : (spaces : List Kept) → AreNewSpaces given spaces → length spaces ≡ plan.spaces
-  count spaces new = new.count ∙ length-told plan (map seen stores) known given given_is
+  count : (spaces : List Kept) → AreNewSpaces given spaces → length spaces ≡ script.spaces
+  count spaces new = new.count ∙ length-told script (map seen stores) known given given_is
 
 pub over-spaces-requires : goal.over-spaces-requires
 over-spaces-requires g c =

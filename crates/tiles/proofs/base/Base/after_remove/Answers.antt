@@ -7,18 +7,17 @@ use Rattle.tiles.proofs.base.Base.after_remove.Goals as goal
 
 pub returns-in_default-clause-maps : goal.returns-in_default-clause-maps
 returns-in_default-clause-maps g c =
-    let none : None ≡ mapping_at c.self.inside.pages c.args.page = rw c.in_default.is at c.find.ensures.mapping in
-    rw (← c.self.view_is) (maps_same c.args.page None c.self.inside.pages none)
+    let none : None ≡ mapping_at c.args.self.now c.args.page = rw c.in_default.is at c.find.ensures.mapping in
+    maps_same c.args.page None c.args.self.now none
 
 pub returns-in_default-clause-changes : goal.returns-in_default-clause-changes
 returns-in_default-clause-changes g c = c.none.ensures.changes c.args.self.now c.args.self.now (λ p. refl)
 
 pub returns-clause-changes : goal.returns-clause-changes
-returns-clause-changes g c = rw (← c.self.view_is)
-    (c.of.ensures.changes c.self.inside.pages c.remove-turn.new.self None c.remove-turn.ensures.maps c.remove-turn.ensures.turn)
+returns-clause-changes g c =
+    c.of.ensures.changes c.args.self.now c.remove-change.new.self None c.remove-change.ensures.maps c.remove-change.ensures.change
 
 pub returns-clause-frame : goal.returns-clause-frame
 returns-clause-frame g c =
-    rw (← c.self.view_is)
-    (c.of.ensures.frame ∙ ap (frame_within c.args.page) c.remove-turn.ensures.turn.before
-    ∙ frame_by_tile (mapping_at c.self.inside.pages) c.args.page)
+    c.of.ensures.frame ∙ ap (frame_within c.args.page) c.remove-change.ensures.change.before
+    ∙ frame_by_tile (mapping_at c.args.self.now) c.args.page

@@ -1,6 +1,5 @@
-use Rattle.std.proofs.Common.{◌-◌, subst, sym, ◌∙◌, arith}
-use Rattle.tiles.specs.Kept.{IsNextTile}
-use Rattle.tiles.specs.Resident.{mapping_at, NoneResident}
+use Rattle.std.proofs.Common.{◌-◌, sym, ◌∙◌, arith}
+use Rattle.tiles.specs.Resident.{mapping_at}
 use Rattle.tiles.proofs.Blocks.{protects_bare, protects_on}
 use Rattle.tiles.proofs.Looks.{count-further, count-part, has_page, next_resident, resident_is, still_resident}
 use Rattle.tiles.proofs.base.Base.after_rights_of_all.Goals as goal
@@ -8,7 +7,7 @@ use Rattle.tiles.proofs.base.Base.after_rights_of_all.Goals as goal
 pub loop-entry-preserved : goal.loop-entry-preserved
 loop-entry-preserved g c =
     let so_far = c.loop-entry.invariant in
-    let next = subst (λ r. IsNextTile r c.loop-entry.from c.args.end c.in-Some.entry) c.self.view_is c.in-Some.ensures.some in
+    let next = c.in-Some.ensures.some in
     let part = c.after_rights_of_part-from.ensures in
     let page = c.max-page.result in
     record {
@@ -37,7 +36,7 @@ pub returns-clause-protects : goal.returns-clause-protects
 returns-clause-protects g c =
     let so_far = c.loop-entry.invariant in
     protects_bare c.args.first c.loop-entry.from c.args.end c.args.rights c.args.self.now c.loop-entry.self so_far.within
-    (subst (λ r. NoneResident (mapping_at r) c.loop-entry.from c.args.end) c.self.view_is c.in_default.ensures.none) so_far.protects
+    c.in_default.ensures.none so_far.protects
 
 pub returns-clause-cost : goal.returns-clause-cost
 returns-clause-cost g c =

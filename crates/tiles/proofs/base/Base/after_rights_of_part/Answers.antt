@@ -3,7 +3,6 @@ use Rattle.pager_model.proofs.ExtentLemmas.{eight_pos}
 use Rattle.pager_model.specs.declared.region.Rights.{Rights}
 use Rattle.pager_model.specs.declared.tile.Mapping.{Mapping}
 use Rattle.tiles.specs.Blocks.{ProtectsTo}
-use Rattle.tiles.specs.Kept.{MapsExtent}
 use Rattle.tiles.specs.Resident.{with_rights}
 use Rattle.tiles.proofs.Blocks.{protects_part}
 use Rattle.tiles.proofs.base.Base.after_rights_of_part.Goals as goal
@@ -24,7 +23,7 @@ returns-clause-protects g c =
     let is = ap (λ m. with_rights c.args.rights m) c.mapping_of.ensures in
     subst (λ n. ProtectsTo c.args.page (c.args.page + n) c.args.rights c.args.self.now c.set.new.self) (sym c.pages.ensures)
     (protects_part c.largest_part-size.result c.args.page c.args.rights given c.args.entry c.args.self.now c.set.new.self c.requires.fits part.within part.first is
-    (subst (λ r. MapsExtent c.largest_part-size.result c.args.page given r c.set.new.self) c.self.view_is c.set.ensures.maps))
+    c.set.ensures.maps)
 
 pub returns-clause-within : goal.returns-clause-within
 returns-clause-within g c = omega (arith, c.pages.ensures, c.largest_part-size.ensures.last)

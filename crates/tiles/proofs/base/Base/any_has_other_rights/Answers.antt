@@ -1,6 +1,5 @@
-use Rattle.std.proofs.Common.{◌+◌, ◌*◌, ◌/◌, max, option_map, inl, inr, refl, ap, subst, sym, ◌∙◌, arith}
+use Rattle.std.proofs.Common.{◌+◌, ◌*◌, ◌/◌, max, option_map, inl, inr, refl, ap, sym, ◌∙◌, arith}
 use Rattle.std.proofs.lemmas.Bool.{cases_lt}
-use Rattle.tiles.specs.Kept.{IsNextTile}
 use Rattle.tiles.specs.Resident.{NoneResident, mapping_at, with_rights}
 use Rattle.tiles.proofs.Behind.{end_fits, keeps_within}
 use Rattle.tiles.proofs.Looks.{no_entry}
@@ -8,18 +7,14 @@ use Rattle.tiles.proofs.base.Base.any_has_other_rights.Goals as goal
 use Rattle.tiles.proofs.base.Base.any_has_other_rights.Goals.{In-Some}
 use Rattle.tiles.proofs.base.Base.any_has_other_rights.Given.{Over}
 
--- the entry in hand, by what is resident
-found : (g : Over) (c : In-Some g) → IsNextTile c.args.self.now c.loop-entry.from c.args.end c.in-Some.entry
-found g c = subst (λ r. IsNextTile r c.loop-entry.from c.args.end c.in-Some.entry) c.self.view_is c.in-Some.ensures.some
-
--- some page is resident then
+-- some page is resident where there is an entry in hand
 not_bare : (g : Over) (c : In-Some g)
     → NoneResident (mapping_at c.args.self.now) (c.args.first / 512 * 512) ((c.args.end + 511) / 512 * 512) → ⊥
 not_bare g c = no_entry c.args.self.now c.loop-entry.from c.args.end (c.args.first / 512 * 512) ((c.args.end + 511) / 512 * 512) c.in-Some.entry
-    (found g c) (omega (arith, c.loop-entry.invariant.from_on)) (omega arith)
+    c.in-Some.ensures.some (omega (arith, c.loop-entry.invariant.from_on)) (omega arith)
 
 pub behind-from-requires : goal.behind-from-requires
-behind-from-requires g c = end_fits c.self.inside.pages _ c.in-Some.entry c.in-Some.ensures.some.fits
+behind-from-requires g c = end_fits c.args.self.now _ c.in-Some.entry c.in-Some.ensures.some.fits
 
 pub loop-entry-smaller : goal.loop-entry-smaller
 loop-entry-smaller g c =
@@ -31,8 +26,7 @@ loop-entry-preserved g c =
     let pages = mapping_at c.args.self.now in
     let rights = c.args.rights in
     let e = c.in-Some.entry in
-    let here = (goal.at.loop-entry-preserved g c).In-Some in
-    let next = found g here in
+    let next = c.in-Some.ensures.some in
     let same = c.has_other_rights.ensures.same c.if-has_other_rights.false in
     record {
       from_on = omega (arith, c.loop-entry.invariant.from_on, c.behind-from.ensures, next.fits.to);
@@ -51,7 +45,7 @@ loop-entry-preserved g c =
         next.fits.to,
         next.next.before_end,
       );
-      bare = λ none. absurd (not_bare g here none);
+      bare = λ none. absurd (not_bare g (goal.at.loop-entry-preserved g c).In-Some none);
     }
 
 pub returns-then-has_other_rights-clause-cost : goal.returns-then-has_other_rights-clause-cost
@@ -68,5 +62,5 @@ pub returns-clause-bare : goal.returns-clause-bare
 returns-clause-bare g c none =
     let begun = c.loop-entry.invariant.bare none in
     let looked = c.in_default.ensures.bare (omega (arith, begun.0, c.requires.range))
-    (λ p low high. rw c.self.view_is (none p (omega (arith, low, begun.0)) high)) in
+    (λ p low high. none p (omega (arith, low, begun.0)) high) in
     (refl, omega (arith, looked, begun.0, begun.1))

@@ -1,7 +1,7 @@
 use Rattle.std.proofs.Common.{◌≡◌, ◌+◌, ◌^◌, ◌<◌, ◌∙◌, ℕ, slice_index, sym, ap, inl, inr, arith}
 use Rattle.std.proofs.lemmas.Bool.{cases_eq}
 use Rattle.std.proofs.lemmas.List.{get_or-set_other, get_or-set_same, length-set}
-use Rattle.page_map.proofs.CountChanges.{are_four}
+use Rattle.tiles.proofs.CountChanges.{are_four}
 use Rattle.pager_model.specs.SizeSets.{size_within}
 use Rattle.tiles.specs.Resident.{mapping_at}
 use Rattle.tiles.proofs.CutCounts.{counted_all, counted_below, counted_few, counted_none, counted_other, parts_more, zeros}
@@ -21,10 +21,10 @@ overflow_mul-counts c =
     let size = c.within-within.result in
     omega (
       arith,
-      parts_more z pages c.counts-whole.result level size c.pages.result c.pages-in-loop-level.result c.loop-level-test.true
+      parts_more z pages c.uncut_counts-whole.result level size c.pages.result c.pages-in-loop-level.result c.loop-level-test.true
           (c.within-within.ensures ∙ ap (size_within z) c.at_level-size.ensures)
           (c.pages.ensures ∙ ap (λ n. 8 ^ n) c.at_level-size.ensures) c.pages-in-loop-level.ensures
-          (rw c.self.view_is at c.counts-whole.ensures),
+          c.uncut_counts-whole.ensures,
       counted_few z pages size (level + 1),
     )
 
@@ -36,10 +36,10 @@ overflow_add-counts c =
     let size = c.level.result in
     omega (
       arith,
-      parts_more z pages c.counts-whole.result level size c.pages.result c.pages-in-loop-level.result c.loop-level-test.true
+      parts_more z pages c.uncut_counts-whole.result level size c.pages.result c.pages-in-loop-level.result c.loop-level-test.true
           (c.level.ensures.level ∙ c.within-within.ensures ∙ ap (size_within z) c.at_level-size.ensures)
           (c.pages.ensures ∙ ap (λ n. 8 ^ n) c.at_level-size.ensures)
-          (c.pages-in-loop-level.ensures ∙ ap (λ n. 8 ^ n) (sym c.level.ensures.level)) (rw c.self.view_is at c.counts-whole.ensures),
+          (c.pages-in-loop-level.ensures ∙ ap (λ n. 8 ^ n) (sym c.level.ensures.level)) c.uncut_counts-whole.ensures,
       counted_few z pages size (level + 1),
       c.loop-level.invariant.at size (omega (arith, c.level.ensures.small)),
     )
@@ -60,10 +60,10 @@ loop-level-preserved c =
             ∙ omega (
               arith,
               c.loop-level.invariant.at within (omega (arith, c.level.ensures.small)),
-              parts_more z pages c.counts-whole.result level within c.pages.result c.pages-in-loop-level.result c.loop-level-test.true own
+              parts_more z pages c.uncut_counts-whole.result level within c.pages.result c.pages-in-loop-level.result c.loop-level-test.true own
                   (c.pages.ensures ∙ ap (λ n. 8 ^ n) c.at_level-size.ensures)
                   (c.pages-in-loop-level.ensures ∙ ap (λ n. 8 ^ n) (sym c.level.ensures.level))
-                  (rw c.self.view_is at c.counts-whole.ensures),
+                  c.uncut_counts-whole.ensures,
               ap (λ n. counted_below z pages n (level + 1)) same,
             )
         | inr apart ↦

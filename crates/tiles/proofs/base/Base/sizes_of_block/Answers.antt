@@ -1,17 +1,15 @@
-use Rattle.std.proofs.Common.{◌≡◌, ◌+◌, ◌-◌, ◌*◌, ◌<◌, ◌≤◌, ◌&&◌, ◌∙◌, Some, ap, ap₂, inl, inr, nat_le, nat_lt, if◌then◌else◌, slice_index, ℕ, subst, sym, arith}
+use Rattle.std.proofs.Common.{◌≡◌, ◌+◌, ◌-◌, ◌*◌, ◌<◌, ◌≤◌, ◌&&◌, ◌∙◌, Some, ap, ap₂, inl, inr, nat_le, nat_lt, if◌then◌else◌, slice_index, ℕ, sym, arith}
 use Rattle.std.specs.Int.{div_ceil}
 use Rattle.std.proofs.lemmas.Bool.{cases_lt}
 use Rattle.std.proofs.lemmas.Bool.Decides.{nat_tests}
 use Rattle.pager_model.proofs.Lists.{get_or-alike}
-use Rattle.page_map.specs.Entries.{tile_of_entry}
+use Rattle.tiles.specs.TableEntries.{tile_of_entry}
 use Rattle.pager_model.specs.Tiles.{tile_of}
-use Rattle.tiles.specs.Kept.{IsNextTile}
-use Rattle.tiles.specs.Resident.{mapping_at, NoneResident}
+use Rattle.tiles.specs.Resident.{mapping_at}
 use Rattle.tiles.specs.Sized.{size_by}
 use Rattle.tiles.proofs.Begun.{size_there}
 use Rattle.tiles.proofs.SizedTiles.{by_absent, by_small}
 use Rattle.tiles.proofs.base.Base.sizes_of_block.Goals as goal
-use Rattle.tiles.proofs.base.Base.sizes_of_block.Given.{Over}
 
 pub loop-entry-init : goal.loop-entry-init
 loop-entry-init g c = record {
@@ -20,10 +18,6 @@ loop-entry-init g c = record {
   at = λ i low. get_or-alike 64 i 0 ∙ grind (arith, nat_tests);
   cost = omega arith;
 }
-
--- the entry in hand, by what is resident
-found : (g : Over) (c : goal.After-set_places g) → IsNextTile c.args.self.now c.loop-entry.from (c.args.block * 512 + 512) c.in-Some.entry
-found g c = subst (λ r. IsNextTile r c.loop-entry.from (c.args.block * 512 + 512) c.in-Some.entry) c.self.view_is c.in-Some.ensures.some
 
 -- which places are of pages from one on, before one, and before a place
 is_begun : (first page i : ℕ) → nat_le (div_ceil (page - first) 8) i ≡ nat_le page (first + 8 * i)
@@ -54,7 +48,7 @@ loop-entry-preserved g c =
     let z = c.args.sizes in
     let pages = mapping_at c.args.self.now in
     let so_far = c.loop-entry.invariant in
-    let next = found g c in
+    let next = c.in-Some.ensures.some in
     let page = c.max.result in
     let end = c.min.result in
     let begins = c.max.ensures in
@@ -94,11 +88,9 @@ pub returns-clause-sizes : goal.returns-clause-sizes
 returns-clause-sizes g c i low =
     let pages = mapping_at c.args.self.now in
     let q = c.args.block * 512 + 8 * i in
-    let none = subst (λ r. NoneResident (mapping_at r) c.loop-entry.from
-    (c.args.block * 512 + 512)) c.self.view_is c.in_default.ensures.none in
     c.loop-entry.invariant.at i low ∙ elim (cases_lt q c.loop-entry.from) [
       | inl before ↦ grind (arith, nat_tests)
-      | inr on ↦ grind (arith, nat_tests, by_absent c.args.sizes pages q (none q on (omega arith)))
+      | inr on ↦ grind (arith, nat_tests, by_absent c.args.sizes pages q (c.in_default.ensures.none q on (omega arith)))
     ]
 
 pub returns-clause-small : goal.returns-clause-small

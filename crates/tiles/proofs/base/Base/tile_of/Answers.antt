@@ -6,14 +6,11 @@ use Rattle.tiles.proofs.base.Base.tile_of.Goals as goal
 
 pub returns-in_err-entry : goal.returns-in_err-entry
 returns-in_err-entry c =
-    rw (← c.self.view_is)
-    (c.from_residual.ensures ∙ sym (tile_in-cut c.args.sizes (mapping_at c.self.inside.pages) c.args.page
-    ∙ ap (option_map (cut_to c.args.sizes c.args.page)) (sym c.in_err-entry.ensures.tile)))
+    c.from_residual.ensures ∙ sym (tile_in-cut c.args.sizes (mapping_at c.args.self.now) c.args.page
+    ∙ ap (option_map (cut_to c.args.sizes c.args.page)) (sym c.in_err-entry.ensures.tile))
 
 pub returns : goal.returns
 returns c =
-    rw (← c.self.view_is) (
     ap Some c.cut_to.ensures ∙ ap (λ t. Some (cut_to c.args.sizes c.args.page t)) c.tile.ensures
-    ∙ sym (tile_in-cut c.args.sizes (mapping_at c.self.inside.pages) c.args.page
+    ∙ sym (tile_in-cut c.args.sizes (mapping_at c.args.self.now) c.args.page
     ∙ ap (option_map (cut_to c.args.sizes c.args.page)) (sym c.in_ok-entry.ensures.tile))
-    )

@@ -1,7 +1,6 @@
 use Rattle.std.proofs.Common.{◌≡◌, ◌+◌, ◌-◌, ◌≤◌, ◌∙◌, Some, sym, ap, subst, arith}
-use Rattle.page_map.specs.Entries.{tile_of_entry}
+use Rattle.tiles.specs.TableEntries.{tile_of_entry}
 use Rattle.pager_model.specs.Tiles.{tile_of}
-use Rattle.tiles.specs.Kept.{IsNextTile}
 use Rattle.tiles.specs.Resident.{mapping_at, NoneResident}
 use Rattle.tiles.specs.Sized.{begins_large_in}
 use Rattle.tiles.proofs.Begun.{bare_begun, begun_on}
@@ -18,13 +17,9 @@ loop-entry-init c =
       counted = sym (ap (count f c.args.first) {x = c.args.first - c.args.first} {y = 0} (omega arith) ∙ count-zero f c.args.first);
     }
 
--- the entry in hand, by what is resident
-found : (c : goal.After-large_begun-count) → IsNextTile c.args.self.now c.loop-entry.from (c.args.first + c.args.length) c.in-Some.entry
-found c = subst (λ r. IsNextTile r c.loop-entry.from (c.args.first + c.args.length) c.in-Some.entry) c.self.view_is c.in-Some.ensures.some
-
 page_in : (c : goal.After-large_begun-count) → (c.max-page.result ≤ c.min-from.result) × (c.loop-entry.from ≤ c.max-page.result)
 page_in c =
-    let next = found c in (
+    let next = c.in-Some.ensures.some in (
       omega (arith, c.max-page.ensures, c.min-from.ensures, c.behind.ensures, next.fits.to, next.next.before_end),
       omega (arith, c.max-page.ensures),
     )
@@ -37,7 +32,7 @@ one_more : (c : goal.After-large_begun-count)
 one_more c =
     let pages = mapping_at c.args.self.now in
     let e = c.in-Some.entry in
-    let next = found c in
+    let next = c.in-Some.ensures.some in
     let there : tile_of pages c.max-page.result ≡ Some (tile_of_entry e) = ap (tile_of pages) c.max-page.ensures ∙ next.tile in
     let bare = subst (λ p. NoneResident pages c.loop-entry.from p) (sym c.max-page.ensures) next.lowest in
     begun_on c.args.sizes pages c.max-page.result c.min-from.result (tile_of_entry e) there (page_in c).0
@@ -65,8 +60,7 @@ returns c =
     let f = begins_large_in c.args.sizes pages in
     let so_far = c.loop-entry.invariant in
     let end = c.args.first + c.args.length in
-    let bare = bare_begun c.args.sizes pages c.loop-entry.from end (subst
-    (λ r. NoneResident (mapping_at r) c.loop-entry.from end) c.self.view_is c.in_default.ensures.none) so_far.within in
+    let bare = bare_begun c.args.sizes pages c.loop-entry.from end c.in_default.ensures.none so_far.within in
     omega (
       arith,
       so_far.counted,

@@ -7,16 +7,12 @@ use Rattle.tiles.proofs.base.Base.translate.Goals as goal
 
 pub returns-in_err-entry-clause-tile : goal.returns-in_err-entry-clause-tile
 returns-in_err-entry-clause-tile c =
-    rw (← c.self.view_is) (
     ap (option_map (λ (t : Translation). t.tile)) c.from_residual.ensures
-    ∙ sym (tile_in-cut c.args.sizes (mapping_at c.self.inside.pages) c.args.page
+    ∙ sym (tile_in-cut c.args.sizes (mapping_at c.args.self.now) c.args.page
     ∙ ap (option_map (cut_to c.args.sizes c.args.page)) (sym c.in_err-entry.ensures.tile))
-    )
 
 pub returns-clause-tile : goal.returns-clause-tile
 returns-clause-tile c =
-    rw (← c.self.view_is) (
     ap Some c.cut_to.ensures ∙ ap (λ t. Some (cut_to c.args.sizes c.args.page t)) c.tile.ensures
-    ∙ sym (tile_in-cut c.args.sizes (mapping_at c.self.inside.pages) c.args.page
+    ∙ sym (tile_in-cut c.args.sizes (mapping_at c.args.self.now) c.args.page
     ∙ ap (option_map (cut_to c.args.sizes c.args.page)) (sym c.in_ok-entry.ensures.tile))
-    )

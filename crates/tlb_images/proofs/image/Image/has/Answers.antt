@@ -6,5 +6,5 @@ use Rattle.tlb_images.proofs.image.Image.has.Goals as goal
 
 pub returns-in-Some : goal.returns-in-Some
 returns-in-Some c =
-    c.is_some.ensures ∙ ap is_some c.place_of.ensures.value ∙ is_some-position (same_tile c.in-Some.tile) c.args.self.now
+    c.is_some.ensures ∙ ap is_some c.position_of.ensures.value ∙ is_some-position (same_tile c.in-Some.tile) c.args.self.now
     ∙ ap (is_in_image c.args.self.now) (sym c.in-Some.is)

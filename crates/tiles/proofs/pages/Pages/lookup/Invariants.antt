@@ -1,4 +1,0 @@
-use Rattle.tiles.proofs.pages.Pages.lookup.Given as goal
-
-abbrev pub ghosts-lookup : goal.ghosts-lookup
-ghosts-lookup a = record { name = a.blank.name; parts = a.blank.parts }

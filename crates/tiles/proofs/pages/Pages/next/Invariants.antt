@@ -1,4 +1,0 @@
-use Rattle.tiles.proofs.pages.Pages.next.Given as goal
-
-abbrev pub ghosts-next : goal.ghosts-next
-ghosts-next a = record { name = a.blank.name; parts = a.blank.parts }

@@ -1,3 +1,0 @@
-pub mod Loans
-pub mod Ownership
-pub mod Rooms
