@@ -9,6 +9,8 @@ use Rattle.std.proofs.lemmas.Option.{none-some}
 use Rattle.pager_model.specs.declared.reservation.Used.{Used}
 use Rattle.pager_model.specs.FrameStates.{FrameState, used_at, held_by, claim_in, HasNothing}
 use Rattle.pager_model.proofs.Options.{none_from_is_some}
+use Rattle.pager_laws.specs.Laid.{IsSound}
+use Rattle.frame_table.specs.Claims.{IsClaimOf}
 use Rattle.frame_table.specs.Refusals.{is_number, claims_any, holds_any}
 
 -- what any passes, one passes
@@ -57,3 +59,8 @@ pub is_claimed_by : (st : FrameState) (c : ℕ) (o : Option ℕ) → IfSome o (�
     → IfNone o ((frame : ℕ) → claim_in (used_at st frame) ≡ Some c → ⊥) → is_some o ≡ claims_any st c
 is_claimed_by st c None found none = sym (claims_any-none st c none)
 is_claimed_by st c (Some frame) found none = sym (claims_any-from st c frame found)
+
+-- in a sound state a frame that a processor claims is its only one
+pub IsClaimOf-sound : (frames processors : ℕ) (st : FrameState) (c frame : ℕ) → IsSound frames processors st
+    → claim_in (used_at st frame) ≡ Some c → IsClaimOf st c frame
+IsClaimOf-sound frames processors st c frame sound is = record { claims = is; alone = λ other also. sound.claims_once other frame c also is }

@@ -56,6 +56,10 @@ take_refusal st space page want =
     if is_counted st then Some Counted else (
     if is_full (layout_of st) then Some Full else None)))
 
+-- what asks for the size that a page prefers
+abbrev pub want_refusal : ℕ → ℕ → Want → Option Refusal
+want_refusal space page want = if not (is_wanted space page want) then Some Range else None
+
 -- what asks for a page's frame
 abbrev pub page_refusal : FrameState → ℕ → ℕ → Option Refusal
 page_refusal st space page =

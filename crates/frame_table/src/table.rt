@@ -1,13 +1,16 @@
 ghost use Rattle.std.specs.Prelude.{◌≡◌, ℕ, ◌&&◌, nat_lt, nat_le, if◌then◌else◌, Some, None, true, false, replicate, length, slice_set, ◌<◌, IfOk, IfErr, IfSome, IfNone, is_some};
 ghost use Rattle.std.specs.Result.{result_err};
-ghost use Rattle.pager_model.specs.FrameStates.{Taking, start_frames, used_at, held_by, frame_of, claim_in, take_frame, counted, give_page, claimed, pin_range, lowest_claimed, dropped, IsVictim};
+ghost use Rattle.pager_model.specs.FrameStates.{Taking, start_frames, layout_of, used_at, held_by, frame_of, claim_in, take_frame, counted, give_page, claimed, pin_range, lowest_claimed, dropped, IsVictim};
 ghost use Rattle.pager_model.specs.FrameStates.{free_count, used_count, reserved_count, wired_count, claimed_count, held_count};
-ghost use Rattle.frame_table.specs.Refusals.{is_setting, is_wanted, is_page, is_range, is_processor, holds_any, claims_any, take_refusal, page_refusal, claim_refusal, unclaim_refusal, collect_refusal, drop_refusal, use_refusal, pin_refusal};
+ghost use Rattle.pager_model.specs.Layouts.{preferred_in};
+ghost use Rattle.frame_table.specs.Claims.{IsClaimOf};
+ghost use Rattle.frame_table.specs.Refusals.{is_setting, is_wanted, is_page, is_range, is_processor, holds_any, claims_any};
+ghost use Rattle.frame_table.specs.Refusals.{want_refusal, take_refusal, page_refusal, claim_refusal, unclaim_refusal, collect_refusal, drop_refusal, use_refusal, pin_refusal};
 
 use crate::refusal::Refusal;
 use frame_pool::{Counts, Kept, Pool};
 use pager_model::{
-    Frame, MOST_ACTORS, MOST_FRAMES, MOST_SPACES, NoMemory, PAGES, Sizes, Victim, Want,
+    Frame, MOST_ACTORS, MOST_FRAMES, MOST_SPACES, NoMemory, PAGES, Size, Sizes, Victim, Want,
 };
 use std::alloc::Global;
 use std::marker::Model;
@@ -63,6 +66,17 @@ impl FrameTable {
             Ok(table) => Ok(table),
             Err(NoMemory) => Err(Refusal::NoMemory),
         }
+    }
+
+    /// The size that a new reservation round the page is tried with first, before frames are looked at.
+    pub fn preferred(&self, space: u32, page: u32, want: &Want) -> Result<Size, Refusal>
+        ensures refused { result_err result ≡ want_refusal space page want.now }
+        ensures preferred { IfOk result (λ size. size ≡ preferred_in (layout_of self.now) space page want.now) }
+    {
+        if !is_wanted(space, page, want) {
+            return Err(Refusal::Range);
+        }
+        Ok(self.pool.preferred(space, page, want))
     }
 
     /// A page that has no frame gets one. Answers its number.
@@ -149,7 +163,7 @@ impl FrameTable {
     /// The frame that a processor claims is claimed no more. Answers its number.
     pub fn unclaim(&mut self, processor: u32) -> Result<u32, Refusal>
         ensures refused { result_err result ≡ unclaim_refusal self.old processor }
-        ensures frame { IfOk result (λ frame. claim_in (used_at self.old frame) ≡ Some processor) }
+        ensures frame { IfOk result (IsClaimOf self.old processor) }
         ensures unclaimed { IfOk result (λ frame. self.new ≡ counted (claimed self.old frame None)) }
         ensures same { IfErr result (λ _. self.new ≡ self.old) }
     {
@@ -168,8 +182,9 @@ impl FrameTable {
     /// What became of the frame that a processor claimed.
     pub fn collect(&self, processor: u32) -> Result<Collected, Refusal>
         ensures refused { result_err result ≡ collect_refusal self.now processor }
+        ensures is_held { IfOk result (λ c. c.is_held ≡ holds_any self.now processor) }
         ensures held { IfOk result (λ c. c.is_held ≡ true → held_by self.now processor ≡ Some c.frame) }
-        ensures claimed { IfOk result (λ c. c.is_held ≡ false → claim_in (used_at self.now c.frame) ≡ Some processor) }
+        ensures claimed { IfOk result (λ c. c.is_held ≡ false → IsClaimOf self.now processor c.frame) }
     {
         if !self.has_processor(processor) {
             return Err(Refusal::Range);

@@ -3,12 +3,12 @@
 ghost use Rattle.std.specs.Prelude.{◌≡◌, Some, IfOk, IfErr, IfSome, IfNone, if◌then◌else◌};
 ghost use Rattle.std.specs.Result.{result_err};
 ghost use Rattle.superpager_c.specs.Statuses.{status_of};
-ghost use Rattle.superpager_c.specs.Answers.{claimer_in, refused_frame, refused_give, refused_claim, refused_collect, refused_pin, refused_counts};
+ghost use Rattle.superpager_c.specs.Answers.{given_answer, refused_frame, refused_size, refused_give, refused_claim, refused_collect, refused_pin, refused_counts};
 
 use crate::status::{CLAIMED, CLOSED, DONE, status_of};
 use frame_pool::{Counts, Kept};
 use frame_table::{Collected, Given, Refusal};
-use pager_model::Victim;
+use pager_model::{Size, Victim};
 
 /// A frame.
 #[repr(C)]
@@ -48,6 +48,44 @@ impl FrameAnswer {
     }
 }
 
+/// A size, by its level: 0 to 3, of 1, 8, 64 or 512 pages.
+#[repr(C)]
+#[derive(Clone, Copy)]
+pub struct SizeAnswer {
+    pub status: u32,
+    pub size: u32,
+}
+
+impl SizeAnswer {
+    /// The pool is closed.
+    pub(crate) fn closed() -> SizeAnswer
+        ensures { result ≡ refused_size 1 }
+    {
+        SizeAnswer {
+            status: CLOSED,
+            size: 0,
+        }
+    }
+
+    /// The answer of a pool that is open.
+    pub(crate) fn of(answer: Result<Size, Refusal>) -> SizeAnswer
+        ensures status { result.status ≡ status_of (result_err answer) }
+        ensures size { IfOk answer (λ size. result.size ≡ size) }
+        ensures none { IfErr answer (λ _. result ≡ refused_size result.status) }
+    {
+        match answer {
+            Ok(size) => SizeAnswer {
+                status: DONE,
+                size: u32::from(size.level()),
+            },
+            Err(why) => SizeAnswer {
+                status: status_of(why),
+                size: 0,
+            },
+        }
+    }
+}
+
 /// The frame that a page gave up, and the processor that claimed it and holds it now, where `is_held` is 1.
 #[repr(C)]
 #[derive(Clone, Copy)]
@@ -74,7 +112,7 @@ impl GiveAnswer {
     /// The answer of a pool that is open.
     pub(crate) fn of(answer: Result<Given, Refusal>) -> GiveAnswer
         ensures status { result.status ≡ status_of (result_err answer) }
-        ensures given { IfOk answer (λ given. (result.frame ≡ given.frame) × (claimer_in result ≡ given.claimer)) }
+        ensures given { IfOk answer (λ given. result ≡ given_answer given.frame given.claimer) }
         ensures none { IfErr answer (λ _. result ≡ refused_give result.status) }
     {
         match answer {

@@ -1,12 +1,13 @@
 //! What is asked for pages.
 
 ghost use Rattle.std.specs.Prelude.{ℕ, ◌≡◌, ◌≢◌, Some, None, true, false, not, ◌==◌, IfSome};
-ghost use Rattle.pager_model.specs.FrameStates.{Taking, used_at, frame_of, claim_in, take_frame, counted, give_page, pin_range, lowest_claimed};
-ghost use Rattle.frame_table.specs.Refusals.{take_refusal, page_refusal, pin_refusal};
+ghost use Rattle.pager_model.specs.FrameStates.{Taking, layout_of, used_at, frame_of, claim_in, take_frame, counted, give_page, pin_range, lowest_claimed};
+ghost use Rattle.pager_model.specs.Layouts.{preferred_in};
+ghost use Rattle.frame_table.specs.Refusals.{want_refusal, take_refusal, page_refusal, pin_refusal};
 ghost use Rattle.superpager_c.specs.Statuses.{status_on, pin_status, want_of};
-ghost use Rattle.superpager_c.specs.Answers.{claimer_in, refused_frame, refused_give, refused_pin};
+ghost use Rattle.superpager_c.specs.Answers.{given_answer, refused_frame, refused_size, refused_give, refused_pin};
 
-use crate::answers::{FrameAnswer, GiveAnswer, PinAnswer};
+use crate::answers::{FrameAnswer, GiveAnswer, PinAnswer, SizeAnswer};
 use crate::asked::PageWant;
 use crate::handle::Superpager;
 use std::alloc::Global;
@@ -31,6 +32,29 @@ pub extern "C" fn superpager_take(
     let taken = table.take(space, page, &want.want());
     pool.put_in(table);
     FrameAnswer::of(taken)
+}
+
+/// The size that a new reservation round the page is tried with first, before frames are looked at.
+#[unsafe(no_mangle)]
+pub extern "C" fn superpager_preferred(
+    alloc: Global,
+    pool: &mut Superpager,
+    space: u32,
+    page: u32,
+    want: PageWant,
+) -> SizeAnswer
+    ensures status { result.status ≡ status_on pool.old.kept.state (λ st. want_refusal space page (want_of want)) }
+    ensures preferred { result.status ≡ 0
+        → IfSome pool.old.kept.state (λ st. result.size ≡ preferred_in (layout_of st) space page (want_of want)) }
+    ensures none { result.status ≢ 0 → result ≡ refused_size result.status }
+    ensures same { pool.new.kept.state ≡ pool.old.kept.state }
+{
+    let Some(table) = pool.take_out(alloc) else {
+        return SizeAnswer::closed();
+    };
+    let preferred = table.preferred(space, page, &want.want());
+    pool.put_in(table);
+    SizeAnswer::of(preferred)
 }
 
 /// The frame of a page.
@@ -64,7 +88,7 @@ pub extern "C" fn superpager_give(
 ) -> GiveAnswer
     ensures status { result.status ≡ status_on pool.old.kept.state (λ st. page_refusal st space page) }
     ensures given { result.status ≡ 0 → IfSome pool.old.kept.state (λ st. (frame_of st space page ≡ Some result.frame)
-        × (claimer_in result ≡ claim_in (used_at st result.frame)) × (pool.new.kept.state ≡ Some (give_page st space page))) }
+        × (result ≡ given_answer result.frame (claim_in (used_at st result.frame))) × (pool.new.kept.state ≡ Some (give_page st space page))) }
     ensures same { result.status ≢ 0 → (pool.new.kept.state ≡ pool.old.kept.state) × (result ≡ refused_give result.status) }
 {
     let Some(mut table) = pool.take_out(alloc) else {
@@ -90,8 +114,8 @@ pub extern "C" fn superpager_pin(
         (λ st. pool.new.kept.state ≡ Some (counted (pin_range st space first length (not (wired == 0))))) }
     ensures kept { result.status ≡ 11 → IfSome pool.old.kept.state (λ st. (lowest_claimed st space first length ≡ Some result.page)
         × (frame_of st space result.page ≡ Some result.frame) × (pool.new.kept.state ≡ Some (counted st))) }
-    ensures same { result.status ≢ 0 → result.status ≢ 11
-        → (pool.new.kept.state ≡ pool.old.kept.state) × (result ≡ refused_pin result.status) }
+    ensures none { result.status ≢ 11 → result ≡ refused_pin result.status }
+    ensures same { result.status ≢ 0 → result.status ≢ 11 → pool.new.kept.state ≡ pool.old.kept.state }
 {
     let Some(mut table) = pool.take_out(alloc) else {
         return PinAnswer::closed();

@@ -1,8 +1,9 @@
 //! What is asked for a processor, which claims a victim's frame, holds it once its page gave it up, and drops or uses it.
 
-ghost use Rattle.std.specs.Prelude.{ℕ, ◌≡◌, ◌≢◌, Some, None, IfSome};
-ghost use Rattle.pager_model.specs.FrameStates.{Taking, used_at, held_by, claim_in, take_frame, counted, claimed, dropped, IsVictim};
-ghost use Rattle.frame_table.specs.Refusals.{claim_refusal, unclaim_refusal, collect_refusal, drop_refusal, use_refusal};
+ghost use Rattle.std.specs.Prelude.{ℕ, ◌≡◌, ◌≢◌, Some, None, IfSome, if◌then◌else◌};
+ghost use Rattle.pager_model.specs.FrameStates.{Taking, held_by, take_frame, counted, claimed, dropped, IsVictim};
+ghost use Rattle.frame_table.specs.Claims.{IsClaimOf};
+ghost use Rattle.frame_table.specs.Refusals.{holds_any, claim_refusal, unclaim_refusal, collect_refusal, drop_refusal, use_refusal};
 ghost use Rattle.superpager_c.specs.Statuses.{status_on, want_of};
 ghost use Rattle.superpager_c.specs.Answers.{refused_frame, refused_claim, refused_collect};
 
@@ -39,7 +40,7 @@ pub extern "C" fn superpager_unclaim(
     processor: u32,
 ) -> FrameAnswer
     ensures status { result.status ≡ status_on pool.old.kept.state (λ st. unclaim_refusal st processor) }
-    ensures unclaimed { result.status ≡ 0 → IfSome pool.old.kept.state (λ st. (claim_in (used_at st result.frame) ≡ Some processor)
+    ensures unclaimed { result.status ≡ 0 → IfSome pool.old.kept.state (λ st. IsClaimOf st processor result.frame
         × (pool.new.kept.state ≡ Some (counted (claimed st result.frame None)))) }
     ensures same { result.status ≢ 0 → (pool.new.kept.state ≡ pool.old.kept.state) × (result ≡ refused_frame result.status) }
 {
@@ -59,9 +60,9 @@ pub extern "C" fn superpager_collect(
     processor: u32,
 ) -> CollectAnswer
     ensures status { result.status ≡ status_on pool.old.kept.state (λ st. collect_refusal st processor) }
+    ensures is_held { result.status ≡ 0 → IfSome pool.old.kept.state (λ st. result.is_held ≡ (if holds_any st processor then 1 else 0)) }
     ensures held { result.status ≡ 0 → result.is_held ≡ 1 → IfSome pool.old.kept.state (λ st. held_by st processor ≡ Some result.frame) }
-    ensures claimed { result.status ≡ 0 → result.is_held ≢ 1
-        → IfSome pool.old.kept.state (λ st. claim_in (used_at st result.frame) ≡ Some processor) }
+    ensures claimed { result.status ≡ 0 → result.is_held ≡ 0 → IfSome pool.old.kept.state (λ st. IsClaimOf st processor result.frame) }
     ensures none { result.status ≢ 0 → result ≡ refused_collect result.status }
     ensures same { pool.new.kept.state ≡ pool.old.kept.state }
 {
