@@ -146,6 +146,16 @@ def number_in(low: int, high: int, step: int = 1) -> Callable[[str], int]:
     return number
 
 
+def seeds_in(text: str) -> range:
+    """Reads a range of seeds among the words."""
+    first, dots, last = text.partition('..')
+    number = number_in(0, 10 ** 9)
+    seeds = range(number(first), number(last if dots else first) + 1)
+    if not seeds:
+        raise argparse.ArgumentTypeError('%r has no seed' % text)
+    return seeds
+
+
 def sizes_in(text: str) -> str:
     """Reads a set of page sizes among the words, for argparse."""
     if text not in SIZE_SETS:

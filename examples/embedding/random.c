@@ -1,6 +1,8 @@
 /* Makes random calls, many of them with numbers that are out of bounds, in any order, on a pool that may be closed and whose memory may run out.
  * Beside it stands a model: which frame each page has, which are wired, and what each processor claims and holds. Each status and each number that is
- * answered has to be the model's. Which frame a page gets is the pool's to choose, but no page may have it, and no processor hold it.
+ * answered has to be the model's. Which frame a page gets is the pool's to choose, but no page may have it, and no processor hold it. The model knows
+ * no reservations: so it tells the size that a page prefers exactly where none can be near, and else the most that it may be. A taking tells by the
+ * counts how large a reservation it made, which is no larger than the preferred size.
  *
  *     random [CALLS [SEED]]
  *
@@ -18,6 +20,7 @@ static superpager pool;
 static struct {
     bool is_open;
     uint32_t frames, processors;
+    bool has_size[4];
     int frame_of[SPACES][KNOWN];           /* of the first and the last HALF pages of each space: no other page gets a frame here */
     used_frame used[FRAMES];
     int claims[PROCESSORS], holds[PROCESSORS];
@@ -129,6 +132,8 @@ static void opens(void) {
     model.is_open = true;
     model.frames = setting.frames;
     model.processors = setting.processors;
+    bool has_size[4] = {true, setting.pages_8 != 0, setting.pages_64 != 0, setting.pages_512 != 0};
+    memcpy(model.has_size, has_size, sizeof has_size);
     memset(model.frame_of, NONE, sizeof model.frame_of);
     memset(model.claims, NONE, sizeof model.claims);
     memset(model.holds, NONE, sizeof model.holds);
@@ -143,9 +148,55 @@ static void closes(void) {
     model.is_open = false;
 }
 
+/* Whether a page of the extent of so many pages round the page has a frame. */
+static bool any_has_frame(uint32_t space, uint32_t page, uint32_t pages) {
+    uint32_t first = page - page % pages, other = first;
+    while (other < first + pages && *place(space, other) == NONE)
+        other++;
+    return other < first + pages;
+}
+
+/* The largest size whose extent round the page the want allows, and none of whose pages has a frame: each that has one is in a reservation. */
+static uint32_t largest(uint32_t space, uint32_t page, superpager_want want) {
+    for (uint32_t size = 3; size > 0; size--) {
+        uint32_t pages = 1u << 3 * size, first = page - page % pages;
+        if (model.has_size[size] && want.low <= first && first + pages <= want.high && pages <= want.cap && !any_has_frame(space, page, pages))
+            return size;
+    }
+    return 0;
+}
+
+/* Where no page of the extent of 512 has a frame, no reservation meets it. */
+static void prefers(void) {
+    uint32_t space = any_space(), page = any_page();
+    superpager_want want = any_want(page);
+    superpager_sized got = superpager_preferred(&pool, space, page, want);
+    seen[got.status]++;
+    uint32_t status = !model.is_open ? SUPERPAGER_CLOSED : !is_wanted(space, page, want) ? SUPERPAGER_RANGE : SUPERPAGER_DONE;
+    same("status", got.status, status);
+    uint32_t most = status == SUPERPAGER_DONE ? largest(space, page, want) : 0;
+    if (got.size > most || (got.size < most && !any_has_frame(space, page, 512)))
+        wrong("size", got.size, most);
+}
+
+/* A taking that broke no reservation made one of so many frames, which were free, and of at most the preferred size; or of none: it used a place. */
+static void reserves(uint32_t frames, uint32_t page, uint32_t frame, uint32_t preferred) {
+    if (frames == 0) {
+        same("the preferred size", preferred, 0);
+        return;
+    }
+    if (frames != 1 && frames != 8 && frames != 64 && frames != 512)
+        wrong("the frames of a reservation", frames, 1);
+    if (frames > 1u << 3 * preferred)
+        wrong("the frames of a reservation", frames, 1u << 3 * preferred);
+    same("the frame's place", frame % frames, page % frames);
+}
+
 static void takes(void) {
     uint32_t space = any_space(), page = any_page();
     superpager_want want = any_want(page);
+    superpager_counted before = superpager_counts(&pool);
+    superpager_sized preferred = superpager_preferred(&pool, space, page, want);
     superpager_framed got = superpager_take(&pool, space, page, want);
     seen[got.status]++;
     superpager_counted now = superpager_counts(&pool);
@@ -154,10 +205,15 @@ static void takes(void) {
     same("status", got.status, status);
     if (status == SUPERPAGER_FULL)
         same("free and reserved", now.free + now.reserved, 0);
-    if (status == SUPERPAGER_DONE)
-        now_has(space, page, want, got.frame);
-    else
+    if (status != SUPERPAGER_DONE) {
         same("frame", got.frame, 0);
+        return;
+    }
+    now_has(space, page, want, got.frame);
+    if (before.free == model.frames)
+        same("the frames of the first reservation", before.free - now.free, 1u << 3 * preferred.size);
+    if (before.preempted == now.preempted)
+        reserves(before.free - now.free, page, got.frame, preferred.size);
 }
 
 static void asks(void) {
@@ -351,9 +407,9 @@ static void counts(void) {
 
 /* The calls, and how often each comes of a thousand. */
 static const struct { const char *name; void (*makes)(void); uint32_t share; } calls[] = {
-    {"open", opens, 20}, {"close", closes, 1}, {"take", takes, 350}, {"frame_of", asks, 80}, {"give", gives, 150}, {"claim", claims, 100},
-    {"collect", collects, 40}, {"unclaim", unclaims, 20}, {"drop_held", drops, 60}, {"use_held", uses, 100}, {"pin", pins, 39},
-    {"counts", counts, 40},
+    {"open", opens, 20}, {"close", closes, 1}, {"preferred", prefers, 40}, {"take", takes, 350}, {"frame_of", asks, 60}, {"give", gives, 150},
+    {"claim", claims, 100}, {"collect", collects, 40}, {"unclaim", unclaims, 20}, {"drop_held", drops, 60}, {"use_held", uses, 100},
+    {"pin", pins, 39}, {"counts", counts, 20},
 };
 
 int main(int argc, char **argv) {

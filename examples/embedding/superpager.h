@@ -50,6 +50,7 @@ typedef struct { uint32_t frames, processors, pages_8, pages_64, pages_512; } su
 typedef struct { uint32_t low, high, cap, wired; } superpager_want;
 
 typedef struct { uint32_t status, frame; } superpager_framed;
+typedef struct { uint32_t status, size; } superpager_sized;        /* 0 to 3: of 1, 8, 64 or 512 pages */
 typedef struct { uint32_t status, frame, is_held, processor; } superpager_given;
 typedef struct { uint32_t status, space, page, frame; } superpager_victim;
 typedef struct { uint32_t status, frame, is_held; } superpager_collected;
@@ -71,11 +72,17 @@ uint32_t superpager_close(superpager *pool);
  * CLOSED, RANGE, PLACED, COUNTED, FULL. */
 superpager_framed superpager_take(superpager *pool, uint32_t space, uint32_t page, superpager_want want);
 
+/* The size that a new reservation round the page is tried with first, before frames are looked at: the largest of the setting's whose aligned extent
+ * round the page the want allows, and no page of which is in a reservation. 0 if there is none, as where a reservation has the page. If no extent of
+ * frames of this size can be had, a taking tries the smaller ones.
+ * CLOSED, RANGE. */
+superpager_sized superpager_preferred(superpager *pool, uint32_t space, uint32_t page, superpager_want want);
+
 /* The frame of the page.
  * CLOSED, RANGE, UNPLACED. */
 superpager_framed superpager_frame_of(superpager *pool, uint32_t space, uint32_t page);
 
-/* The page gives its frame up. If a processor claimed the frame, is_held is 1, and that processor holds it now; else is_held is 0.
+/* The page gives its frame up. If a processor claimed the frame, is_held is 1, and that processor holds it now; else both are 0.
  * CLOSED, RANGE, UNPLACED. */
 superpager_given superpager_give(superpager *pool, uint32_t space, uint32_t page);
 
@@ -100,7 +107,7 @@ superpager_framed superpager_drop_held(superpager *pool, uint32_t processor);
 superpager_framed superpager_use_held(superpager *pool, uint32_t processor, uint32_t space, uint32_t page, superpager_want want);
 
 /* The populated frames of length pages from the first are wired, or, if wired is 0, are wired no longer. If one that is to be wired is claimed, none
- * is wired, the change is counted, and page and frame are the lowest such page and its frame: CLAIMED.
+ * is wired, the change is counted, and page and frame are the lowest such page and its frame: CLAIMED. Else page and frame are 0.
  * CLOSED, RANGE, COUNTED, CLAIMED. */
 superpager_pinned superpager_pin(superpager *pool, uint32_t space, uint32_t first, uint32_t length, uint32_t wired);
 

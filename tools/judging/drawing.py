@@ -1,4 +1,4 @@
-"""Drawn numbers, the trace that is made from a number (TurnOrders.antt; crates/trace_make/specs/Made.antt), and traces that are short of
+"""Drawn numbers, the trace that is made from a number (Schedules.antt; crates/trace_make/specs/Made.antt), and traces that are short of
 frames."""
 from typing import List, Optional, Tuple
 
@@ -13,7 +13,7 @@ Place = Tuple[int, int]
 
 
 class Generator:
-    """Knuth's generator of MMIX: a state x goes to x * 6364136223846793005 + 1442695040888963407 modulo 2^64. (TurnOrders.antt)"""
+    """Knuth's generator of MMIX: a state x goes to x * 6364136223846793005 + 1442695040888963407 modulo 2^64. (Schedules.antt)"""
 
     def __init__(self, state: int):
         self.state = state

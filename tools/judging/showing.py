@@ -1,4 +1,4 @@
-"""Which histories are of a trace, and in which orders its calls were made (Showing.antt, TurnOrders.antt)."""
+"""Which histories are of a trace, and in which orders its calls were made (Showing.antt, Schedules.antt)."""
 from typing import List, Optional, Tuple
 
 from .drawing import Generator
@@ -31,7 +31,7 @@ def rows_of(trace: Trace) -> List[int]:
 
 
 class Standings:
-    """Where each processor is in its calls, and a daemon in its turns, as entries come. (TurnOrders.antt: standing_at)"""
+    """Where each processor is in its calls, and a daemon in its turns, as entries come. (Schedules.antt: standing_at)"""
 
     def __init__(self, trace: Trace):
         self.calls = [trace.calls_of(c) for c in range(trace.processors)]
@@ -53,11 +53,11 @@ class Standings:
         return is_whole(self.marks[c], self.progress[c])
 
     def left(self) -> List[int]:
-        """The processors that have a call left, ascending. (TurnOrders.antt: left_of)"""
+        """The processors that have a call left, ascending. (Schedules.antt: left_of)"""
         return [c for c in range(len(self.progress)) if self.standing(c)]
 
     def can_step(self, c: int) -> bool:
-        """It has a call left, and no other processor keeps the space that its next step is made under. (TurnOrders.antt)"""
+        """It has a call left, and no other processor keeps the space that its next step is made under. (Schedules.antt)"""
         if self.standing(c) is None:
             return False
         space = under(*self.standing(c))
@@ -68,12 +68,12 @@ class Standings:
         self.progress[e.processor] = progress_after(self.progress[e.processor], e)
 
     def picked(self, drawn: int) -> int:
-        """The first in cyclic order, from a drawn place on, of the processors that have a call left and can step. (TurnOrders.antt)"""
+        """The first in cyclic order, from a drawn place on, of the processors that have a call left and can step. (Schedules.antt)"""
         left = self.left()
         return next(c for c in left[drawn:] + left[:drawn] if self.can_step(c))
 
     def lowest(self) -> int:
-        """The lowest processor that can step. (TurnOrders.antt: AreLowest)"""
+        """The lowest processor that can step. (Schedules.antt: AreLowest)"""
         return next(c for c in self.left() if self.can_step(c))
 
 
@@ -91,7 +91,7 @@ def wrong_with_filing(trace: Trace, history: List[Entry]) -> Optional[str]:
 
 def wrong_with_turns(trace: Trace, seed: int, history: List[Entry]) -> Optional[str]:
     """What is wrong where the history isn't drawn from the seed: before each entry one of the processors that have a call left is drawn, and
-    the entry is of the first in cyclic order from there that needn't wait. (TurnOrders.antt: IsSeeded)"""
+    the entry is of the first in cyclic order from there that needn't wait. (Schedules.antt: IsSeeded)"""
     g, standings = Generator(seed), Standings(trace)
     for n, e in enumerate(history):
         picked = standings.picked(g.draw(len(standings.left())))
@@ -103,7 +103,7 @@ def wrong_with_turns(trace: Trace, seed: int, history: List[Entry]) -> Optional[
 
 def wrong_with_schedule(trace: Trace, schedule: List[int], history: List[Entry]) -> Optional[str]:
     """What is wrong where the history doesn't follow the list: its numbers are taken in order, one gives the next entry where that processor
-    can step and none otherwise, and each entry after them is of the lowest that can step. (TurnOrders.antt: IsScheduled)"""
+    can step and none otherwise, and each entry after them is of the lowest that can step. (Schedules.antt: IsScheduled)"""
     standings, numbers = Standings(trace), iter(schedule)
     for n, e in enumerate(history):
         wanted = next((c for c in numbers if standings.can_step(c)), None)
