@@ -23,6 +23,9 @@ WIDE = layout.WIDTH - LEFT - 8
 # How many lines there are across at most, but for that of 0, and how long the longest bar of the text is.
 ACROSS = 5
 BAR = 50
+# What is the same of all pages: the line at the capacity that is chosen, and where the curves are drawn.
+HERE = '<path id="here" stroke="%s" stroke-width="1.6"/>' % layout.FOCUS
+PLACES = {'left': LEFT + MARGIN, 'margin': MARGIN, 'wide': WIDE, 'top': TOP, 'high': HIGH, 'most': MOST, 'usual': USUAL}
 
 STYLE = ('text{font:12px sans-serif;fill:#1d2733}.t{font-size:11px;fill:#5a6572}.h{font-size:15px;font-weight:bold}'
          '.m{text-anchor:middle}.e{text-anchor:end}'
@@ -39,7 +42,12 @@ class Curves(NamedTuple):
 
 def run(program: str, trace: bytes, known: int) -> Curves:
     """The curves that the program prints of a trace, which tells of capacities from this one on."""
-    rows = [line.split(' ') for line in output_of(program, ['curve'], trace).splitlines()]
+    return read(output_of(program, ['curve'], trace), known)
+
+
+def read(text: str, known: int = 1) -> Curves:
+    """The curves of such a text."""
+    rows = [line.split(' ') for line in text.splitlines()]
     try:
         found = Curves([int(row[1]) for row in rows[:-1]], [int(row[2]) for row in rows[:-1]], known)
     except (ValueError, IndexError):
@@ -142,17 +150,21 @@ def untold(curves: Curves) -> List[str]:
     return [rect(LEFT, TOP, x - LEFT, HIGH, layout.GRID), text((LEFT + x) / 2, TOP + HIGH / 2, 'below %d: folded' % curves.known, 't m')]
 
 
+def beginning() -> List[str]:
+    """What an SVG text of curves begins with, line by line."""
+    wide, high = 2 * MARGIN + layout.WIDTH, TOP + HIGH + 3 * LINE + 18 + 2 * MARGIN
+    start = '<svg xmlns="http://www.w3.org/2000/svg" viewBox="0 0 %d %d" width="%d" height="%d">' % (wide, high, wide, high)
+    return [start, '<style>%s</style>' % STYLE, rect(0, 0, wide, high, '#fff'), '<g transform="translate(%d %d)">' % (MARGIN, MARGIN)]
+
+
 def drawing(curves: Curves, name: str, more: str = '') -> str:
     """The SVG text of the curves. What is more is drawn over them."""
     top, step = scale_of(curves)
-    wide, high = 2 * MARGIN + layout.WIDTH, TOP + HIGH + 3 * LINE + 18 + 2 * MARGIN
-    start = '<svg xmlns="http://www.w3.org/2000/svg" viewBox="0 0 %d %d" width="%d" height="%d">' % (wide, high, wide, high)
     body = [text(0, 14, '%s: misses at each capacity' % name, 'h')] + untold(curves) + across(top, step) + upright()
     # That of base pages lies below, and is wider, so that it is seen where both are the same.
     body += ['<path class="c%d" d="%s"/>' % (at, path(curves[at], top, curves.known)) for at in (1, 0)] + legend(curves)
     body += [text(LEFT + WIDE / 2, TOP + HIGH + 2 * LINE, 'capacity: how many translations an image holds', 't m'), more]
-    parts = [start, '<style>%s</style>' % STYLE, rect(0, 0, wide, high, '#fff'), '<g transform="translate(%d %d)">' % (MARGIN, MARGIN)]
-    return '\n'.join(parts + [it for it in body if it] + ['</g>', '</svg>', ''])
+    return '\n'.join(beginning() + [it for it in body if it] + ['</g>', '</svg>', ''])
 
 
 def table(curves: Curves) -> str:
@@ -163,8 +175,6 @@ def table(curves: Curves) -> str:
 
 def page(curves: Curves, name: str) -> str:
     """The text of the page."""
-    data = {'curves': curves[:2], 'known': curves.known, 'left': LEFT + MARGIN, 'margin': MARGIN, 'wide': WIDE, 'top': TOP, 'high': HIGH,
-            'most': MOST, 'usual': USUAL}
-    svg = drawing(curves, name, '<path id="here" stroke="%s" stroke-width="1.6"/>' % layout.FOCUS)
-    parts = {'TITLE': escape(name), 'SVG': svg, 'ROWS': table(curves), 'DATA': json.dumps(data, separators=(',', ':'))}
+    data = {'curves': curves[:2], 'known': curves.known, **PLACES}
+    parts = {'TITLE': escape(name), 'SVG': drawing(curves, name, HERE), 'ROWS': table(curves), 'DATA': json.dumps(data, separators=(',', ':'))}
     return re.sub('TITLE|SVG|ROWS|DATA', lambda found: parts[found.group()], part('curves.html'))

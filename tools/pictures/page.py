@@ -50,8 +50,8 @@ def fixed() -> Dict[str, Any]:
     }
 
 
-def page(run: Run, name: str, about: str) -> str:
-    """The text of the page."""
+def data_of(run: Run, name: str, about: str) -> Dict[str, Any]:
+    """What the page's scripts are told of the run."""
     walk, seen = Walk(run), Seen(run)
     packer = Packer(walk)
     for at, change in enumerate(walk):
@@ -60,15 +60,20 @@ def page(run: Run, name: str, about: str) -> str:
     packer.end()
     pages, left = layout.page_grid(seen.drawn)
     codes = {code: [layout.colour_of(code), layout.name_of(code, run.spaces, layout.PAGE_NAMES)] for code in sorted(seen.codes)}
-    data = {
+    return {
         **fixed(), 'name': name, 'about': about, 'count': run.frames, 'spaces': run.spaces, 'sizes': run.sizes, 'entries': len(run.history),
         'frames': grid(layout.frame_grid(run)), 'pages': grid(pages), 'omitted': 'Boxes of pages that are not drawn: %d.' % left if left else '',
         'codes': codes, 'legend': list(codes.values()),
         'marks': [(colour, sorted(seen.marks[place])) for place, colour in MARKS.items()],
         'sentences': list(packer.sentences.kinds), 'chunks': packer.chunks,
     }
+
+
+def page(run: Run, name: str, about: str) -> str:
+    """The text of the page."""
     # No text in it may end the element that it stands in.
-    parts = {'TITLE': escape(name), 'STYLE': part('page.css'), 'SCRIPT': '\n'.join(map(part, SCRIPTS)), 'DATA': to_json(data).replace('<', '\\u003c')}
+    data = to_json(data_of(run, name, about)).replace('<', '\\u003c')
+    parts = {'TITLE': escape(name), 'STYLE': part('page.css'), 'SCRIPT': '\n'.join(map(part, SCRIPTS)), 'DATA': data}
     return re.sub('TITLE|STYLE|SCRIPT|DATA', lambda found: parts[found.group()], part('page.html'))
 
 

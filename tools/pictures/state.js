@@ -55,10 +55,13 @@ function bytesOf(text) {
   }
   return view.buffer.slice(0, Math.floor(text.length * 4 / 5));
 }
-async function unpack(number) {
-  const [first, text] = data.chunks[number];
+async function inflated(text) {
   const stream = new Blob([bytesOf(text)]).stream().pipeThrough(new DecompressionStream("deflate"));
-  const part = JSON.parse(await new Response(stream).text());
+  return JSON.parse(await new Response(stream).text());
+}
+// In a page of tools/page the one chunk isn't packed.
+async function unpack(number) {
+  const [first, packed] = data.chunks[number], part = typeof packed === "string" ? await inflated(packed) : packed;
   return { first, start: part.start, entries: entriesOf(first, part) };
 }
 // The chunk of this number, when it is unpacked.
