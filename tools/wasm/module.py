@@ -18,12 +18,18 @@ LAYOUT = 'e-m:e-p:64:64-p10:8:8-p20:8:8-i64:64-i128:128-n32:64-S128-ni:1:10:20'
 # No thread is started. Said in the module itself that leaves no function whose address is taken, and so no table of functions, which Binaryen would
 # have to lower too.
 NO_THREAD = 'define internal i32 @pthread_create(ptr %thread, ptr %all, ptr %begin, ptr %given) {\n  ret i32 11\n}'
-# What of the text of LLVM's module is for x86-64 and Linux alone, and what stands in its place. Each has to be there once, and the last may be there
-# any number of times.
-RETARGETED = (
+# What a thread that spins would tell the processor: there is none.
+NO_PAUSE = 'define internal void @no_pause() {\n  ret void\n}'
+# What of the text of LLVM's module is for x86-64 and Linux alone, and what stands in its place. Each of the first has to be there once, and the others
+# may be there any number of times.
+RETARGETED_ONCE = (
     ('^target datalayout = .*', 'target datalayout = "%s"' % LAYOUT),
     ('^target triple = .*', 'target triple = "wasm64-unknown-unknown"'),
     (r'^declare [^\n]* @pthread_create\(.*', NO_THREAD),
+)
+RETARGETED = (
+    (r'^declare void @llvm\.x86\.sse2\.pause\(.*', NO_PAUSE),
+    (r'@llvm\.x86\.sse2\.pause\b', '@no_pause'),
     (' "(probe-stack|stack-probe-size|target-cpu|target-features)"="[^"]*"', ''),
 )
 # What Binaryen is told that the module uses, and what it makes of it.
@@ -133,10 +139,12 @@ def proved_bitcode(kit: str, folder: str) -> str:
 
 def retargeted(text: str) -> str:
     """LLVM's module as text, for WebAssembly."""
-    for place, (what, by) in enumerate(RETARGETED):
+    for what, by in RETARGETED_ONCE:
         text, times = re.subn(what, by, text, flags=re.M)
-        if place < len(RETARGETED) - 1 and times != 1:
+        if times != 1:
             raise Stopped("LLVM's module has another form than is known here")
+    for what, by in RETARGETED:
+        text = re.sub(what, by, text, flags=re.M)
     left: Set[str] = set(re.findall(r'@llvm\.x86[.\w]*|asm sideeffect "[^"]+"', text))
     if left:
         raise Stopped("LLVM's module has what is of x86-64 alone: %s" % ', '.join(sorted(left)))
