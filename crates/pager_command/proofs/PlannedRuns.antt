@@ -33,7 +33,7 @@ is_over run summary has ran =
       legal = ran.legal;
     }
 
--- a script of the frames at the end of a run was written, or a part of it, or there was no memory for it
+-- a plan of the frames at the end of a run was written, or a part of it, or there was no memory for it
 pub EndsRun-planned : {K : Type 0} (taken : K → Option (List ℕ)) (faults : K → ℕ) (before after : K) (size : ℕ) (run : Replayed)
     (summary : Summary) (status : ℕ)
     → HasText run.script → WasRun run summary

@@ -123,7 +123,7 @@ fn write_counts<K: Sink>(sink: &mut K, summary: &Summary) -> u8
     status_of_write(write_summary(sink, summary))
 }
 
-/// Scripts which extent of a size to empty after a history over so many frames, writes that, and answers the status.
+/// Plans which extent of a size to empty after a history over so many frames, writes that, and answers the status.
 fn write_planned<K: Sink>(
     alloc: Global,
     sink: &mut K,

@@ -59,7 +59,7 @@ Drawing-start script stores seed run of none =
       state_is = state_on-none seed ∙ ap (λ h. state_on seed (entries_in h)) (sym none);
     }
 
--- one drawn advance more
+-- one drawn step more
 module _ (script : Script) (stores : List Stored) (seed : ℕ) (run : Running) (x : ℕ) (now : Drawing script stores seed run x) where
   known_drawn : AllByRecursion (λ c. c < actors script) (drawn_order run x)
   known_drawn =
@@ -101,12 +101,12 @@ pub Following-start : (script : Script) (stores : List Stored) (schedule : List 
 Following-start script stores schedule run of none =
     record { of = of; ahead = subst (λ h. Ahead script schedule schedule (entries_in h)) (sym none) (λ es follows. follows) }
 
--- The schedule has a advance at this place, of one of the processors.
+-- The schedule has a step at this place, of one of the processors.
 pub record NextScheduled (script : Script) (schedule : List ℕ) (k : ℕ) : Type 0 where
   pub below : k < length schedule
   pub known : get_or schedule k 0 < actors script
 
--- one advance more, of a processor that can step, or of one that can't
+-- one step more, of a processor that can step, or of one that can't
 module _ (script : Script) (stores : List Stored) (schedule : List ℕ) (k : ℕ) (run : Running)
     (now : Following script stores schedule k run) (next : NextScheduled script schedule k) where
   abbrev n : ℕ
@@ -184,7 +184,7 @@ AreLowest-push script h (y ∷ es) e was is = (
       (subst (λ l. find (can_step script l) (range_with_len 0 (actors script)) ≡ Some e.processor) (sym (append_assoc h (y ∷ []) es)) is),
 )
 
--- one advance more of the lowest
+-- one step more of the lowest
 module _ (script : Script) (stores : List Stored) (schedule : List ℕ) (run new : Running) (now : Lowering script stores schedule run)
     (step : FirstStepped run new (range_with_len 0 (actors script))) where
   pub Lowering-step : Lowering script stores schedule new

@@ -39,7 +39,7 @@ impl Transferred {
         }
     }
 
-    /// Counts more of them, from a offset of the file on.
+    /// Counts more of them, from an offset of the file on.
     fn count(&mut self, offset: u64, bytes: usize)
         requires { offset + bytes < 2 ^ 64 }
         ensures { self.new ≡ moved self.old offset bytes }
