@@ -1,33 +1,23 @@
-use Rattle.std.proofs.Common.{◌/◌, ◌%◌, ◌∙◌, [], None, slice_index_or, sym, ap, refl, arith}
+use Rattle.std.proofs.Common.{◌≡◌, ◌/◌, ◌%◌, ◌∙◌, [], None, Some, slice_index_or, sym, ap, refl, arith}
 use Rattle.std.proofs.lemmas.List.{get_or_read}
-use Rattle.page_rights.specs.Rights.{plain, leaf_of}
+use Rattle.page_rights.specs.Rights.{all_of, leaf_of}
 use Rattle.page_rights.specs.contracts.PageRights.{the_view}
-use Rattle.page_rights.specs.declared.block.Block.TheVariants.{Uniform, Mixed}
-use Rattle.page_rights.proofs.BlockChanges.{rights_of-at}
+use Rattle.page_rights.specs.declared.block.Block.TheVariants.{Unset}
+use Rattle.page_rights.proofs.BlockChanges.{leaf_there, rights_of-leaf, rights_of-all}
 use Rattle.page_rights.proofs.PageRights.get.Goals as goal
 
-pub index-requires-in-Mixed : goal.index-requires-in-Mixed
-index-requires-in-Mixed c =
-    let block = get_or_read c.self.inside.blocks.items _ _ (omega (arith, c.self.invariant.0.blocks, c.requires)) c.index.ensures plain in
-    omega (
-      arith,
-      c.self.inside.leaves.ok.0,
-      c.self.invariant.0.known (c.args.page / 512) c.in-Mixed.leaf
-          (ap leaf_of (sym block ∙ c.in-Mixed.is)),
-    )
+pub returns-in-Some : goal.returns-in-Some
+returns-in-Some c =
+    let t = the_view c.self.inside in
+    let block = c.args.page / 512 in
+    let is : leaf_of t block ≡ Some c.in-Some.leaf = ap (λ u. leaf_of u block) c.self.view_is ∙ sym c.leaf.ensures ∙ c.in-Some.is in
+    let leaf = get_or_read c.self.inside.leaves.items _ _ (leaf_there t c.self.invariant.0 block c.in-Some.leaf is) c.index.ensures [] in
+    rw (← c.self.view_is) (ap (λ ls. slice_index_or ls (c.args.page % 512) None) leaf ∙ sym (rights_of-leaf t c.args.page block c.in-Some.leaf refl is))
 
-pub returns-in-Uniform : goal.returns-in-Uniform
-returns-in-Uniform c =
-    let block = get_or_read c.self.inside.blocks.items _ _ (omega (arith, c.self.invariant.0.blocks, c.requires)) c.index.ensures plain in
-    rw (← c.self.view_is)
-    (sym (rights_of-at (the_view c.self.inside) c.args.page (c.args.page / 512) (Uniform c.in-Uniform.rights c.in-Uniform.leaf) refl
-    (sym block ∙ c.in-Uniform.is)))
-
-pub returns-in-Mixed : goal.returns-in-Mixed
-returns-in-Mixed c =
-    let block = get_or_read c.self.inside.blocks.items _ _ (omega (arith, c.self.invariant.0.blocks, c.requires)) c.index.ensures plain in
-    let there = c.self.invariant.0.known (c.args.page / 512) c.in-Mixed.leaf (ap leaf_of (sym block ∙ c.in-Mixed.is)) in
-    let leaf = get_or_read c.self.inside.leaves.items _ _ there c.index-in-Mixed.ensures [] in
-    rw (← c.self.view_is) (ap (λ ls. slice_index_or ls (c.args.page % 512) None) leaf
-    ∙ sym (rights_of-at (the_view c.self.inside) c.args.page (c.args.page / 512) (Mixed c.in-Mixed.leaf) refl
-    (sym block ∙ c.in-Mixed.is)))
+pub returns-in-None : goal.returns-in-None
+returns-in-None c =
+    let t = the_view c.self.inside in
+    let block = c.args.page / 512 in
+    let is : leaf_of t block ≡ None = ap (λ u. leaf_of u block) c.self.view_is ∙ sym c.leaf.ensures ∙ c.in-None.is in
+    let kept = get_or_read c.self.inside.blocks.items _ _ (omega (arith, c.self.invariant.0.blocks, c.requires)) c.index-in-None.ensures Unset in
+    rw (← c.self.view_is) (c.rights.ensures ∙ ap all_of kept ∙ sym (rights_of-all t c.args.page block refl is))
