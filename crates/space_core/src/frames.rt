@@ -1,6 +1,6 @@
 //! The words of one frame.
 
-ghost use Rattle.std.specs.Prelude.{◌≡◌, ◌<◌, true, length, replicate, slice_index_or, slice_set};
+ghost use Rattle.std.specs.Prelude.{◌≡◌, ◌<◌, length, slice_index_or, slice_set};
 ghost use Rattle.store_core.specs.CopiedWords.{copied_words};
 
 use pager_model::Frame;
@@ -32,30 +32,7 @@ pub fn set_copied(frame: &mut Frame, copied: Copied, words: &[u64])
     ensures { frame.new ≡ record { number = frame.old.number; words = copied_words copied words.now } }
 {
     match copied {
-        Copied::Words => set_words(frame, words),
+        Copied::Words => frame.words_mut().copy_from_slice(words),
         Copied::Zeros => frame.clear(),
     }
-}
-
-/// Makes these words the frame's. Where they are zero nothing is written, so that a page never written uses no memory.
-fn set_words(frame: &mut Frame, words: &[u64])
-    requires { length words.now ≡ 1024 }
-    ensures { frame.new ≡ record { number = frame.old.number; words = words.now } }
-{
-    if are_zero(words) {
-        frame.clear();
-    } else {
-        frame.words_mut().copy_from_slice(words);
-    }
-}
-
-/// Whether each word is zero. It looks at all of them, since without an earlier way out several are looked at at once.
-fn are_zero(words: &[u64]) -> bool
-    ensures { result ≡ true → words.now ≡ replicate (length words.now) 0 }
-{
-    let mut bits = 0;
-    for word in words {
-        bits |= *word;
-    }
-    bits == 0
 }
