@@ -16,3 +16,4 @@ pub mod MappedLooks
 pub mod LayoutMapped
 pub mod PinnedRanges
 pub mod PlacelessPages
+pub mod FullByCounts

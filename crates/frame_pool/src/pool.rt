@@ -163,6 +163,10 @@ impl Pool {
         ensures full { IfErr result (λ _. IsFull self.old × (self.new ≡ self.old)) }
         ensures full_is_told { IsFull self.old → IsErr result }
     {
+        // The counts tell a full pool at once, before it is tried size by size.
+        if self.is_full() {
+            return Err(Full);
+        }
         let Some(place) = self.layout.reserve(self.entries, space, page, want) else {
             return Err(Full);
         };
@@ -348,6 +352,14 @@ impl Pool {
         ensures { self.new ≡ counted self.old }
     {
         self.entries += 1;
+    }
+
+    /// Whether every frame is a used place or held by a processor: then none is free, and none is a reservation's unused place.
+    fn is_full(&self) -> bool
+        ensures { result ≡ true → IsFull self.now }
+    {
+        self.layout.free_frames() == 0
+            && self.used.count() + held_frames(self.held.as_slice()) == self.frames.len() as u32
     }
 
     /// The frame that the processor holds becomes free, and no entry is counted.
