@@ -12,7 +12,7 @@ use Rattle.space_core.specs.Standing.{Kept}
 use Rattle.flight_core.specs.declared.flight.Flight.{Flight}
 use Rattle.pager_core.specs.Machines.{IsOther, AreKeepers, IsMachine}
 use Rattle.flight_core.specs.Rows.{Going, has_ended, row_of, space_under}
-use Rattle.pager_core.specs.Running.{Running, jobs_at, flight_at, flight_of, IsKeptByOther, MustWait, left_at, WentOn, OneMore}
+use Rattle.pager_core.specs.Running.{Running, jobs_at, flight_at, flight_of, IsKeptByOther, MustWait, StepsUnder, left_at, WentOn, OneMore}
 use Rattle.flight_core.specs.Flying.{IsHere}
 use Rattle.pager_core.proofs.FrameAdvances.{AdvancesOnFrames, Goes-on_frames}
 use Rattle.pager_core.proofs.Keepers.{kept_if, other_if, AreKeepers-same, AreKeepers-moved}
@@ -32,6 +32,20 @@ flight_read m self actor x f machine same below read is =
     ap (λ (r : Running). flight_at r.flights actor) (sym same)
     ∙ sym (get_or_read_under m.run.flights actor (length m.run.flights) x None read (omega (arith, known, jobs, below)) refl) ∙ is
 
+pub flies_in : (run self : Running) (c : ℕ) (f : Flight) → run ≡ self → flight_at self.flights c ≡ Some f → flight_at run.flights c ≡ Some f
+flies_in run self c f same flies = ap (λ (r : Running). flight_at r.flights c) same ∙ flies
+
+-- what is found in the actor's place is its flight, whose next step is made there
+pub steps_read : (run self : Running) (actor : ℕ) (under : Option ℕ) (x : Option Flight) (f : Flight) → run ≡ self
+    → StepsUnder self actor under → x ≡ get_or run.flights actor x → x ≡ Some f
+    → (flight_at run.flights actor ≡ Some f) × (space_under (row_of f).needs ≡ under)
+steps_read run self actor under x f same steps read is =
+    let flies = flies_in run self actor steps.flight same steps.flies in
+    let within = get_or_within run.flights actor steps.flight flies in
+    let here = sym (get_or_read_under run.flights actor (length run.flights) x None read within refl) ∙ is in
+    let same_flight = same_Some steps.flight f (sym flies ∙ here) in
+    (here, ap (λ (g : Flight). space_under (row_of g).needs) (sym same_flight) ∙ steps.under)
+
 pub jobs_read : {V : Type 0} (items : V → List Job) (vs : List V) (c : ℕ) (v : V) → c < length vs → v ≡ get_or vs c v
     → items v ≡ jobs_at (map items vs) c
 jobs_read items vs c v below read = ap items read ∙ sym (get_or-map items vs c v [] below)
@@ -44,22 +58,18 @@ pub record Finds (m : MachineParts) (c s : ℕ) (f : Flight) (was : Kept) : Type
   pub unkept : IsKeptByOther m.run.flights c s → ⊥
   pub here : IsHere m.run.given (entries_in m.run.history) 0 was f
 
-pub flies_in : (run self : Running) (c : ℕ) (f : Flight) → run ≡ self → flight_at self.flights c ≡ Some f → flight_at run.flights c ≡ Some f
-flies_in run self c f same flies = ap (λ (r : Running). flight_at r.flights c) same ∙ flies
-
 module _ (m : MachineParts) (self : Running) (c s : ℕ) (f : Flight) (whole : IsWhole m) (same : m.run ≡ self)
-    (flies : flight_at self.flights c ≡ Some f) (under : space_under (row_of f).needs ≡ Some s) where
+    (flies : flight_at m.run.flights c ≡ Some f) (under : space_under (row_of f).needs ≡ Some s) where
   waits_if : IsKeptByOther m.run.flights c s → MustWait self c s
   waits_if kept = record {
     flight = f;
-    flies = flies;
+    flies = flies_in self m.run c f (sym same) flies;
     under = under;
     kept = subst (λ (r : Running). IsKeptByOther r.flights c s) same kept;
   }
 
   pub finds : (MustWait self c s → ⊥) → (was : Kept) → was ≡ get_or m.spaces s was → Finds m c s f was
   finds none was at_space =
-      let flies = flies_in m.run self c f same flies in
       let at = slice_get_read m.spaces (length m.spaces) s was refl (space_within m c f whole flies s under) at_space in
       let unkept : IsKeptByOther m.run.flights c s → ⊥ = λ kept. none (waits_if kept) in
       record {
@@ -74,7 +84,7 @@ module _ (m : MachineParts) (self : Running) (c s : ℕ) (f : Flight) (whole : I
   module _ (keepers : List (Option ℕ)) (are : AreKeepers m.run.flights (length m.spaces) keepers) (keeper : Option ℕ)
       (read : keeper ≡ get_or keepers s keeper) where
     there : s < length m.spaces
-    there = space_within m c f whole (flies_in m.run self c f same flies) s under
+    there = space_within m c f whole flies s under
 
     pub must_wait : IsOther keeper c → MustWait self c s
     must_wait other = waits_if (kept_if m.run.flights (length m.spaces) keepers are c s keeper there read other)

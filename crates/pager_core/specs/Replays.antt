@@ -1,5 +1,5 @@
 -- What the whole run of a trace is.
-use Rattle.std.specs.Prelude.{ℕ, zero, ◌≡◌, ◌<◌, List, drop, slice_get, Some}
+use Rattle.std.specs.Prelude.{ℕ, ◌≡◌, ◌<◌, List, drop, slice_get, Some}
 use Rattle.pager_model.specs.declared.entry.Numbered.{Numbered}
 use Rattle.pager_model.specs.Agreement.{IsPartition, NothingHeld, Agrees}
 use Rattle.pager_model.specs.Counts.{counts}

@@ -99,6 +99,12 @@ pub record IsKeptByOther (flights : List (Option Flight)) (actor space : ℕ) : 
   pub flies : flight_at flights other ≡ Some flight
   pub keeps : (row_of flight).keeps ≡ Some space
 
+-- the actor's flight makes its next step under this space, or where there is none under the frames' lock alone
+pub record StepsUnder (run : Running) (actor : ℕ) (space : Option ℕ) : Type 0 where
+  pub flight : Flight
+  pub flies : flight_at run.flights actor ≡ Some flight
+  pub under : space_under (row_of flight).needs ≡ space
+
 -- the actor's next step is made under this space, which another flight keeps
 pub record MustWait (run : Running) (actor space : ℕ) : Type 0 where
   pub flight : Flight

@@ -1,4 +1,4 @@
-ghost use Rattle.std.specs.Prelude.{◌≡◌, ◌≢◌, ℕ, ◌+◌, ◌*◌, ◌^◌, ◌<◌, ◌≤◌, ◌↔◌, if◌then◌else◌, List, [], Some, None, IfOk, IfErr, IsTrue, length, map, option_map, drop, take, replicate, true};
+ghost use Rattle.std.specs.Prelude.{◌≡◌, ◌≢◌, ℕ, ◌+◌, ◌*◌, ◌^◌, ◌<◌, ◌≤◌, ◌↔◌, if◌then◌else◌, List, [], Some, None, IfSome, IfOk, IfErr, IsTrue, length, map, option_map, drop, take, replicate, true};
 ghost use Rattle.std.specs.List.{range_with_len};
 ghost use Rattle.pager_model.specs.Counts.{counts};
 ghost use Rattle.pager_model.specs.declared.entry.Entry.{Entry};
@@ -14,7 +14,7 @@ ghost use Rattle.flight_core.specs.Lacking.{NeverLacks, NoneLacked};
 ghost use Rattle.pager_core.specs.Machines.{IsOther, entries_of_trace, entries_of_turns};
 ghost use Rattle.flight_core.specs.Rows.{Going, has_ended, row_of, space_under};
 ghost use Rattle.pager_core.specs.RunParts.{AreRoomsOver};
-ghost use Rattle.pager_core.specs.Running.{Running, progress_of_actor, flight_at, flight_for, flight_of, first_flights, jobs_at, HasEnded, MustWait, OneMore, IsLawful, IsWholeRun};
+ghost use Rattle.pager_core.specs.Running.{Running, progress_of_actor, flight_at, flight_for, flight_of, first_flights, jobs_at, HasEnded, MustWait, StepsUnder, OneMore, IsLawful, IsWholeRun};
 ghost use Rattle.flight_core.specs.Flying.{IsHere};
 ghost use Rattle.flight_core.specs.Logged.{CanStepBoth, Stepped};
 
@@ -150,33 +150,31 @@ impl<'a, S: Store + Send + Drop> Machine<'a, S> {
         ensures never_short { IsNeverShort self.new.given (entries_in self.new.history) }
         ensures lasting { S.lasts ≡ true → NoneLacked (entries_in self.new.history) }
     {
-        let Some(flight) = self.flights[actor as usize] else {
+        let Some(flight) = &self.flights[actor as usize] else {
             return Advance::Ended;
         };
         let Some(space) = flight.under() else {
-            self.advance_on_frames(actor, flight);
+            self.advance_on_frames(actor);
             return Advance::Stepped;
         };
-        if self.must_wait(actor, &flight, space) {
+        if self.must_wait(actor, space) {
             return Advance::Waits(space);
         }
-        self.advance_in(actor, flight, space);
+        self.advance_in(actor, space);
         Advance::Stepped
     }
 
     /// Whether another flight keeps this space, which the next step of the actor's flight is made under.
-    fn must_wait(&self, actor: u32, flight: &Flight, space: u32) -> bool
-        requires flies { flight_at self.now.flights actor ≡ Some flight.now }
-        requires under { space_under (row_of flight.now).needs ≡ Some space }
+    fn must_wait(&self, actor: u32, space: u32) -> bool
+        requires { StepsUnder self.now actor (Some space) }
         ensures { IsTrue result ↔ MustWait self.now actor space }
     {
         is_other(self.keepers[space as usize], actor)
     }
 
     /// Does the steps of the actor's flight, of which the next is made under this space, until one has made an entry.
-    fn advance_in(&mut self, actor: u32, flight: Flight, space: u32)
-        requires flies { flight_at self.old.flights actor ≡ Some flight }
-        requires under { space_under (row_of flight).needs ≡ Some space }
+    fn advance_in(&mut self, actor: u32, space: u32)
+        requires under { StepsUnder self.old actor (Some space) }
         requires free { MustWait self.old actor space → ⊥ }
         ensures stepped { OneMore self.old self.new actor }
         ensures same_jobs { (self.new.given ≡ self.old.given) × (self.new.jobs ≡ self.old.jobs) }
@@ -186,21 +184,21 @@ impl<'a, S: Store + Send + Drop> Machine<'a, S> {
         ensures never_short { IsNeverShort self.new.given (entries_in self.new.history) }
         ensures lasting { S.lasts ≡ true → NoneLacked (entries_in self.new.history) }
     {
-        let mut flight = flight;
+        let place = &mut self.flights[actor as usize];
+        let Some(flight) = place else { unreachable!() };
         make_entry(
             &mut self.log,
             &mut self.spaces[space as usize],
             &mut self.pool,
-            &mut flight,
+            flight,
         );
-        self.keepers[space as usize] = keeper(actor, &flight);
-        self.flights[actor as usize] = going_on(flight, &self.jobs);
+        self.keepers[space as usize] = keeper(actor, flight);
+        go_on(place, &self.jobs);
     }
 
     /// Does the next step of the actor's flight, which is made under the frames' lock alone and makes an entry.
-    fn advance_on_frames(&mut self, actor: u32, flight: Flight)
-        requires flies { flight_at self.old.flights actor ≡ Some flight }
-        requires under { space_under (row_of flight).needs ≡ None }
+    fn advance_on_frames(&mut self, actor: u32)
+        requires { StepsUnder self.old actor None }
         ensures stepped { OneMore self.old self.new actor }
         ensures same_jobs { (self.new.given ≡ self.old.given) × (self.new.jobs ≡ self.old.jobs) }
         ensures same_unused { self.new.unused ≡ self.old.unused }
@@ -209,9 +207,10 @@ impl<'a, S: Store + Send + Drop> Machine<'a, S> {
         ensures never_short { IsNeverShort self.new.given (entries_in self.new.history) }
         ensures lasting { S.lasts ≡ true → NoneLacked (entries_in self.new.history) }
     {
-        let mut flight = flight;
-        step_frames(&mut self.log, &mut self.pool, &mut flight);
-        self.flights[actor as usize] = going_on(flight, &self.jobs);
+        let place = &mut self.flights[actor as usize];
+        let Some(flight) = place else { unreachable!() };
+        step_frames(&mut self.log, &mut self.pool, flight);
+        go_on(place, &self.jobs);
     }
 
     /// How many of its jobs the actor has done.
@@ -365,17 +364,19 @@ fn flight_for(processor: u32, number: u32, job: Job) -> Flight
     }
 }
 
-/// The flight after a step: the same, or where its job is done that of the processor's next one.
-fn going_on(flight: Flight, jobs: &Jobs<'_>) -> Option<Flight>
-    requires { flight.number + 1 < 2 ^ 32 }
-    ensures going { (row_of flight).outcome ≡ Going → result ≡ Some flight }
-    ensures next { has_ended (row_of flight).outcome ≡ true
-        → result ≡ flight_of flight.processor (flight.number + 1) (jobs_at jobs.now flight.processor) }
+/// After a step of the flight in this place: where its job is done, that of the processor's next one takes its place.
+fn go_on(place: &mut Option<Flight>, jobs: &Jobs<'_>)
+    requires { IfSome place.old (λ flight. flight.number + 1 < 2 ^ 32) }
+    ensures going { IfSome place.old (λ flight. (row_of flight).outcome ≡ Going → place.new ≡ Some flight) }
+    ensures next { IfSome place.old (λ flight. has_ended (row_of flight).outcome ≡ true
+        → place.new ≡ flight_of flight.processor (flight.number + 1) (jobs_at jobs.now flight.processor)) }
 {
+    let Some(flight) = place else {
+        return;
+    };
     if flight.has_ended() {
-        return flight_of(flight.processor, flight.number + 1, jobs);
+        *place = flight_of(flight.processor, flight.number + 1, jobs);
     }
-    Some(flight)
 }
 
 /// Whether no processor has a flight.

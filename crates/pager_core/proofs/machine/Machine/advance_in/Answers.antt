@@ -7,22 +7,24 @@ use Rattle.pager_core.proofs.Advances.{MachineParts}
 use Rattle.pager_core.proofs.MoreEntries.{IsListed-machine}
 use Rattle.pager_core.proofs.ReadyFlights.{number-few, entries-below, room-machine, space_within}
 use Rattle.pager_core.proofs.MadeAdvances.{Advanced, Advanced-in, made_in}
-use Rattle.pager_core.proofs.WholeAdvances.{Finds, finds, flies_in}
+use Rattle.pager_core.proofs.WholeAdvances.{Finds, finds, steps_read}
 use Rattle.pager_core.proofs.machine.Machine.advance_in.Given.{Over}
 use Rattle.pager_core.proofs.machine.Machine.advance_in.Goals as goal
 
 pub index_mut-requires : goal.index_mut-requires
 index_mut-requires g c =
-    let below =
-    space_within _ c.args.actor c.args.flight c.self.invariant.0
-    (flies_in _ c.args.self.now c.args.actor c.args.flight c.self.view_is c.requires.flies) c.args.space c.requires.under in
+    let f = c.in-Some.flight in
+    let here = steps_read _ c.args.self.now c.args.actor _ c.index_mut-place.result.now f c.self.view_is c.requires.under
+    c.index_mut-place.ensures.value c.in-Some.is in
+    let below = space_within _ c.args.actor f c.self.invariant.0 here.0 c.args.space here.1 in
     omega (arith, below, c.self.inside.spaces.ok.0)
 
 pub index_mut-requires-2 : goal.index_mut-requires-2
 index_mut-requires-2 g c =
-    let below =
-    space_within _ c.args.actor c.args.flight c.self.invariant.0
-    (flies_in _ c.args.self.now c.args.actor c.args.flight c.self.view_is c.requires.flies) c.args.space c.requires.under in
+    let f = c.in-Some.flight in
+    let here = steps_read _ c.args.self.now c.args.actor _ c.index_mut-place.result.now f c.self.view_is c.requires.under
+    c.index_mut-place.ensures.value c.in-Some.is in
+    let below = space_within _ c.args.actor f c.self.invariant.0 here.0 c.args.space here.1 in
     let count = c.self.invariant.2.count in
     omega (arith, below, count, c.self.inside.keepers.ok.0)
 
@@ -30,7 +32,10 @@ pub make_entry-requires-clause-can : goal.make_entry-requires-clause-can
 make_entry-requires-clause-can g c κs within =
     let i = c.self.inside in
     let machine = c.self.invariant.0 in
-    let found = finds _ c.args.self.now c.args.actor c.args.space c.args.flight machine c.self.view_is c.requires.flies c.requires.under
+    let f = c.in-Some.flight in
+    let here = steps_read _ c.args.self.now c.args.actor _ c.index_mut-place.result.now f c.self.view_is c.requires.under
+    c.index_mut-place.ensures.value c.in-Some.is in
+    let found = finds _ c.args.self.now c.args.actor c.args.space f machine c.self.view_is here.0 here.1
     c.requires.free c.index_mut.result.now c.index_mut.ensures.value in
     record {
       setting = i.setting;
@@ -43,27 +48,34 @@ make_entry-requires-clause-can g c κs within =
 
 pub make_entry-requires-clause-room : goal.make_entry-requires-clause-room
 make_entry-requires-clause-room g c κs within =
-    room-machine _ c.args.actor c.args.flight c.self.invariant.0
-    (flies_in _ c.args.self.now c.args.actor c.args.flight c.self.view_is c.requires.flies)
+    let f = c.in-Some.flight in
+    let here = steps_read _ c.args.self.now c.args.actor _ c.index_mut-place.result.now f c.self.view_is c.requires.under
+    c.index_mut-place.ensures.value c.in-Some.is in
+    room-machine _ c.args.actor f c.self.invariant.0 here.0
 
 pub make_entry-requires-clause-few : goal.make_entry-requires-clause-few
 make_entry-requires-clause-few g c κs within =
-    entries-below _ c.args.actor c.args.flight c.self.invariant.0
-    (flies_in _ c.args.self.now c.args.actor c.args.flight c.self.view_is c.requires.flies)
+    let f = c.in-Some.flight in
+    let here = steps_read _ c.args.self.now c.args.actor _ c.index_mut-place.result.now f c.self.view_is c.requires.under
+    c.index_mut-place.ensures.value c.in-Some.is in
+    entries-below _ c.args.actor f c.self.invariant.0 here.0
 
-pub going_on-requires : goal.going_on-requires
-going_on-requires g c =
+pub go_on-requires : goal.go_on-requires
+go_on-requires g c =
     let machine = c.self.invariant.0 in
-    let found = finds _ c.args.self.now c.args.actor c.args.space c.args.flight machine c.self.view_is c.requires.flies c.requires.under
+    let f = c.in-Some.flight in
+    let here = steps_read _ c.args.self.now c.args.actor _ c.index_mut-place.result.now f c.self.view_is c.requires.under
+    c.index_mut-place.ensures.value c.in-Some.is in
+    let found = finds _ c.args.self.now c.args.actor c.args.space f machine c.self.view_is here.0 here.1
     c.requires.free c.index_mut.result.now c.index_mut.ensures.value in
-    let few = number-few _ c.args.actor c.args.flight machine found.flies in
-    let made = made_in _ c.args.actor c.args.flight c.make_entry.new.flight machine c.make_entry.new.log c.make_entry.new.pool c.args.space
+    let few = number-few _ c.args.actor f machine found.flies in
+    let made = made_in _ c.args.actor f c.make_entry.new.flight machine c.make_entry.new.log c.make_entry.new.pool c.args.space
     c.index_mut.result.now c.make_entry.new.space found c.make_entry.ensures.made in
     let same = made.added.same_work.number in
     omega (arith, few, same)
 
 -- the machine before the turn
-abbrev parts : (g : Over) → goal.After-self-3-1 g → MachineParts
+abbrev parts : (g : Over) → goal.After-self-4-1 g → MachineParts
 parts g c =
     let i = c.self.inside in
     record {
@@ -80,28 +92,32 @@ parts g c =
     }
 
 -- what it found
-found : (g : Over) (c : goal.After-self-3-1 g) → Finds (parts g c) c.args.actor c.args.space c.args.flight c.index_mut.result.now
+found : (g : Over) (c : goal.After-self-4-1 g) → Finds (parts g c) c.args.actor c.args.space c.in-Some.flight c.index_mut.result.now
 found g c =
-    finds (parts g c) c.args.self.now c.args.actor c.args.space c.args.flight c.self.invariant.0 c.self.view_is c.requires.flies
-    c.requires.under c.requires.free c.index_mut.result.now c.index_mut.ensures.value
+    let m = parts g c in
+    let f = c.in-Some.flight in
+    let here = steps_read m.run c.args.self.now c.args.actor _ c.index_mut-place.result.now f c.self.view_is c.requires.under
+    c.index_mut-place.ensures.value c.in-Some.is in
+    finds m c.args.self.now c.args.actor c.args.space f c.self.invariant.0 c.self.view_is here.0 here.1
+    c.requires.free c.index_mut.result.now c.index_mut.ensures.value
 
 -- what the turn leaves
-advanced : (g : Over) (c : goal.After-self-3-1 g)
-    → Advanced (parts g c) c.args.self.now c.args.actor c.args.flight c.make_entry.new.flight c.going_on.result c.make_entry.new.log
+advanced : (g : Over) (c : goal.After-self-4-1 g)
+    → Advanced (parts g c) c.args.self.now c.args.actor c.in-Some.flight c.make_entry.new.flight c.go_on.new.place c.make_entry.new.log
     (set c.self.inside.spaces.items c.args.space c.make_entry.new.space) c.make_entry.new.pool c.self.inside.keepers.items
     (set c.self.inside.keepers.items c.args.space c.keeper.result)
 advanced g c =
     let machine = c.self.invariant.0 in
     let m = parts g c in
-    Advanced-in m c.args.self.now c.args.actor c.args.flight c.make_entry.new.flight c.going_on.result c.make_entry.new.log
+    Advanced-in m c.args.self.now c.args.actor c.in-Some.flight c.make_entry.new.flight c.go_on.new.place c.make_entry.new.log
     (record {
       whole = machine;
       same = c.self.view_is;
-      next = record { going = c.going_on.ensures.going; next = c.going_on.ensures.next };
+      next = record { going = c.go_on.ensures.going; next = c.go_on.ensures.next };
       fewer = c.make_entry.ensures.fewer;
     })
     c.args.space c.index_mut.result.now c.make_entry.new.space c.make_entry.new.pool (found g c)
-    (made_in m c.args.actor c.args.flight c.make_entry.new.flight machine c.make_entry.new.log c.make_entry.new.pool c.args.space
+    (made_in m c.args.actor c.in-Some.flight c.make_entry.new.flight machine c.make_entry.new.log c.make_entry.new.pool c.args.space
     c.index_mut.result.now c.make_entry.new.space (found g c) c.make_entry.ensures.made)
     c.self.inside.keepers.items c.keeper.result c.keeper.ensures
 

@@ -6,7 +6,7 @@ use Rattle.pager_core.proofs.Advances.{MachineParts}
 use Rattle.pager_core.proofs.MoreEntries.{IsListed-machine}
 use Rattle.pager_core.proofs.ReadyFlights.{number-few, needs-frames, entries-below, room-machine, FliesOn-machine}
 use Rattle.pager_core.proofs.MadeAdvances.{Advanced, Advanced-on_frames, made_on_frames}
-use Rattle.pager_core.proofs.WholeAdvances.{flies_in}
+use Rattle.pager_core.proofs.WholeAdvances.{steps_read}
 use Rattle.pager_core.proofs.machine.Machine.advance_on_frames.Given.{Over}
 use Rattle.pager_core.proofs.machine.Machine.advance_on_frames.Goals as goal
 
@@ -14,44 +14,54 @@ pub step_frames-requires-clause-can : goal.step_frames-requires-clause-can
 step_frames-requires-clause-can g c =
     let i = c.self.inside in
     let machine = c.self.invariant.0 in
-    let flies = flies_in _ c.args.self.now c.args.actor c.args.flight c.self.view_is c.requires.flies in
+    let f = c.in-Some.flight in
+    let here = steps_read _ c.args.self.now c.args.actor _ c.index_mut-place.result.now f c.self.view_is c.requires
+    c.index_mut-place.ensures.value c.in-Some.is in
     record {
       setting = i.setting;
       history = entries_in i.log.history.items;
       before = 0;
       stands_for = IsListed-machine _ machine;
       legal = machine.lawful.legal;
-      flying = FliesOn-machine _ c.args.actor c.args.flight machine flies;
+      flying = FliesOn-machine _ c.args.actor f machine here.0;
       frames = machine.frames;
     }
 
 pub step_frames-requires-clause-needs : goal.step_frames-requires-clause-needs
 step_frames-requires-clause-needs g c =
-    needs-frames _ c.args.actor c.args.flight c.self.invariant.0
-    (flies_in _ c.args.self.now c.args.actor c.args.flight c.self.view_is c.requires.flies) c.requires.under
+    let f = c.in-Some.flight in
+    let here = steps_read _ c.args.self.now c.args.actor _ c.index_mut-place.result.now f c.self.view_is c.requires
+    c.index_mut-place.ensures.value c.in-Some.is in
+    needs-frames _ c.args.actor f c.self.invariant.0 here.0 here.1
 
 pub step_frames-requires-clause-room : goal.step_frames-requires-clause-room
 step_frames-requires-clause-room g c =
-    room-machine _ c.args.actor c.args.flight c.self.invariant.0
-    (flies_in _ c.args.self.now c.args.actor c.args.flight c.self.view_is c.requires.flies)
+    let f = c.in-Some.flight in
+    let here = steps_read _ c.args.self.now c.args.actor _ c.index_mut-place.result.now f c.self.view_is c.requires
+    c.index_mut-place.ensures.value c.in-Some.is in
+    room-machine _ c.args.actor f c.self.invariant.0 here.0
 
 pub step_frames-requires-clause-few : goal.step_frames-requires-clause-few
 step_frames-requires-clause-few g c =
-    entries-below _ c.args.actor c.args.flight c.self.invariant.0
-    (flies_in _ c.args.self.now c.args.actor c.args.flight c.self.view_is c.requires.flies)
+    let f = c.in-Some.flight in
+    let here = steps_read _ c.args.self.now c.args.actor _ c.index_mut-place.result.now f c.self.view_is c.requires
+    c.index_mut-place.ensures.value c.in-Some.is in
+    entries-below _ c.args.actor f c.self.invariant.0 here.0
 
-pub going_on-requires : goal.going_on-requires
-going_on-requires g c =
+pub go_on-requires : goal.go_on-requires
+go_on-requires g c =
     let machine = c.self.invariant.0 in
-    let flies = flies_in _ c.args.self.now c.args.actor c.args.flight c.self.view_is c.requires.flies in
-    let few = number-few _ c.args.actor c.args.flight machine flies in
-    let made = made_on_frames _ c.args.actor c.args.flight c.step_frames.new.flight machine c.step_frames.new.log c.step_frames.new.pool flies
+    let f = c.in-Some.flight in
+    let here = steps_read _ c.args.self.now c.args.actor _ c.index_mut-place.result.now f c.self.view_is c.requires
+    c.index_mut-place.ensures.value c.in-Some.is in
+    let few = number-few _ c.args.actor f machine here.0 in
+    let made = made_on_frames _ c.args.actor f c.step_frames.new.flight machine c.step_frames.new.log c.step_frames.new.pool here.0
     c.step_frames.ensures.stepped in
     let same = made.added.same_work.number in
     omega (arith, few, same)
 
 -- the machine before the turn
-abbrev parts : (g : Over) → goal.After-self-1 g → MachineParts
+abbrev parts : (g : Over) → goal.After-self-2-1 g → MachineParts
 parts g c =
     let i = c.self.inside in
     record {
@@ -68,22 +78,24 @@ parts g c =
     }
 
 -- what the turn leaves
-advanced : (g : Over) (c : goal.After-self-1 g)
-    → Advanced (parts g c) c.args.self.now c.args.actor c.args.flight c.step_frames.new.flight c.going_on.result c.step_frames.new.log
+advanced : (g : Over) (c : goal.After-self-2-1 g)
+    → Advanced (parts g c) c.args.self.now c.args.actor c.in-Some.flight c.step_frames.new.flight c.go_on.new.place c.step_frames.new.log
     c.self.inside.spaces.items c.step_frames.new.pool c.self.inside.keepers.items c.self.inside.keepers.items
 advanced g c =
     let machine = c.self.invariant.0 in
     let m = parts g c in
-    let flies = flies_in m.run c.args.self.now c.args.actor c.args.flight c.self.view_is c.requires.flies in
-    Advanced-on_frames m c.args.self.now c.args.actor c.args.flight c.step_frames.new.flight c.going_on.result c.step_frames.new.log
+    let f = c.in-Some.flight in
+    let here = steps_read m.run c.args.self.now c.args.actor _ c.index_mut-place.result.now f c.self.view_is c.requires
+    c.index_mut-place.ensures.value c.in-Some.is in
+    Advanced-on_frames m c.args.self.now c.args.actor f c.step_frames.new.flight c.go_on.new.place c.step_frames.new.log
     (record {
       whole = machine;
       same = c.self.view_is;
-      next = record { going = c.going_on.ensures.going; next = c.going_on.ensures.next };
+      next = record { going = c.go_on.ensures.going; next = c.go_on.ensures.next };
       fewer = c.step_frames.ensures.fewer;
     })
-    c.step_frames.new.pool flies c.requires.under
-    (made_on_frames m c.args.actor c.args.flight c.step_frames.new.flight machine c.step_frames.new.log c.step_frames.new.pool flies
+    c.step_frames.new.pool here.0 here.1
+    (made_on_frames m c.args.actor f c.step_frames.new.flight machine c.step_frames.new.log c.step_frames.new.pool here.0
     c.step_frames.ensures.stepped)
     c.self.inside.keepers.items
 

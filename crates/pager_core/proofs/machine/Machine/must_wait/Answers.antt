@@ -6,18 +6,20 @@ use Rattle.pager_core.proofs.machine.Machine.must_wait.Goals as goal
 pub index-requires : goal.index-requires
 index-requires g c =
     let i = c.self.inside in
-    let below =
-    space_within _ c.args.actor c.args.flight.now c.self.invariant.0
-    (flies_in _ c.args.self.now c.args.actor c.args.flight.now c.self.view_is c.requires.flies) c.args.space c.requires.under in
+    let steps = c.requires in
+    let flies = flies_in _ c.args.self.now c.args.actor steps.flight c.self.view_is steps.flies in
+    let below = space_within _ c.args.actor steps.flight c.self.invariant.0 flies c.args.space steps.under in
     let count = c.self.invariant.2.count in
     omega (arith, below, count, i.keepers.ok.0)
 
 pub returns : goal.returns
-returns g c = (
-  λ is.
-      must_wait _ c.args.self.now c.args.actor c.args.space c.args.flight.now c.self.invariant.0 c.self.view_is c.requires.flies
-      c.requires.under c.self.inside.keepers.items c.self.invariant.2 c.index.result.now c.index.ensures (c.is_other.ensures.0 is),
-  λ waits.
-      c.is_other.ensures.1 (is_other _ c.args.self.now c.args.actor c.args.space c.args.flight.now c.self.invariant.0 c.self.view_is
-      c.requires.flies c.requires.under c.self.inside.keepers.items c.self.invariant.2 c.index.result.now c.index.ensures waits),
-)
+returns g c =
+    let steps = c.requires in
+    let flies = flies_in _ c.args.self.now c.args.actor steps.flight c.self.view_is steps.flies in (
+      λ is.
+          must_wait _ c.args.self.now c.args.actor c.args.space steps.flight c.self.invariant.0 c.self.view_is flies steps.under
+          c.self.inside.keepers.items c.self.invariant.2 c.index.result.now c.index.ensures (c.is_other.ensures.0 is),
+      λ waits.
+          c.is_other.ensures.1 (is_other _ c.args.self.now c.args.actor c.args.space steps.flight c.self.invariant.0 c.self.view_is
+          flies steps.under c.self.inside.keepers.items c.self.invariant.2 c.index.result.now c.index.ensures waits),
+    )
