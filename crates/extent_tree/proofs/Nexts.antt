@@ -1,11 +1,12 @@
 -- Extents beside each other, and what a walk over them passes.
-use Rattle.std.proofs.Common.{◌≡◌, ℕ, zero, suc, ◌+◌, ◌-◌, ◌*◌, ◌/◌, ◌%◌, ◌^◌, ◌<◌, ◌≤◌, ◌⊎◌, false, Some, None, is_some, inl, inr, sym, ap, ◌∙◌, add-one, arith}
+use Rattle.std.proofs.Common.{◌≡◌, ℕ, zero, suc, ◌+◌, ◌-◌, ◌*◌, ◌/◌, ◌%◌, ◌^◌, ◌<◌, ◌≤◌, ◌⊎◌, ◌≢◌, ◌||◌, max, true, false, Some, None, is_some, inl, inr, refl, sym, ap, ap₂, ◌∙◌, add-one, arith}
 use Rattle.std.proofs.Math.Nat.{mul-le-mul_left}
-use Rattle.std.proofs.lemmas.Bool.{cases_lt, false≢true}
+use Rattle.std.proofs.lemmas.Bool.{cases_lt, false≢true, or_cases}
 use Rattle.pager_model.proofs.Options.{cases_Option}
 use Rattle.extent_tree.specs.declared.spot.Row.{Row}
-use Rattle.extent_tree.specs.Rows.{Arena, NoRows, IsNextRow, spot_at, number_at, part_at, place_of, spot_of, row, is_split}
-use Rattle.extent_tree.specs.Kept.{AreInOrder, IsTree}
+use Rattle.extent_tree.specs.declared.spot.Spot.{Spot}
+use Rattle.extent_tree.specs.Rows.{Arena, blank, NoRows, IsNextRow, spot_at, number_at, part_at, place_of, spot_of, row, is_split}
+use Rattle.extent_tree.specs.Kept.{AreInOrder, IsTree, is_used}
 use Rattle.extent_tree.proofs.Places.{number_step, place_alike, place_down, root_place, spot_some}
 use Rattle.extent_tree.proofs.Splits.{splits_are_rows}
 
@@ -46,9 +47,6 @@ number_up (suc (suc (suc zero))) page other h on = omega arith
 number_up (suc (suc (suc (suc height)))) page other h on = absurd (omega arith)
 
 -- ---- places in order
-
-pub roots_in_order : {V : Type 0} (t : Arena V) (from end : ℕ) → end ≤ 512 * t.roots → AreInOrder t 0 (from / 512) from end
-roots_in_order t from end known page on before = root_place t page (omega arith) ∙ ap Some (omega arith)
 
 -- the place of the extent round the first page
 pub first_place : {V : Type 0} (t : Arena V) (height place from end : ℕ) → AreInOrder t height place from end → from < end
@@ -130,6 +128,79 @@ pub no_rows_on : {V : Type 0} (t : Arena V) (top from page end : ℕ) → NoRows
 no_rows_on t top from page end so_far more size other most on before = elim (cases_lt other page) [
   | inl earlier ↦ so_far size other most on earlier
   | inr later ↦ more size other most later before
+]
+
+-- no page under roots that nothing is at has a row round it
+pub no_rows_at_roots : {V : Type 0} (t : Arena V) → IsTree t → (from root : ℕ) → root ≤ t.roots
+    → ((other : ℕ) → from / 512 ≤ other → other < root → spot_at t other ≡ blank) → NoRows t 3 from (512 * root)
+no_rows_at_roots t tree from root known bare size page most on before =
+    let spot = bare (page / 512) (omega arith) (omega arith) in
+    no_row_within t tree 0 (page / 512) page size page (omega arith) (root_place t page (omega arith)) (ap (λ s. s.value) spot)
+    (ap (λ s. s.node) spot) refl most
+
+-- where something is at a root, an extent of it has a row
+pub row_at_root : {V : Type 0} (t : Arena V) → IsTree t → (root : ℕ) → root < t.roots → is_used (spot_at t root) ≡ true
+    → (size page : ℕ) × (size ≤ 3) × (page / 512 ≡ root) × (is_some (row t size page) ≡ true)
+unfolding is_split
+row_at_root t tree root known used =
+    let at : place_of t 0 (512 * root) ≡ Some root = root_place t (512 * root) (omega arith) ∙ ap Some (omega arith) in
+    elim (or_cases _ _ used) [
+      | inl value ↦
+          (3, 512 * root, omega arith, omega arith, ap is_some (row_at t 0 root (512 * root) (512 * root) (omega arith) at refl) ∙ value)
+      | inr node ↦
+          let below = (splits_are_rows t tree).below 3 (512 * root) (omega arith)
+          (ap (λ s. is_some s.node) (spot_some t 0 (512 * root) root at) ∙ node) in
+          (below.0, below.1, omega (arith, below.2), omega (arith, below.3), below.4)
+    ]
+
+-- A page is the first one from another on and before an end that is under a root which something is at.
+pub record IsUnderUsed {V : Type 0} (t : Arena V) (from page end root : ℕ) : Type 0 where
+  pub on : from ≤ page
+  pub before : page < end
+  pub at : place_of t 0 page ≡ Some root
+  pub none : NoRows t 3 from page
+
+pub under_used : {V : Type 0} (t : Arena V) → IsTree t → (from end root page : ℕ) → end ≤ 512 * t.roots → from < end → from / 512 ≤ root
+    → root < (end + 511) / 512 → ((other : ℕ) → from / 512 ≤ other → other < root → spot_at t other ≡ blank) → page ≡ max from (512 * root)
+    → IsUnderUsed t from page end root
+under_used t tree from end root page known some on low bare is = record {
+  on = omega arith;
+  before = omega arith;
+  at = root_place t page (omega arith) ∙ ap Some (omega arith);
+  none = λ size other most on before. no_rows_at_roots t tree from root (omega arith) bare size other most on (omega arith);
+}
+
+-- what is found isn't at the end
+pub found_root : {V : Type 0} (spot : Spot V) (root past : ℕ) → root ≤ past → (root ≡ past → spot ≡ blank) → spot ≢ blank → root < past
+found_root spot root past most none some = elim (cases_lt root past) [ inl less ↦ less | inr not ↦ absurd (some (none (omega arith))) ]
+
+-- And its root is split, with no row.
+pub record IsUnderSplit {V : Type 0} (t : Arena V) (from page end root node : ℕ) : Type 0 where
+  pub under : IsUnderUsed t from page end root
+  pub low : root < (end + 511) / 512
+  pub value : (spot_at t root).value ≡ None
+  pub leads : (spot_at t root).node ≡ Some node
+
+pub under_split : {V : Type 0} (t : Arena V) → IsTree t → (from end root past page node : ℕ) (spot : Spot V) → end ≤ 512 * t.roots → from < end
+    → past ≡ (end + 511) / 512 → from / 512 ≤ root → root ≤ past
+    → ((other : ℕ) → from / 512 ≤ other → other < root → spot_at t other ≡ blank) → (root < past → spot ≡ spot_at t root)
+    → (root ≡ past → spot ≡ blank) → spot.value ≡ None → spot.node ≡ Some node → page ≡ max from (512 * root)
+    → IsUnderSplit t from page end root node
+under_split t tree from end root past page node spot known some past_is on within bare there none value leads is =
+    let low = found_root spot root past within none (λ e. absurd (let a = ap (λ s. s.node) e in cc)) in
+    record {
+      under = under_used t tree from end root page known some on (omega arith) bare is;
+      low = omega arith;
+      value = sym (ap (λ s. s.value) (there low)) ∙ value;
+      leads = sym (ap (λ s. s.node) (there low)) ∙ leads;
+    }
+
+-- where nothing is found, the end is
+pub no_root : {V : Type 0} (spot : Spot V) (root past : ℕ) → root ≤ past → (root < past → is_used spot ≡ true) → spot.value ≡ None
+    → spot.node ≡ None → root ≡ past
+no_root spot root past most used value node = elim (cases_lt root past) [
+  | inl less ↦ absurd (false≢true (sym (ap₂ (λ v n. is_some v || is_some n) value node) ∙ used less))
+  | inr not ↦ omega arith
 ]
 
 -- the next row in the parts of extents, where these have none themselves

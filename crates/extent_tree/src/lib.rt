@@ -98,6 +98,9 @@ impl<V: Copy> ExtentTree<V> {
     /// What is at the eight parts of an extent, in order, from what is at the extent. Nothing is there where the list ends.
     pub fn eight<L: Ledger>(&self, over: Spot<V>, steps: &mut Steps<L>) -> &[Spot<V>]
         requires over { (height page : ℕ) × (height < 3) × (over ≡ spot_of self.now height page) }
+        ensures few { length result.now ≤ 8 }
+        ensures spots { (size page other : ℕ) → size ≤ 2 → over ≡ spot_of self.now (2 - size) page → other / 8 ^ suc size ≡ page / 8 ^ suc size
+            → slice_index_or result.now (other / 8 ^ size % 8) blank ≡ spot_of self.now (3 - size) other }
         ensures values { (size page other : ℕ) → size ≤ 2 → over ≡ spot_of self.now (2 - size) page → other / 8 ^ suc size ≡ page / 8 ^ suc size
             → (slice_index_or result.now (other / 8 ^ size % 8) blank).value ≡ row self.now size other }
         ensures cost { steps.new ≤ steps.old + 1 }
@@ -119,7 +122,23 @@ impl<V: Copy> ExtentTree<V> {
         ensures cost { MatchOption result (steps.new ≤ steps.old + 4 * (end - from)) (λ found. steps.new ≤ steps.old + 4 * (found.page + 1 - from)) }
         ensures roots { from ≤ end → NoSplitRoots self.now from end → steps.new + from / 512 ≤ steps.old + (end + 511) / 512 }
     {
-        walk::next(&self.store, from / 512, 0, from, end, steps)
+        walk::next(&self.store, from, end, steps)
+    }
+
+    /// The first root from one on and before an end that something is at, or the end.
+    ///
+    /// A root is an extent of 512 pages. Each up to the one that is found or the end is looked at once.
+    pub fn used_root<L: Ledger>(&self, from: u32, end: u32, steps: &mut Steps<L>) -> u32
+        requires range { from ≤ end }
+        requires end { end ≤ self.now.roots }
+        ensures from_on { from ≤ result }
+        ensures within { result ≤ end }
+        ensures bare { NoRows self.now 3 (512 * from) (512 * result) }
+        ensures used { result < end → (size page : ℕ) × (size ≤ 3) × (page / 512 ≡ result) × (is_some (row self.now size page) ≡ true) }
+        ensures cost_used { result < end → steps.new + from ≤ steps.old + suc result }
+        ensures cost_none { result ≡ end → steps.new + from ≤ steps.old + end }
+    {
+        self.store.next_root(from, end, steps).0
     }
 
     /// Gives the extent of a size round a page this value, whether it has a row or not.

@@ -1,11 +1,11 @@
 use Rattle.std.proofs.Common.{rules, ◌≡◌, ℕ, ◌+◌, ◌-◌, ◌*◌, ◌<◌, ◌≤◌, refl, inl, sym, ap, subst, ◌∙◌, arith}
 use Rattle.extent_tree.specs.Kept.{AreInOrder}
-use Rattle.extent_tree.specs.Rows.{NoRows, NoSplitRoots, number_at, row}
-use Rattle.extent_tree.proofs.Nexts.{above_pages, looks_all, rest_at, rest_some, number_within, first_place, parts_in_order, rest_in_order, no_row_within, no_rows_on, no_rows_up, next_up, row_at, looks_more, no_root_node}
+use Rattle.extent_tree.specs.Rows.{NoRows, number_at, row}
+use Rattle.extent_tree.proofs.Nexts.{above_pages, looks_all, rest_at, rest_some, number_within, first_place, parts_in_order, rest_in_order, no_row_within, no_rows_on, no_rows_up, next_up, row_at, looks_more}
 use Rattle.extent_tree.proofs.Trees.{place_known}
-use Rattle.extent_tree.proofs.walk.+next.Goals as goal
-use Rattle.extent_tree.proofs.walk.+next.Goals.{in-Some-node+in_default-next, in_default-node}
-use Rattle.extent_tree.proofs.walk.+next.Given.{Over}
+use Rattle.extent_tree.proofs.walk.+next_below.Goals as goal
+use Rattle.extent_tree.proofs.walk.+next_below.Goals.{in-Some-node+in_default-next_below, in_default-node}
+use Rattle.extent_tree.proofs.walk.+next_below.Given.{Over}
 
 pub returns-in-Some-clause-some : goal.returns-in-Some-clause-some
 returns-in-Some-clause-some g t c =
@@ -39,8 +39,8 @@ place-first-requires g t c =
     (sym (ap (λ s. s.node) c.spot-spot.ensures.spot) ∙ (sym c.node.ensures ∙ c.in-Some-node.is)) in
     omega (arith, hangs.0, c.requires.tree.nodes.fits, c.requires.tree.nodes.small, c.part_at.ensures.small)
 
-pub next-requires : goal.next-requires
-next-requires g t c κs within =
+pub next_below-requires : goal.next_below-requires
+next_below-requires g t c κs within =
     let s = c.args.store.now in
     let h = c.args.height in
     let page = c.loop-page.page in
@@ -55,15 +55,15 @@ next-requires g t c κs within =
     (parts_in_order s h c.loop-page.place page (page + c.min.result) c.in-Some-node.node low stop at leads) in
     (search (rules, smaller), (within.0, (within.1, (lower, (c.requires.tree, parts)))))
 
-pub returns-in-Some-next-clause-some : goal.returns-in-Some-next-clause-some
-returns-in-Some-next-clause-some g t c =
+pub returns-in-Some-next_below-clause-some : goal.returns-in-Some-next_below-clause-some
+returns-in-Some-next_below-clause-some g t c =
     let s = c.args.store.now in
     let h = c.args.height in
     let page = c.loop-page.page in
     let stop = page + c.min.result in
     let at = first_place s h c.loop-page.place page c.args.end c.loop-page.invariant.places c.loop-page-test.true in
     let value = sym (ap (λ s. s.value) c.spot-spot.ensures.spot) ∙ c.in_default.is in
-    let next = next_up s h page stop c.in-Some-next.found c.in-Some-next.ensures.some
+    let next = next_up s h page stop c.in-Some-next_below.found c.in-Some-next_below.ensures.some
     (λ other on before. row_at s h c.loop-page.place page other c.requires.height at
     (number_within h page other c.requires.height on (omega (arith, before, c.min.ensures, c.rest_at.ensures))) ∙ value) in
     record {
@@ -72,23 +72,15 @@ returns-in-Some-next-clause-some g t c =
       low = next.low;
       is = next.is;
       largest = next.largest;
-      lowest = no_rows_on s (3 - h) c.args.from page c.in-Some-next.found.page c.loop-page.invariant.none next.lowest;
+      lowest = no_rows_on s (3 - h) c.args.from page c.in-Some-next_below.found.page c.loop-page.invariant.none next.lowest;
     }
 
-pub returns-in-Some-next-clause-cost : goal.returns-in-Some-next-clause-cost
-returns-in-Some-next-clause-cost g t c =
-    let next = c.in-Some-next.ensures in
+pub returns-in-Some-next_below-clause-cost : goal.returns-in-Some-next_below-clause-cost
+returns-in-Some-next_below-clause-cost g t c =
+    let next = c.in-Some-next_below.ensures in
     looks_more c.args.height c.args.from c.loop-page.page
-    (c.in-Some-next.found.page + 1) c.args.steps.now c.loop-page.steps c.next.new.steps c.requires.height c.loop-page.invariant.from_on
+    (c.in-Some-next_below.found.page + 1) c.args.steps.now c.loop-page.steps c.next_below.new.steps c.requires.height c.loop-page.invariant.from_on
     (omega (arith, next.some.from_on)) c.loop-page.invariant.cost (omega (arith, next.cost, c.spot-spot.ensures.cost))
-
-pub returns-in-Some-next-clause-roots : goal.returns-in-Some-next-clause-roots
-returns-in-Some-next-clause-roots g t c root _ bare =
-    let s = c.args.store.now in
-    let at = first_place s c.args.height c.loop-page.place c.loop-page.page c.args.end c.loop-page.invariant.places c.loop-page-test.true in
-    absurd (no_root_node s c.args.height c.loop-page.page c.loop-page.place c.in-Some-node.node root at
-    (sym (ap (λ s. s.node) c.spot-spot.ensures.spot) ∙ (sym c.node.ensures ∙ c.in-Some-node.is))
-    (bare c.loop-page.page c.loop-page.invariant.from_on c.loop-page-test.true))
 
 pub overflow_add-place : goal.overflow_add-place
 overflow_add-place g t c =
@@ -119,8 +111,8 @@ passed g t c =
     let inside : (other : ℕ) → page ≤ other → other < page + c.min.result → number_at h other ≡ number_at h page =
     λ other on before. number_within h page other c.requires.height on (omega (arith, before, c.min.ensures, c.rest_at.ensures)) in
     elim c.match-node.branch [
-      | in-Some-node+in_default-next w ↦
-          no_rows_up s h page (page + c.min.result) w.in_default-next.ensures.none
+      | in-Some-node+in_default-next_below w ↦
+          no_rows_up s h page (page + c.min.result) w.in_default-next_below.ensures.none
           (λ other on before. row_at s h place page other c.requires.height at (inside other on before) ∙ value)
       | in_default-node w ↦ λ size other most on before.
           no_row_within s c.requires.tree h place page size other c.requires.height at value
@@ -131,22 +123,9 @@ passed g t c =
 looks : (g : Over) (t : ℕ) (c : goal.Joined-node g t)
     → c.match-node.steps ≤ c.loop-page.steps + 1 + (4 - (c.args.height + 1)) * (c.loop-page.page + c.min.result - c.loop-page.page)
 looks g t c = elim c.match-node.branch [
-  | in-Some-node+in_default-next w ↦ omega (arith, w.steps-is, w.in_default-next.ensures.cost, c.spot-spot.ensures.cost)
+  | in-Some-node+in_default-next_below w ↦ omega (arith, w.steps-is, w.in_default-next_below.ensures.cost, c.spot-spot.ensures.cost)
   | in_default-node w ↦ omega (arith, w.steps-is, c.spot-spot.ensures.cost)
 ]
-
-root_look : (g : Over) (t : ℕ) (c : goal.Joined-node g t) → c.args.height ≡ 0 → NoSplitRoots c.args.store.now c.args.from c.args.end
-    → c.match-node.steps ≡ c.loop-page.steps + 1
-root_look g t c root bare =
-    let s = c.args.store.now in
-    let at = first_place s c.args.height c.loop-page.place c.loop-page.page c.args.end c.loop-page.invariant.places c.loop-page-test.true in
-    elim c.match-node.branch [
-      | in-Some-node+in_default-next w ↦
-          absurd (no_root_node s c.args.height c.loop-page.page c.loop-page.place w.in-Some-node.node root at
-          (sym (ap (λ s. s.node) c.spot-spot.ensures.spot) ∙ (sym c.node.ensures ∙ w.in-Some-node.is))
-          (bare c.loop-page.page c.loop-page.invariant.from_on c.loop-page-test.true))
-      | in_default-node w ↦ omega (arith, w.steps-is, c.spot-spot.ensures.cost)
-    ]
 
 pub loop-page-preserved : goal.loop-page-preserved
 loop-page-preserved g t c =
@@ -164,7 +143,6 @@ loop-page-preserved g t c =
     let within : page + c.min.result ≤ c.args.end = omega (arith, c.min.ensures, c.loop-page-test.true) in
     let full : page + c.min.result < c.args.end → c.min.result ≡ rest_at h page =
     λ before. omega (arith, before, c.min.ensures, c.rest_at.ensures) in
-    let least : c.min.result ≤ rest_at h page = omega (arith, c.min.ensures, c.rest_at.ensures) in
     record {
       none = no_rows_on s (3 - h) c.args.from page (page + c.min.result) was.none (passed g t c);
       from_on = omega (arith, was.from_on);
@@ -174,27 +152,8 @@ loop-page-preserved g t c =
       cost = looks_more h c.args.from page
           (page + c.min.result) c.args.steps.now c.loop-page.steps c.match-node.steps c.requires.height was.from_on
           (omega (arith, some)) was.cost (looks g t c);
-      roots = λ root bare before. omega (
-        arith,
-        was.roots root bare c.loop-page-test.true,
-        root_look g t c root bare,
-        full before,
-        ap (λ h. rest_at h page) root,
-      );
-      all_roots = λ root bare. omega (
-        arith,
-        was.roots root bare c.loop-page-test.true,
-        root_look g t c root bare,
-        some,
-        least,
-        ap (λ h. rest_at h page) root,
-      );
     }
 
 pub returns-clause-cost : goal.returns-clause-cost
 returns-clause-cost g t c =
     looks_all c.args.height c.args.from c.args.end c.loop-page.page c.args.steps.now c.loop-page.steps c.loop-page.invariant.within c.loop-page.invariant.cost
-
-pub returns-clause-roots : goal.returns-clause-roots
-returns-clause-roots g t c root forward bare =
-    omega (arith, c.loop-page.invariant.all_roots root bare, c.loop-page.invariant.within, c.loop-page-test.false)
