@@ -7,7 +7,7 @@
 
 ghost use Rattle.std.specs.Prelude.{suc, slice_index_or, ◌/◌, ◌%◌, ◌≡◌, [], length, ℕ, ◌+◌, ◌-◌, ◌*◌, ◌<◌, ◌≤◌, ◌^◌, true, Some, None, IfNone, IfOk, IfSome, MatchOption, is_some};
 ghost use Rattle.extent_tree.specs.Counts.{splits_with};
-ghost use Rattle.extent_tree.specs.Rows.{ChangesEight, ChangesOnly, IsNextRow, NoRows, NoSplitRoots, SplitsAreRowsBelow, blank, is_split, row, spot_of};
+ghost use Rattle.extent_tree.specs.Rows.{ChangesEight, ChangesOnly, HasNoRow, IsNextRow, IsRowRound, NoRows, NoSplitRoots, SplitsAreRowsBelow, blank, is_split, row, spot_of};
 
 mod spot;
 mod store;
@@ -71,6 +71,15 @@ impl<V: Copy> ExtentTree<V> {
             Some(place) => self.store.spot(place, steps),
             None => Spot::blank(),
         }
+    }
+
+    /// The largest row round a page.
+    pub fn row_round<L: Ledger>(&self, page: u32, steps: &mut Steps<L>) -> Option<Row<V>>
+        ensures some { IfSome result (IsRowRound self.now page) }
+        ensures none { IfNone result (HasNoRow self.now page) }
+        ensures cost { steps.new ≤ steps.old + 4 }
+    {
+        walk::row_round(&self.store, page, steps)
     }
 
     /// What is at the extent of a size round a page, from what is at the one of the next larger size.
