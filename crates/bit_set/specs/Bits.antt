@@ -3,6 +3,10 @@ use Rattle.std.specs.Prelude.{ℕ, ◌≡◌, ◌*◌, ◌/◌, ◌%◌, ◌<◌
 use Rattle.std.specs.List.{range_with_len}
 use Rattle.std.specs.Int.{bit_at}
 
+-- the largest bound of a set: three levels of words of 64 bits
+abbrev pub most_bound : ℕ
+most_bound = 262144
+
 -- the bit of a number is set in the words
 unfoldable pub has_bit : List ℕ → ℕ → Bool
 has_bit words n = bit_at (slice_index words (n / 64)) (n % 64) == 1

@@ -5,7 +5,7 @@
 #![tactic(auto)]
 
 ghost use Rattle.std.specs.Prelude.{◌≡◌, ◌+◌, ◌%◌, ◌<◌, ◌≤◌, true, false, length, replicate, slice_index_or, slice_set, IfOk};
-ghost use Rattle.bit_set.specs.Bits.{IsFirstFrom};
+ghost use Rattle.bit_set.specs.Bits.{IsFirstFrom, most_bound};
 ghost use Rattle.bit_set.specs.Summaries.{Sums};
 
 mod level;
@@ -43,7 +43,7 @@ impl BitSet {
     /// The empty set of numbers below the bound, a multiple of 64 and at most 262,144.
     pub fn create(alloc: Global, bound: u32) -> Result<BitSet, AllocError>
         requires whole { bound % 64 ≡ 0 }
-        requires most { bound ≤ 262144 }
+        requires most { bound ≤ most_bound }
         ensures { IfOk result (λ set. set ≡ replicate bound false) }
     {
         let words = bound / 64;

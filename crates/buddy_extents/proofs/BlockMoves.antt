@@ -6,6 +6,7 @@ use Rattle.std.proofs.lemmas.Bool.{cases_eq, cases_lt, false≢true, or_cases, o
 use Rattle.std.proofs.lemmas.List.{ext_get_or, length-replicate, get_or-replicate}
 use Rattle.std.proofs.lemmas.List.FromFn.{length-map-range_with_len, get_or-map-range_with_len}
 use Rattle.std.proofs.lemmas.Nat.{pow_pos}
+use Rattle.pager_model.specs.Bounds.{most_frames}
 use Rattle.pager_model.specs.FreeBlocks.{with_range}
 use Rattle.pager_model.proofs.ExtentLemmas.{extent_of_frame, range_of_extent}
 use Rattle.buddy_extents.specs.Blocks.{node, is_block, has_block, is_free, free_in, free_with, same_block, AreBlocks, InHand, IsBuddy}
@@ -158,7 +159,7 @@ AreBlocks-insert nodes frames n frame free hand apart =
     size = length-set nodes (node n frame) true ∙ hand.blocks.size
 
     -- each block that is in then is the one in hand, or was in
-    which : (any m : ℕ) → any < 32768 → m ≤ 9 → is_block (set nodes (node n frame) true) m any ≡ true
+    which : (any m : ℕ) → any < most_frames → m ≤ 9 → is_block (set nodes (node n frame) true) m any ≡ true
         → ((m ≡ n) × (any / 2 ^ m ≡ frame / 2 ^ n)) ⊎ (is_block nodes m any ≡ true)
     which any m known h is = elim (is_block-set nodes (node n frame) true m any inside) [
       | inl here ↦ inl (same_node m n any frame h hand.order_up_to_9 known hand.known here.0)
@@ -166,10 +167,10 @@ AreBlocks-insert nodes frames n frame free hand apart =
     ]
 
     -- and in the block in hand none was
-    none_was : (any m : ℕ) → any < 32768 → m ≤ 9 → any / 2 ^ n ≡ frame / 2 ^ n → is_block nodes m any ≡ true → ⊥
+    none_was : (any m : ℕ) → any < most_frames → m ≤ 9 → any / 2 ^ n ≡ frame / 2 ^ n → is_block nodes m any ≡ true → ⊥
     none_was any m known h same is = false≢true (sym (hand.none any m known h same) ∙ is)
 
-    one_each : (any l m : ℕ) → any < 32768 → l ≤ 9 → m ≤ 9 → is_block (set nodes (node n frame) true) l any ≡ true
+    one_each : (any l m : ℕ) → any < most_frames → l ≤ 9 → m ≤ 9 → is_block (set nodes (node n frame) true) l any ≡ true
         → is_block (set nodes (node n frame) true) m any ≡ true → l ≡ m
     one_each any l m known a b at_l at_m =
         elim (which any l known a at_l) [
@@ -183,7 +184,7 @@ AreBlocks-insert nodes frames n frame free hand apart =
           ]
         ]
 
-    beside : (any other : ℕ) → other < 32768 → n < 9 → any / 2 ^ n ≡ frame / 2 ^ n → any / 2 ^ (n + 1) ≡ other / 2 ^ (n + 1)
+    beside : (any other : ℕ) → other < most_frames → n < 9 → any / 2 ^ n ≡ frame / 2 ^ n → any / 2 ^ (n + 1) ≡ other / 2 ^ (n + 1)
         → is_block nodes n other ≡ true → any / 2 ^ n ≡ other / 2 ^ n
     beside any other known h new same old =
         elim (cases_eq (other / 2 ^ n) (frame / 2 ^ n)) [
@@ -191,7 +192,7 @@ AreBlocks-insert nodes frames n frame free hand apart =
           | inr two ↦ absurd (false≢true (sym (apart other h (known, sym same ∙ wider n any frame new, two)) ∙ old))
         ]
 
-    no_buddies : (any other m : ℕ) → any < 32768 → other < 32768 → m < 9 → any / 2 ^ (m + 1) ≡ other / 2 ^ (m + 1)
+    no_buddies : (any other m : ℕ) → any < most_frames → other < most_frames → m < 9 → any / 2 ^ (m + 1) ≡ other / 2 ^ (m + 1)
         → is_block (set nodes (node n frame) true) m any ≡ true → is_block (set nodes (node n frame) true) m other ≡ true
         → any / 2 ^ m ≡ other / 2 ^ m
     no_buddies any other m known there h same at by =
@@ -211,7 +212,7 @@ AreBlocks-insert nodes frames n frame free hand apart =
           ]
         ]
 
-    within : (any m : ℕ) → any < 32768 → m ≤ 9 → is_block (set nodes (node n frame) true) m any ≡ true → any < frames
+    within : (any m : ℕ) → any < most_frames → m ≤ 9 → is_block (set nodes (node n frame) true) m any ≡ true → any < frames
     within any m known h is = elim (which any m known h is) [
       | inl new ↦ hand.within any (in_block any m n frame new)
       | inr old ↦ hand.blocks.within any m known h old
@@ -220,7 +221,7 @@ AreBlocks-insert nodes frames n frame free hand apart =
 -- ---- the moves
 
 -- a block in the set comes into the hand
-pub lift : (nodes : List Bool) (frames n frame : ℕ) → frames ≤ 32768 → AreBlocks nodes frames → n ≤ 9 → frame < 32768
+pub lift : (nodes : List Bool) (frames n frame : ℕ) → frames ≤ most_frames → AreBlocks nodes frames → n ≤ 9 → frame < most_frames
     → is_block nodes n frame ≡ true → InHand (set nodes (node n frame) false) frames n frame (free_in nodes frames)
 lift nodes frames n frame most blocks small known is = record {
   order_up_to_9 = small;
@@ -240,7 +241,7 @@ lift nodes frames n frame most blocks small known is = record {
     at : (any : ℕ) → any / 2 ^ n ≡ frame / 2 ^ n → is_block nodes n any ≡ true
     at any e = ap (λ x. get_or nodes x false) (node_of_same n any frame e) ∙ is
 
-    none : (any m : ℕ) → any < 32768 → m ≤ 9 → any / 2 ^ n ≡ frame / 2 ^ n → is_block changed m any ≡ false
+    none : (any m : ℕ) → any < most_frames → m ≤ 9 → any / 2 ^ n ≡ frame / 2 ^ n → is_block changed m any ≡ false
     none any m here h e = elim (is_block-set nodes (node n frame) false m any inside) [
       | inl out ↦ out.1
       | inr other ↦ false_from_ne_true _ (λ still.
@@ -251,13 +252,13 @@ lift nodes frames n frame most blocks small known is = record {
     within : (any : ℕ) → any / 2 ^ n ≡ frame / 2 ^ n → any < frames
     within any e = blocks.within any n (known_together n frame any (omega arith) known e) small (at any e)
 
-    there : (any : ℕ) → any < 32768 → free_at changed n frame any ≡ true → is_free nodes any ≡ true
+    there : (any : ℕ) → any < most_frames → free_at changed n frame any ≡ true → is_free nodes any ≡ true
     there any here free = elim (free_at-cases changed n frame any free) [
       | inl hand ↦ is_free-block nodes any n small (at any hand)
       | inr block ↦ is_free-block nodes any block.0 block.1 (was_in nodes (node n frame) block.0 any inside block.2)
     ]
 
-    back : (any : ℕ) → any < 32768 → is_free nodes any ≡ true → free_at changed n frame any ≡ true
+    back : (any : ℕ) → any < most_frames → is_free nodes any ≡ true → free_at changed n frame any ≡ true
     back any here free =
         let block = block_of_free nodes any free in
         elim (is_block-set nodes (node n frame) false block.0 any inside) [
@@ -274,7 +275,7 @@ lift nodes frames n frame most blocks small known is = record {
         ∙ (both_ways _ _ (there any (omega arith)) (back any (omega arith)) ∙ sym (get_or-free_in nodes frames any low))
 
 -- the block in hand is joined with its buddy, which goes out of the set
-pub join : (nodes : List Bool) (frames n frame other : ℕ) (free : List Bool) → frames ≤ 32768 → InHand nodes frames n frame free → n < 9
+pub join : (nodes : List Bool) (frames n frame other : ℕ) (free : List Bool) → frames ≤ most_frames → InHand nodes frames n frame free → n < 9
     → IsBuddy n frame other → is_block nodes n other ≡ true → InHand (set nodes (node n other) false) frames (n + 1) frame free
 join nodes frames n frame other free most hand small buddy is = record {
   order_up_to_9 = omega arith;
@@ -295,7 +296,7 @@ join nodes frames n frame other free most hand small buddy is = record {
     at : (any : ℕ) → any / 2 ^ n ≡ other / 2 ^ n → is_block nodes n any ≡ true
     at any e = ap (λ x. get_or nodes x false) (node_of_same n any other e) ∙ is
 
-    none : (any m : ℕ) → any < 32768 → m ≤ 9 → any / 2 ^ (n + 1) ≡ frame / 2 ^ (n + 1) → is_block changed m any ≡ false
+    none : (any m : ℕ) → any < most_frames → m ≤ 9 → any / 2 ^ (n + 1) ≡ frame / 2 ^ (n + 1) → is_block changed m any ≡ false
     none any m here h e = false_from_ne_true _ (λ still.
         let before = was_in nodes (node n other) m any inside still in
         elim (halves n frame other any buddy e) [
@@ -314,7 +315,7 @@ join nodes frames n frame other free most hand small buddy is = record {
       | inr second ↦ hand.blocks.within any n (known_together n other any (omega arith) buddy.0 second) (omega arith) (at any second)
     ]
 
-    there : (any : ℕ) → any < 32768 → free_at changed (n + 1) frame any ≡ true → free_at nodes n frame any ≡ true
+    there : (any : ℕ) → any < most_frames → free_at changed (n + 1) frame any ≡ true → free_at nodes n frame any ≡ true
     there any here is_free = elim (free_at-cases changed (n + 1) frame any is_free) [
       | inl wide ↦ elim (halves n frame other any buddy wide) [
         | inl first ↦ free_at-hand nodes n frame any first
@@ -323,7 +324,7 @@ join nodes frames n frame other free most hand small buddy is = record {
       | inr block ↦ free_at-block nodes n frame any block.0 block.1 (was_in nodes (node n other) block.0 any inside block.2)
     ]
 
-    back : (any : ℕ) → any < 32768 → free_at nodes n frame any ≡ true → free_at changed (n + 1) frame any ≡ true
+    back : (any : ℕ) → any < most_frames → free_at nodes n frame any ≡ true → free_at changed (n + 1) frame any ≡ true
     back any here is_free = elim (free_at-cases nodes n frame any is_free) [
       | inl first ↦ free_at-hand changed (n + 1) frame any (wider n any frame first)
       | inr block ↦ elim (is_block-set nodes (node n other) false block.0 any inside) [
@@ -342,7 +343,7 @@ join nodes frames n frame other free most hand small buddy is = record {
         ∙ (both_ways _ _ (there any (omega arith)) (back any (omega arith)) ∙ sym (get_or-free_with nodes frames n frame any low))
 
 -- the block in hand is cut: the half without the frame goes into the set
-pub cut : (nodes : List Bool) (frames n frame other : ℕ) (free : List Bool) → frames ≤ 32768 → InHand nodes frames (n + 1) frame free
+pub cut : (nodes : List Bool) (frames n frame other : ℕ) (free : List Bool) → frames ≤ most_frames → InHand nodes frames (n + 1) frame free
     → IsBuddy n frame other → InHand (set nodes (node n other) true) frames n frame free
 cut nodes frames n frame other free most hand buddy = record {
   order_up_to_9 = omega (arith, hand.order_up_to_9);
@@ -377,13 +378,13 @@ cut nodes frames n frame other free most hand buddy = record {
     apart : (any : ℕ) → n < 9 → IsBuddy n other any → is_block nodes n any ≡ false
     apart any h beside = hand.none any n beside.0 small (beside.1 ∙ buddy.1)
 
-    none : (any m : ℕ) → any < 32768 → m ≤ 9 → any / 2 ^ n ≡ frame / 2 ^ n → is_block changed m any ≡ false
+    none : (any m : ℕ) → any < most_frames → m ≤ 9 → any / 2 ^ n ≡ frame / 2 ^ n → is_block changed m any ≡ false
     none any m here h e = elim (is_block-set nodes (node n other) true m any inside) [
       | inl new ↦ absurd (buddy.2 (sym (in_block any m n other (same_node m n any other h small here buddy.0 new.0)) ∙ e))
       | inr old ↦ old.1 ∙ hand.none any m here h (wider n any frame e)
     ]
 
-    there : (any : ℕ) → any < 32768 → free_at changed n frame any ≡ true → free_at nodes (n + 1) frame any ≡ true
+    there : (any : ℕ) → any < most_frames → free_at changed n frame any ≡ true → free_at nodes (n + 1) frame any ≡ true
     there any here is_free = elim (free_at-cases changed n frame any is_free) [
       | inl first ↦ free_at-hand nodes (n + 1) frame any (wider n any frame first)
       | inr block ↦ elim (is_block-set nodes (node n other) true block.0 any inside) [
@@ -394,7 +395,7 @@ cut nodes frames n frame other free most hand buddy = record {
       ]
     ]
 
-    back : (any : ℕ) → any < 32768 → free_at nodes (n + 1) frame any ≡ true → free_at changed n frame any ≡ true
+    back : (any : ℕ) → any < most_frames → free_at nodes (n + 1) frame any ≡ true → free_at changed n frame any ≡ true
     back any here is_free = elim (free_at-cases nodes (n + 1) frame any is_free) [
       | inl wide ↦ elim (halves n frame other any buddy wide) [
         | inl first ↦ free_at-hand changed n frame any first
@@ -412,7 +413,7 @@ cut nodes frames n frame other free most hand buddy = record {
         ∙ (both_ways _ _ (there any (omega arith)) (back any (omega arith)) ∙ sym (get_or-free_with nodes frames (n + 1) frame any low))
 
 -- the block in hand goes in: the free frames are those in the set then
-pub put : (nodes : List Bool) (frames n frame : ℕ) (free : List Bool) → frames ≤ 32768 → InHand nodes frames n frame free
+pub put : (nodes : List Bool) (frames n frame : ℕ) (free : List Bool) → frames ≤ most_frames → InHand nodes frames n frame free
     → free_in (set nodes (node n frame) true) frames ≡ free
 put nodes frames n frame free most hand =
     ext_get_or false _ _ (length-free_in changed frames ∙ sym (length-free_with nodes frames n frame)) same ∙ hand.free_is
@@ -423,7 +424,7 @@ put nodes frames n frame free most hand =
     inside : node n frame < length nodes
     inside = omega (arith, hand.blocks.size, node_below n frame hand.order_up_to_9 hand.known)
 
-    there : (any : ℕ) → any < 32768 → is_free changed any ≡ true → free_at nodes n frame any ≡ true
+    there : (any : ℕ) → any < most_frames → is_free changed any ≡ true → free_at nodes n frame any ≡ true
     there any here is_free =
         let block = block_of_free changed any is_free in
         elim (is_block-set nodes (node n frame) true block.0 any inside) [
@@ -432,7 +433,7 @@ put nodes frames n frame free most hand =
           | inr old ↦ free_at-block nodes n frame any block.0 block.1 (sym old.1 ∙ block.2)
         ]
 
-    back : (any : ℕ) → any < 32768 → free_at nodes n frame any ≡ true → is_free changed any ≡ true
+    back : (any : ℕ) → any < most_frames → free_at nodes n frame any ≡ true → is_free changed any ≡ true
     back any here is_free = elim (free_at-cases nodes n frame any is_free) [
       | inl in_it ↦ is_free-block changed any n hand.order_up_to_9 (ap (λ x. get_or changed x false) (node_of_same n any frame in_it)
           ∙ is_in nodes n frame inside)
@@ -461,7 +462,7 @@ unfolding free_at
 free_at-others nodes n frame any other = ap (λ b. b || is_free nodes any) (ne_eqb _ _ other)
 
 -- without the block in hand the free frames are those of the list but its range
-pub taken : (nodes : List Bool) (frames n first : ℕ) (free : List Bool) → frames ≤ 32768 → InHand nodes frames n first free
+pub taken : (nodes : List Bool) (frames n first : ℕ) (free : List Bool) → frames ≤ most_frames → InHand nodes frames n first free
     → first / 2 ^ n * 2 ^ n ≡ first → free_in nodes frames ≡ with_range free first (2 ^ n) false
 taken nodes frames n first free most hand start =
     ext_get_or false _ _ (length-free_in nodes frames ∙ sym (length-with_range free first (2 ^ n) false fits ∙ long)) same
@@ -499,7 +500,7 @@ taken nodes frames n first free most hand start =
         (λ k out in_all. outside k in_all out) (λ k from before _. inside k from before) any low
 
 -- a range of frames that aren't free comes into the hand
-pub given : (nodes : List Bool) (frames n first : ℕ) → frames ≤ 32768 → AreBlocks nodes frames → n ≤ 9 → first / 2 ^ n * 2 ^ n ≡ first
+pub given : (nodes : List Bool) (frames n first : ℕ) → frames ≤ most_frames → AreBlocks nodes frames → n ≤ 9 → first / 2 ^ n * 2 ^ n ≡ first
     → first + 2 ^ n ≤ frames
     → ((frame : ℕ) → first ≤ frame → frame < first + 2 ^ n → get_or (free_in nodes frames) frame false ≡ false)
     → InHand nodes frames n first (with_range (free_in nodes frames) first (2 ^ n) true)
@@ -522,7 +523,7 @@ given nodes frames n first most blocks small start fits not_free = record {
     within : (any : ℕ) → any / 2 ^ n ≡ first / 2 ^ n → any < frames
     within any e = omega (arith, (in_range_from n first any start e).1)
 
-    none : (any m : ℕ) → any < 32768 → m ≤ 9 → any / 2 ^ n ≡ first / 2 ^ n → is_block nodes m any ≡ false
+    none : (any m : ℕ) → any < most_frames → m ≤ 9 → any / 2 ^ n ≡ first / 2 ^ n → is_block nodes m any ≡ false
     none any m here h e =
         let range = in_range_from n first any start e in
         false_from_ne_true _ (λ is. false≢true (sym (sym (get_or-free_in nodes frames any (within any e)) ∙ not_free any range.0 range.1)
@@ -559,7 +560,7 @@ one_buddy n frame a b here there = elim (halves n frame a b here there.1) [
 ]
 
 -- the block in hand goes in where its buddy is out, or where it is of the largest order
-pub put_beside : (nodes : List Bool) (frames n frame other : ℕ) (free : List Bool) → frames ≤ 32768 → InHand nodes frames n frame free
+pub put_beside : (nodes : List Bool) (frames n frame other : ℕ) (free : List Bool) → frames ≤ most_frames → InHand nodes frames n frame free
     → IsBuddy n frame other → is_block nodes n other ≡ false
     → AreBlocks (set nodes (node n frame) true) frames × (free_in (set nodes (node n frame) true) frames ≡ free)
 put_beside nodes frames n frame other free most hand buddy out = (
@@ -568,7 +569,7 @@ put_beside nodes frames n frame other free most hand buddy out = (
   put nodes frames n frame free most hand,
 )
 
-pub put_largest : (nodes : List Bool) (frames frame : ℕ) (free : List Bool) → frames ≤ 32768 → InHand nodes frames 9 frame free
+pub put_largest : (nodes : List Bool) (frames frame : ℕ) (free : List Bool) → frames ≤ most_frames → InHand nodes frames 9 frame free
     → AreBlocks (set nodes (node 9 frame) true) frames × (free_in (set nodes (node 9 frame) true) frames ≡ free)
 put_largest nodes frames frame free most hand =
     (AreBlocks-insert nodes frames 9 frame free hand (λ any h. absurd (omega arith)), put nodes frames 9 frame free most hand)
@@ -588,7 +589,7 @@ unfolding free_in
 free_in-none nodes = refl
 
 -- the next block of the largest order comes into the hand
-pub next_largest : (nodes : List Bool) (block : ℕ) → 512 * (block + 1) ≤ 32768 → AreBlocks nodes (512 * block)
+pub next_largest : (nodes : List Bool) (block : ℕ) → 512 * (block + 1) ≤ most_frames → AreBlocks nodes (512 * block)
     → free_in nodes (512 * block) ≡ replicate (512 * block) true
     → InHand nodes (512 * (block + 1)) 9 (512 * block) (replicate (512 * (block + 1)) true)
 next_largest nodes block most blocks free = record {

@@ -6,6 +6,7 @@ use Rattle.std.proofs.lemmas.List.{get_or_past}
 use Rattle.std.proofs.lemmas.Nat.{pow_pos, shl-shr, div_below, pow-add, shl_below}
 use Rattle.std.specs.Option.{option_or}
 use Rattle.bit_set.specs.Bits.{IsFirstFrom}
+use Rattle.pager_model.specs.Bounds.{most_frames}
 use Rattle.pager_model.specs.FreeBlocks.{run_free, block_start, block_free, is_maximal, lowest_block, least_block}
 use Rattle.pager_model.proofs.ExtentLemmas.{extent_of_frame, range_of_extent}
 use Rattle.buddy_extents.specs.Blocks.{first_node, node, is_block, is_free, free_in, AreBlocks, IsBuddy}
@@ -15,9 +16,9 @@ use Rattle.buddy_extents.proofs.Runs.{NoneBefore, lowest_block-first, lowest_blo
 use Rattle.buddy_extents.proofs.BlockMoves.{is_free-block, is_free-none, length-free_in, get_or-free_in}
 
 -- where a block isn't in, nor one round it, some frame of it isn't free
-pub some_not_free : (nodes : List Bool) (frames : ℕ) → AreBlocks nodes frames → (n frame : ℕ) → n ≤ 9 → frame < 32768
+pub some_not_free : (nodes : List Bool) (frames : ℕ) → AreBlocks nodes frames → (n frame : ℕ) → n ≤ 9 → frame < most_frames
     → ((m : ℕ) → n ≤ m → m ≤ 9 → is_block nodes m frame ≡ false)
-    → (any : ℕ) × (any < 32768) × (any / 2 ^ n ≡ frame / 2 ^ n) × (is_free nodes any ≡ false)
+    → (any : ℕ) × (any < most_frames) × (any / 2 ^ n ≡ frame / 2 ^ n) × (is_free nodes any ≡ false)
 some_not_free nodes frames blocks zero frame small known none =
     (frame, known, refl, is_free-none nodes frame (λ m h. none m (omega arith) h))
 some_not_free nodes frames blocks (suc n) frame small known none =
@@ -72,7 +73,7 @@ free_of_run nodes frames first count run any low high =
     ]
 
 -- the part of an order of a block that is in is a free run
-pub run_of_block : (nodes : List Bool) (frames : ℕ) → AreBlocks nodes frames → (n m first : ℕ) → n ≤ m → m ≤ 9 → first < 32768
+pub run_of_block : (nodes : List Bool) (frames : ℕ) → AreBlocks nodes frames → (n m first : ℕ) → n ≤ m → m ≤ 9 → first < most_frames
     → is_block nodes m first ≡ true → run_free (free_in nodes frames) (block_start n first) (2 ^ n) ≡ true
 run_of_block nodes frames blocks n m first order small known is =
     run_free_from (free_in nodes frames) (block_start n first) (2 ^ n) (λ i h.
@@ -84,7 +85,7 @@ run_of_block nodes frames blocks n m first order small known is =
     get_or-free_in nodes frames frame (blocks.within frame m here small at) ∙ is_free-block nodes frame m small at)
 
 -- where the block of the next order is free, neither of its halves is in
-larger_not_free : (nodes : List Bool) (frames : ℕ) → AreBlocks nodes frames → (n first : ℕ) → n < 9 → first < 32768
+larger_not_free : (nodes : List Bool) (frames : ℕ) → AreBlocks nodes frames → (n first : ℕ) → n < 9 → first < most_frames
     → is_block nodes n first ≡ true → block_free (free_in nodes frames) first (n + 1) ≡ false
 larger_not_free nodes frames blocks n first small known is =
     false_from_ne_true _ (λ run.
@@ -104,7 +105,7 @@ larger_not_free nodes frames blocks n first small known is =
     false≢true (sym some.3 ∙ free_of_run nodes frames (block_start (n + 1) first) (2 ^ (n + 1)) run some.0 range.0 range.1))
 
 -- the blocks in the set are the maximal free ones
-pub maximal_is_block : (nodes : List Bool) (frames : ℕ) → frames ≤ 32768 → AreBlocks nodes frames → (n first : ℕ) → n ≤ 9 → first < 32768
+pub maximal_is_block : (nodes : List Bool) (frames : ℕ) → frames ≤ most_frames → AreBlocks nodes frames → (n first : ℕ) → n ≤ 9 → first < most_frames
     → block_start n first ≡ first → is_maximal (free_in nodes frames) n first ≡ is_block nodes n first
 maximal_is_block nodes frames most blocks n first small known start = both_ways _ _ there back
   where
@@ -141,14 +142,14 @@ maximal_is_block nodes frames most blocks n first small known start = both_ways 
 -- ---- the first node
 
 -- no block of the order with a node before this one is maximal
-none_before : (nodes : List Bool) (frames : ℕ) → frames ≤ 32768 → AreBlocks nodes frames → (n place : ℕ) → n ≤ 9
+none_before : (nodes : List Bool) (frames : ℕ) → frames ≤ most_frames → AreBlocks nodes frames → (n place : ℕ) → n ≤ 9
     → ((k : ℕ) → first_node n ≤ k → k < first_node n + place → get_or nodes k false ≡ false) → NoneBefore (free_in nodes frames) n place
 none_before nodes frames most blocks n place small none f below =
     false_from_ne_true _ (λ is.
     let start : block_start n f ≡ f = eqb-true _ _ (and_parts _ _ is).0 in
     let low : f / 2 ^ n < place = div_below f (2 ^ n) place (pow_pos n) below in
     let run : run_free (free_in nodes frames) f (2 ^ n) ≡ true = (and_parts _ _ (and_parts (eqb (block_start n f) f) _ is).1).0 in
-    let known : f < 32768 = omega (
+    let known : f < most_frames = omega (
       arith,
       run_free_within (free_in nodes frames) f (2 ^ n) run (pow_pos n),
       length-free_in nodes frames,
@@ -158,11 +159,11 @@ none_before nodes frames most blocks n place small none f below =
     ∙ is)))
 
 -- an order without a node has no maximal block
-lowest_none : (nodes : List Bool) (frames : ℕ) → frames ≤ 32768 → AreBlocks nodes frames → (n : ℕ) → n ≤ 9
+lowest_none : (nodes : List Bool) (frames : ℕ) → frames ≤ most_frames → AreBlocks nodes frames → (n : ℕ) → n ≤ 9
     → ((k : ℕ) → first_node n ≤ k → k < first_node (n + 1) → get_or nodes k false ≡ false) → lowest_block (free_in nodes frames) n ≡ None
 lowest_none nodes frames most blocks n small none =
     let sum : (15 - n) + n ≡ 15 = omega arith in
-    let whole : 2 ^ (15 - n) * 2 ^ n ≡ 32768 = sym (pow-add 2 (15 - n) n) ∙ ap (λ k. 2 ^ k) sum in
+    let whole : 2 ^ (15 - n) * 2 ^ n ≡ most_frames = sym (pow-add 2 (15 - n) n) ∙ ap (λ k. 2 ^ k) sum in
     lowest_block-none (free_in nodes frames) n (2 ^ (15 - n))
     (none_before nodes frames most blocks n (2 ^ (15 - n)) small (λ k low high. none k low
     (omega (arith, next_first_node n (omega arith)))))
@@ -185,7 +186,7 @@ least_at free low n f (suc d) sum small none at =
     ∙ least_at free (low + 1) n f d (omega arith) small (λ m from to. none m (omega arith) to) at
 
 -- the block of the first node from those of an order on is the lowest of the least order that has one
-pub first_is_least : (nodes : List Bool) (frames : ℕ) → frames ≤ 32768 → AreBlocks nodes frames → (low n x : ℕ) → n ≤ 9
+pub first_is_least : (nodes : List Bool) (frames : ℕ) → frames ≤ most_frames → AreBlocks nodes frames → (low n x : ℕ) → n ≤ 9
     → IsFirstFrom nodes (first_node low) (Some x) → low ≤ n → first_node n ≤ x → x < first_node (n + 1)
     → least_block (free_in nodes frames) low (10 - low) ≡ Some ((x - first_node n) * 2 ^ n)
 first_is_least nodes frames most blocks low n x small found order from to =
@@ -206,7 +207,7 @@ first_is_least nodes frames most blocks low n x small found order from to =
     at : node n first ≡ x
     at = omega (arith, of_first)
 
-    known : first < 32768
+    known : first < most_frames
     known =
         let sum : (15 - n) + n ≡ 15 = omega arith in
         subst (λ k. first < 2 ^ k) sum (shl_below place (15 - n) n (omega (arith, next_first_node n (omega arith))))
@@ -225,7 +226,7 @@ first_is_least nodes frames most blocks low n x small found order from to =
         (maximal_is_block nodes frames most blocks n first small known (ap (λ q. q * 2 ^ n) of_first)
         ∙ (ap (λ y. get_or nodes y false) at ∙ found.1))
 
-pub none_is_least : (nodes : List Bool) (frames : ℕ) → frames ≤ 32768 → AreBlocks nodes frames → (low : ℕ) → low ≤ 9
+pub none_is_least : (nodes : List Bool) (frames : ℕ) → frames ≤ most_frames → AreBlocks nodes frames → (low : ℕ) → low ≤ 9
     → IsFirstFrom nodes (first_node low) None
     → least_block (free_in nodes frames) low (10 - low) ≡ None
 none_is_least nodes frames most blocks low small none =

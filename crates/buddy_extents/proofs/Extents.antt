@@ -7,6 +7,7 @@ use Rattle.std.proofs.lemmas.List.{get_or_past}
 use Rattle.std.proofs.lemmas.List.Sums.{count_by-le-length}
 use Rattle.std.proofs.lemmas.Nat.{shl-shr}
 use Rattle.bit_set.specs.Bits.{IsFirstFrom}
+use Rattle.pager_model.specs.Bounds.{most_frames}
 use Rattle.pager_model.specs.Extents.{IsExtent}
 use Rattle.pager_model.specs.FreeBlocks.{choice, with_range}
 use Rattle.buddy_extents.specs.Blocks.{first_node, node, free_in, AreBlocks, InHand, IsFree}
@@ -30,19 +31,19 @@ order_from low n x a b from to = elim (cases_lt n low) [
   | inr more ↦ more
 ]
 
-pub first_choice : (nodes : List Bool) (frames k n x : ℕ) → frames ≤ 32768 → AreBlocks nodes frames → k ≤ 3 → n ≤ 9
+pub first_choice : (nodes : List Bool) (frames k n x : ℕ) → frames ≤ most_frames → AreBlocks nodes frames → k ≤ 3 → n ≤ 9
     → IsFirstFrom nodes (first_node (3 * k)) (Some x) → first_node n ≤ x → x < first_node (n + 1)
     → choice (free_in nodes frames) k ≡ Some ((x - first_node n) * 2 ^ n)
 first_choice nodes frames k n x most blocks small order found from to =
     first_is_least nodes frames most blocks (3 * k) n x order found (order_from (3 * k) n x (omega arith) order found.0 to) from to
 
-pub no_choice_left : (nodes : List Bool) (frames k : ℕ) → frames ≤ 32768 → AreBlocks nodes frames → k ≤ 3
+pub no_choice_left : (nodes : List Bool) (frames k : ℕ) → frames ≤ most_frames → AreBlocks nodes frames → k ≤ 3
     → IsFirstFrom nodes (first_node (3 * k)) None → choice (free_in nodes frames) k ≡ None
 no_choice_left nodes frames k most blocks small none =
     none_is_least nodes frames most blocks (3 * k) (omega arith) none
 
 -- there is a choice where there is a first node
-pub choice_is_some : (nodes : List Bool) (frames k : ℕ) (first : Option ℕ) → frames ≤ 32768 → AreBlocks nodes frames → k ≤ 3
+pub choice_is_some : (nodes : List Bool) (frames k : ℕ) (first : Option ℕ) → frames ≤ most_frames → AreBlocks nodes frames → k ≤ 3
     → IsFirstFrom nodes (first_node (3 * k)) first → is_some first ≡ is_some (choice (free_in nodes frames) k)
 choice_is_some nodes frames k None most blocks small none = ap is_some (sym (no_choice_left nodes frames k most blocks small none))
 choice_is_some nodes frames k (Some x) most blocks small found =
@@ -52,7 +53,7 @@ choice_is_some nodes frames k (Some x) most blocks small found =
 -- ---- a taking
 
 -- what is chosen is in
-counted_without : (nodes : List Bool) (frames k n x : ℕ) → frames ≤ 32768 → AreBlocks nodes frames → k ≤ 3 → n ≤ 9
+counted_without : (nodes : List Bool) (frames k n x : ℕ) → frames ≤ most_frames → AreBlocks nodes frames → k ≤ 3 → n ≤ 9
     → IsFirstFrom nodes (first_node (3 * k)) (Some x) → first_node n ≤ x → x < first_node (n + 1)
     → count_by (λ free. free) (with_range (free_in nodes frames) ((x - first_node n) * 2 ^ n) (8 ^ k) false) + 8 ^ k ≡ count_by
     (λ free. free) (free_in nodes frames)
@@ -74,7 +75,7 @@ pub record IsTaken (nodes new : List Bool) (frames count k first : ℕ) : Type 0
 
 pub take_by_nodes : (nodes new : List Bool) (frames count k n x : ℕ) → IsFree nodes frames count → k ≤ 3 → n ≤ 9
     → IsFirstFrom nodes (first_node (3 * k)) (Some x) → first_node n ≤ x → x < first_node (n + 1)
-    → ((all : ℕ) (free : List Bool) → all ≤ 32768 → InHand (set nodes x false) all n ((x - first_node n) * 2 ^ n) free
+    → ((all : ℕ) (free : List Bool) → all ≤ most_frames → InHand (set nodes x false) all n ((x - first_node n) * 2 ^ n) free
     → InHand new all (3 * k) ((x - first_node n) * 2 ^ n) free)
     → IsTaken nodes new frames count k ((x - first_node n) * 2 ^ n)
 take_by_nodes nodes new frames count k n x is_free small order found from to cut =
@@ -125,7 +126,7 @@ take_by_nodes nodes new frames count k n x is_free small order found from to cut
 
 -- ---- a giving
 
-pub few_free : (nodes : List Bool) (frames count : ℕ) → IsFree nodes frames count → count ≤ 32768
+pub few_free : (nodes : List Bool) (frames count : ℕ) → IsFree nodes frames count → count ≤ most_frames
 few_free nodes frames count is_free =
     omega (arith, is_free.counted, is_free.most, count_by-le-length (λ free. free) (free_in nodes frames), length-free_in nodes frames)
 
@@ -136,7 +137,7 @@ pub record IsGiven (nodes new : List Bool) (frames count k first : ℕ) : Type 0
 pub give_by_nodes : (nodes new : List Bool) (frames count k first : ℕ) → IsFree nodes frames count → IsExtent k first
     → first + 8 ^ k ≤ frames
     → ((frame : ℕ) → first ≤ frame → frame < first + 8 ^ k → get_or (free_in nodes frames) frame false ≡ false)
-    → ((all : ℕ) (free : List Bool) → all ≤ 32768 → InHand nodes all (3 * k) first free → AreBlocks new all × (free_in new all ≡ free))
+    → ((all : ℕ) (free : List Bool) → all ≤ most_frames → InHand nodes all (3 * k) first free → AreBlocks new all × (free_in new all ≡ free))
     → IsGiven nodes new frames count k first
 give_by_nodes nodes new frames count k first is_free extent fits none put_in =
     record {

@@ -8,6 +8,7 @@ use Rattle.std.specs.Int.{bit_at}
 use Rattle.std.specs.Int.Bits.{xor_zero_r}
 use lib.Count.{count_leading_zeros}
 use Rattle.buddy_extents.specs.Blocks.{first_node, node, IsBuddy}
+use Rattle.pager_model.specs.Bounds.{most_frames}
 
 more_in_power : (m n : ℕ) → m ≤ n → 2 ^ m ≤ 2 ^ n
 more_in_power m n h = let two : 0 < 2 = omega arith in pow-le-pow_right two h
@@ -39,22 +40,22 @@ later_first_node m n h most =
     omega (arith, fewer, first_node_is m (omega arith), first_node_is n most)
 
 -- the block's place among those of its order
-pub place_below : (order frame : ℕ) → order ≤ 15 → frame < 32768 → frame / 2 ^ order < 2 ^ (15 - order)
+pub place_below : (order frame : ℕ) → order ≤ 15 → frame < most_frames → frame / 2 ^ order < 2 ^ (15 - order)
 place_below order frame h known =
     let sum : (15 - order) + order ≡ 15 = omega arith in
     shr_below frame (15 - order) order (subst (λ n. frame < 2 ^ n) (sym sum) known)
 
-pub node_before_next : (order frame : ℕ) → order ≤ 9 → frame < 32768 → node order frame < first_node (order + 1)
+pub node_before_next : (order frame : ℕ) → order ≤ 9 → frame < most_frames → node order frame < first_node (order + 1)
 node_before_next order frame h known =
     omega (arith, next_first_node order (omega arith), place_below order frame (omega arith) known)
 
-pub node_below : (order frame : ℕ) → order ≤ 9 → frame < 32768 → node order frame < 65472
+pub node_below : (order frame : ℕ) → order ≤ 9 → frame < most_frames → node order frame < 65472
 node_below order frame h known =
     let last : first_node (order + 1) ≤ 65472 = later_first_node (order + 1) 10 (omega arith) (omega arith) in
     omega (arith, node_before_next order frame h known, last)
 
 -- two blocks that have one node are one
-pub same_node : (m n frame other : ℕ) → m ≤ 9 → n ≤ 9 → frame < 32768 → other < 32768 → node m frame ≡ node n other
+pub same_node : (m n frame other : ℕ) → m ≤ 9 → n ≤ 9 → frame < most_frames → other < most_frames → node m frame ≡ node n other
     → (m ≡ n) × (frame / 2 ^ m ≡ other / 2 ^ n)
 same_node m n frame other small less known there e =
     elim (cases_order m n) [
@@ -81,7 +82,7 @@ wider_up m n frame other h same =
     subst (λ k. frame / 2 ^ k ≡ other / 2 ^ k) sum
     (sym (shr-shr frame m (n - m)) ∙ (ap (λ q. q / 2 ^ (n - m)) same ∙ shr-shr other m (n - m)))
 
-pub known_together : (order frame other : ℕ) → order ≤ 15 → frame < 32768 → other / 2 ^ order ≡ frame / 2 ^ order → other < 32768
+pub known_together : (order frame other : ℕ) → order ≤ 15 → frame < most_frames → other / 2 ^ order ≡ frame / 2 ^ order → other < most_frames
 known_together order frame other h known same =
     omega (arith, wider_up order 15 other frame h same)
 
@@ -100,7 +101,7 @@ halves order frame other any buddy same =
     (sym (next_block order other) ∙ (buddy.1 ∙ next_block order frame)) buddy.2
 
 -- to turn the bit of an order is to go to the buddy
-pub IsBuddy-xor : (order frame : ℕ) → order < 15 → frame < 32768 → IsBuddy order frame (bit_xor frame (2 ^ order))
+pub IsBuddy-xor : (order frame : ℕ) → order < 15 → frame < most_frames → IsBuddy order frame (bit_xor frame (2 ^ order))
 IsBuddy-xor order frame h known =
     let next : 2 ^ order / 2 ^ (order + 1) ≡ 0 = omega (
       arith,
@@ -142,7 +143,7 @@ order_by_zeros x h =
 
 -- the first frame of a node's block
 pub first_frame_known : (order x : ℕ) → order ≤ 9 → first_node order ≤ x → x < first_node (order + 1)
-    → (x - first_node order) * 2 ^ order < 32768
+    → (x - first_node order) * 2 ^ order < most_frames
 first_frame_known order x small from to =
     let sum : (15 - order) + order ≡ 15 = omega arith in
     subst (λ k. (x - first_node order) * 2 ^ order < 2 ^ k) sum

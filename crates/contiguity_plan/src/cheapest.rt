@@ -4,6 +4,7 @@ ghost use Rattle.std.specs.Prelude.{◌≡◌, ℕ, ◌+◌, ◌*◌, ◌/◌, �
 ghost use Rattle.std.specs.List.{list_any, range_with_len};
 ghost use Rattle.pager_model.specs.Options.{is_that};
 ghost use Rattle.contiguity_plan.specs.Costs.{is_kept, stays, has_use, page_list, pages_in, emptying, IsBest};
+ghost use Rattle.pager_model.specs.Bounds.{most_frames};
 
 use crate::plan::PageOf;
 use crate::table::{Use, use_of};
@@ -63,7 +64,7 @@ fn weight(uses: &[Option<Use>], frame: u32) -> u32
 
 /// The evictions that emptying so many frames from the first on costs, where none of them stays.
 fn cost_of(uses: &[Option<Use>], held: &[Option<u32>], first: u32, count: u32) -> Option<u32>
-    requires { first + count ≤ 32768 }
+    requires { first + count ≤ most_frames }
     ensures { result ≡ emptying (stays uses.now held.now) (has_use uses.now) first count }
 {
     let mut cost = 0;
@@ -98,7 +99,7 @@ pub(crate) fn cheapest(
     count: u32,
 ) -> Option<Candidate>
     requires some { 0 < count }
-    requires few { frames ≤ 32768 }
+    requires few { frames ≤ most_frames }
     ensures { IsBest (λ number. emptying (stays uses.now held.now) (has_use uses.now) (number * count) count) (frames / count) result }
 {
     let mut best = None;
@@ -126,7 +127,7 @@ pub(crate) fn pages_of(
     first: u32,
     count: u32,
 ) -> Result<Vec<PageOf>, NoMemory>
-    requires { first + count ≤ 32768 }
+    requires { first + count ≤ most_frames }
     ensures { IfOk result (λ pages. pages.items ≡ pages_in uses.now (range_with_len first count)) }
 {
     let mut pages = Vec::new(alloc);

@@ -4,6 +4,7 @@ ghost use Rattle.std.specs.Prelude.{◌≤◌, IfOk, IfSome};
 ghost use Rattle.pager_model.specs.Legal.{entries_in, frames_at};
 ghost use Rattle.pager_model.specs.Settings.{Given};
 ghost use Rattle.contiguity_plan.specs.Emptying.{IsOver, IsPlanned, Empties};
+ghost use Rattle.pager_model.specs.Bounds.{most_frames};
 
 use crate::table::Table;
 use pager_model::{Extent, NoMemory, Size};
@@ -32,7 +33,7 @@ pub fn plan_emptying(
     history: &History,
     size: Size,
 ) -> Result<Option<Plan>, NoMemory>
-    requires frames { frames ≤ 32768 }
+    requires frames { frames ≤ most_frames }
     requires legal { (g : Given) × IsOver frames g (entries_in history.now.items) }
     ensures planned { IfOk result (λ plan. (g : Given) → IsOver frames g (entries_in history.now.items)
         → IsPlanned (frames_at g (entries_in history.now.items)) frames size plan) }

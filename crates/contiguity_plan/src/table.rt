@@ -2,7 +2,7 @@
 
 ghost use Rattle.std.specs.Prelude.{◌≡◌, ℕ, ◌+◌, ◌^◌, ◌<◌, ◌≤◌, ◌++◌, ◌∷◌, [], List, length, Some, None, IfOk, OnOk, IsSome, IsSomeAnd, slice_set};
 ghost use Rattle.std.specs.List.{All};
-ghost use Rattle.pager_model.specs.Bounds.{most_spaces, most_actors};
+ghost use Rattle.pager_model.specs.Bounds.{most_spaces, most_actors, most_frames};
 ghost use Rattle.pager_model.specs.declared.entry.Entry.{Entry as Item};
 ghost use Rattle.pager_model.specs.declared.entry.Numbered.{Numbered as NumberedItem};
 ghost use Rattle.pager_model.specs.FrameStates.{FrameState, start_frames, frame_of, take_frame, state_taken, held_given, give_if_used, give_range, pin_range, claimed, dropped, moved_by_answer, moved, AllowsAnswer, FramesAllow, named_space};
@@ -362,7 +362,7 @@ impl Table {
         frames: u32,
         size: Size,
     ) -> Result<Option<Plan>, NoMemory>
-        requires { frames ≤ 32768 }
+        requires { frames ≤ most_frames }
         ensures { IfOk result (λ plan. (st : FrameState) → IsRight st self.now → IsPlanned st frames size plan) }
     {
         let count = frames_in(size);

@@ -5,6 +5,7 @@ ghost use Rattle.lackey_layout.specs.Places.{AreTaken, AreWhole, HasNone, IsPage
 ghost use Rattle.pager_model.specs.TraceText.{IsCall};
 ghost use Rattle.lackey_regions.specs.LineCalls.{Adds, MadeAt, accesses_of, each_at, stores_of, word, words_of};
 ghost use Rattle.lackey_regions.specs.Refusals.{HasByte, IsCause, IsMapping, IsPageOf, Maps, MapsPage};
+ghost use Rattle.pager_model.specs.Bounds.{space_pages};
 
 use crate::added::add;
 use crate::refusal::Refusal;
@@ -341,11 +342,11 @@ fn end_in_piece(page: u64, end: u64) -> u64
 
 /// Where the pages of the space end at which those of the program from one on are, which are of one piece.
 fn end_of_part(at: u32, page: u64, next: u64) -> u32
-    requires at { at < 1048576 }
+    requires at { at < space_pages }
     requires same { at % 512 ≡ page % 512 }
     requires behind { page < next }
     requires piece { next + page % 512 ≤ page + 512 }
-    ensures { result ≤ 1048576 }
+    ensures { result ≤ space_pages }
 {
     at + (next - page) as u32
 }
@@ -357,7 +358,7 @@ fn number_of_next(before: u64, calls: &Vec<Line>) -> u64 {
 
 /// The load or the store of a word.
 fn call_at(stores: bool, at: u32, offset: u64, number: u64) -> Call
-    requires at { at < 1048576 }
+    requires at { at < space_pages }
     requires offset { offset < 8192 }
     requires word { offset % 8 ≡ 0 }
     ensures call { IsCall 1 result }

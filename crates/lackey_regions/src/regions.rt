@@ -44,7 +44,7 @@ pub enum Change {
 pub struct Regions {
     pages: Vec<Option<Rights>>,
     regions: ArrayVec<Region, MOST>,
-    ghost whole: { length pages.items ≡ 1048576 },
+    ghost whole: { length pages.items ≡ space_pages },
 }
 
 impl Regions {

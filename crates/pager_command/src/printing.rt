@@ -17,6 +17,7 @@ ghost use Rattle.report_text.specs.Written.{WroteAll, WrotePart};
 ghost use Rattle.pager_command.specs.Forms.{Admits};
 ghost use Rattle.pager_command.specs.Runs.{EndsRun, WasRun};
 ghost use Rattle.pager_command.specs.Views.{replayed};
+ghost use Rattle.pager_model.specs.Bounds.{most_frames};
 
 use crate::form::Report;
 use crate::outcome::{Outcome, status_of_write};
@@ -131,7 +132,7 @@ fn write_planned<K: Sink>(
     history: &History,
     size: Size,
 ) -> u8
-    requires frames { frames ≤ 32768 }
+    requires frames { frames ≤ most_frames }
     requires legal { (g : Given) × IsOver frames g (entries_in history.now.items) }
     ensures statuses { (result ≡ DONE) ⊎ ((result ≡ WRITE_FAULT) ⊎ (result ≡ MEMORY)) }
     ensures unwritten { result ≡ MEMORY → sink.new ≡ sink.old }

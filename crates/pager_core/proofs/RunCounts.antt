@@ -5,6 +5,7 @@ use Rattle.std.proofs.lemmas.List.Filters.{length-filter_both}
 use Rattle.std.proofs.lemmas.List.FromFn.{length-range_with_len}
 use Rattle.std.proofs.lemmas.List.Sums.{sum_by-cons, sum_by-take-le, sum_by_more, sum_by_more_le}
 use Rattle.std.proofs.Math.Nat.{suc-mul}
+use Rattle.pager_model.specs.Bounds.{space_pages}
 use Rattle.pager_model.specs.declared.entry.Entry.{Entry}
 use Rattle.pager_model.specs.declared.tile.Mapping.{Mapping}
 use Rattle.pager_model.specs.declared.summary.Summary.{Summary}
@@ -59,7 +60,7 @@ sum_by-most f most (x ∷ xs) each =
     omega (arith, cons, each x, rest, all)
 
 -- Each page is the first of at most one tile, so an entry promotes and breaks few.
-pub tiles_few : (z : SizeSet) (pages : ℕ → Option Mapping) (size : ℕ) → tile_count_in z pages size ≤ 1048576
+pub tiles_few : (z : SizeSet) (pages : ℕ → Option Mapping) (size : ℕ) → tile_count_in z pages size ≤ space_pages
 tiles_few z pages size = count_pages_most (λ page. begins_at page (tile_in z pages page) && (tile_size_in z pages page == size))
 
 four_fewer : (most a b c d : ℕ) → a < most → b < most → c < most → d < most → AreFewer (a ∷ b ∷ c ∷ d ∷ []) most
@@ -85,25 +86,25 @@ some_fewer spaces n few = four_fewer 1073741824 _ _ _ _ (below 0) (below 1) (bel
     below : (size : ℕ) → tiles_in (take n spaces) size < 1073741824
     below size =
         let part = sum_by-take-le (λ (k : Kept). tile_count_in k.table.sizes (mapping_in k.table) size) spaces n in
-        let all = sum_by-most (λ (k : Kept). tile_count_in k.table.sizes (mapping_in k.table) size) 1048576 spaces
+        let all = sum_by-most (λ (k : Kept). tile_count_in k.table.sizes (mapping_in k.table) size) space_pages spaces
         (λ k. tiles_few k.table.sizes (mapping_in k.table) size) in
         omega (arith, part, all, few)
 
-promotions_few : (es : List Entry) (st : SpaceState) → (fold space_after st es).promotions ≤ st.promotions + 1048576 * length es
+promotions_few : (es : List Entry) (st : SpaceState) → (fold space_after st es).promotions ≤ st.promotions + space_pages * length es
 promotions_few [] st = omega arith
 promotions_few (e ∷ es) st =
     let rest = promotions_few es (space_after st e) in
-    let one : count_pages (is_promoted_in st.sizes (pages_of st) (pages_after st e.frames e.what)) ≤ 1048576 =
+    let one : count_pages (is_promoted_in st.sizes (pages_of st) (pages_after st e.frames e.what)) ≤ space_pages =
     count_pages_most (is_promoted_in st.sizes (pages_of st) (pages_after st e.frames e.what)) in
     let total : (space_after st e).promotions ≡ st.promotions + count_pages
     (is_promoted_in st.sizes (pages_of st) (pages_after st e.frames e.what)) = refl in
     omega (arith, rest, one, total)
 
-demotions_few : (es : List Entry) (st : SpaceState) → (fold space_after st es).demotions ≤ st.demotions + 1048576 * length es
+demotions_few : (es : List Entry) (st : SpaceState) → (fold space_after st es).demotions ≤ st.demotions + space_pages * length es
 demotions_few [] st = omega arith
 demotions_few (e ∷ es) st =
     let rest = demotions_few es (space_after st e) in
-    let one : count_pages (is_promoted_in st.sizes (pages_after st e.frames e.what) (pages_of st)) ≤ 1048576 =
+    let one : count_pages (is_promoted_in st.sizes (pages_after st e.frames e.what) (pages_of st)) ≤ space_pages =
     count_pages_most (is_promoted_in st.sizes (pages_after st e.frames e.what) (pages_of st)) in
     let total : (space_after st e).demotions ≡ st.demotions + count_pages
     (is_promoted_in st.sizes (pages_after st e.frames e.what) (pages_of st)) = refl in

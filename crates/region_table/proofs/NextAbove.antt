@@ -1,14 +1,15 @@
 -- The next region above a page.
 use Rattle.std.proofs.Common.{◌≡◌, ℕ, ◌<◌, ◌≤◌, List, [], ◌∷◌, inl, inr, arith}
 use Rattle.std.proofs.lemmas.Bool.{cases_lt, cond-true, cond-false, lt-ltb, le-ltb}
+use Rattle.pager_model.specs.Bounds.{space_pages}
 use Rattle.pager_model.specs.declared.region.Region.{Region}
 use Rattle.pager_model.specs.Regions.{end_of, next_start}
 use Rattle.region_table.specs.Table.{LieFrom}
 use Rattle.region_table.proofs.TableLemmas.{LieFrom-within}
 
 -- it begins above the page, and in the space or at its end
-pub next_above : (low : ℕ) (rs : List Region) → LieFrom low rs → (page : ℕ) → page < 1048576
-    → (page < next_start rs page) × (next_start rs page ≤ 1048576)
+pub next_above : (low : ℕ) (rs : List Region) → LieFrom low rs → (page : ℕ) → page < space_pages
+    → (page < next_start rs page) × (next_start rs page ≤ space_pages)
 next_above low [] l page h = (h, omega arith)
 next_above low (r ∷ rs) l page h =
     elim (cases_lt page r.first) [

@@ -3,6 +3,7 @@ use Rattle.std.proofs.Common.{◌≡◌, ℕ, ◌+◌, ◌<◌, ◌≤◌, Bool,
 use Rattle.std.specs.List.{list_any}
 use Rattle.std.proofs.lemmas.Bool.{cases_Bool, cases_lt, cond-true, cond-false, or_parts, lt-ltb, le-ltb, true≢false}
 use Rattle.std.proofs.lemmas.Option.{none-some, same_Some}
+use Rattle.pager_model.specs.Bounds.{space_pages}
 use Rattle.pager_model.specs.declared.region.Region.{Region}
 use Rattle.pager_model.specs.Regions.{end_of, has_page, in_range, meets_range, region_at, with_region, without_region, grown_regions}
 use Rattle.pager_model.proofs.Ranges.{in_bounds, bounds_in}
@@ -37,7 +38,7 @@ found_has (s ∷ rs) page r h =
 pub record IsFound (low : ℕ) (r : Region) : Type 0 where
   pub from_on : low ≤ r.first
   pub some : 1 ≤ r.length
-  pub in_space : end_of r ≤ 1048576
+  pub in_space : end_of r ≤ space_pages
 
 pub found_from : (low : ℕ) (rs : List Region) → LieFrom low rs → (page : ℕ) (r : Region) → region_at rs page ≡ Some r → IsFound low r
 found_from low [] l page r h = absurd (none-some r h)
@@ -178,7 +179,7 @@ found_within low rs l page len r at within p inside =
 pub record HasPage (page : ℕ) (r : Region) : Type 0 where
   pub from_on : r.first ≤ page
   pub before_end : page < end_of r
-  pub in_space : end_of r ≤ 1048576
+  pub in_space : end_of r ≤ space_pages
 
 pub found_page : (rs : List Region) → LieFrom 0 rs → (page : ℕ) (r : Region) → region_at rs page ≡ Some r → HasPage page r
 found_page rs l page r h =

@@ -10,6 +10,7 @@ use Rattle.std.proofs.lemmas.List.Sums.{prefix_len_passes, prefix_len_stops, pre
 use Rattle.std.proofs.lemmas.List.Folds.{find_at}
 use Rattle.std.proofs.lemmas.List.Quantifiers.{position-Some}
 use Rattle.std.proofs.lemmas.Option.{slice_get-get_or, slice_get_past, none-some, same_Some}
+use Rattle.pager_model.specs.Bounds.{space_pages}
 use Rattle.pager_model.specs.declared.region.Region.{Region}
 use Rattle.pager_model.specs.declared.region.Kind.{Kind}
 use Rattle.pager_model.specs.declared.region.Kind.TheVariants.{Fixed, Growing, Wired}
@@ -45,7 +46,7 @@ pub LieFrom-lower : (low high : ℕ) (rs : List Region) → low ≤ high → Lie
 LieFrom-lower low high [] h l = omega arith
 LieFrom-lower low high (r ∷ rs) h l = (omega (arith, l.0), l.1, l.2)
 
-pub LieFrom-within : (low : ℕ) (rs : List Region) → LieFrom low rs → low ≤ 1048576
+pub LieFrom-within : (low : ℕ) (rs : List Region) → LieFrom low rs → low ≤ space_pages
 LieFrom-within low [] l = l
 LieFrom-within low (r ∷ rs) l = omega (arith, l.0, LieFrom-within (end_of r) rs l.2)
 
@@ -56,7 +57,7 @@ first-ge low (r ∷ rs) l zero d h = l.0
 first-ge low (r ∷ rs) l (suc j) d h = omega (arith, l.0, l.1, first-ge (end_of r) rs l.2 j d (omega arith))
 
 pub end-le : (low : ℕ) (rs : List Region) → LieFrom low rs → (j : ℕ) (d : Region) → j < length rs
-    → (1 ≤ (get_or rs j d).length) × (end_of (get_or rs j d) ≤ 1048576)
+    → (1 ≤ (get_or rs j d).length) × (end_of (get_or rs j d) ≤ space_pages)
 end-le low [] l j d h = absurd (omega arith)
 end-le low (r ∷ rs) l zero d h = (l.1, LieFrom-within (end_of r) rs l.2)
 end-le low (r ∷ rs) l (suc j) d h = end-le (end_of r) rs l.2 j d (omega arith)
@@ -218,9 +219,9 @@ meets-step_below : (page len : ℕ) (r : Region) (m : Bool) (f : Option Region) 
 meets-step_below page len r m f n h e = grind (arith, nat_tests)
 
 -- a region has one of the pages exactly where one has the first of them, or the next one begins before they end
-pub meets-is : (low : ℕ) (rs : List Region) → LieFrom low rs → (page len : ℕ) → 1 ≤ len → page + len ≤ 1048576
+pub meets-is : (low : ℕ) (rs : List Region) → LieFrom low rs → (page len : ℕ) → 1 ≤ len → page + len ≤ space_pages
     → list_any (meets_range page len) rs ≡ (is_some (find (has_page page) rs) || ltb (next_start rs page) (page + len))
-meets-is low [] l page len some within = sym (le-ltb 1048576 (page + len) within)
+meets-is low [] l page len some within = sym (le-ltb space_pages (page + len) within)
 meets-is low (r ∷ rs) l page len some within =
     elim (cases_lt page r.first) [
       | inl above ↦ meets-step_above page len r _ _ _ above l.1 (find-none (end_of r) rs l.2 page (omega arith))
@@ -241,7 +242,7 @@ next_start-at_some (r ∷ rs) page (suc i) d e h =
     let begun = prefix_len-suc (begins_by page) r rs i (sym e) in
     cond-false _ _ _ (le-ltb page r.first (leb-true r.first page begun.0)) ∙ next_start-at_some rs page i d (sym begun.1) (omega arith)
 
-pub next_start-at_none : (rs : List Region) (page : ℕ) → length rs ≤ prefix_len (begins_by page) rs → next_start rs page ≡ 1048576
+pub next_start-at_none : (rs : List Region) (page : ℕ) → length rs ≤ prefix_len (begins_by page) rs → next_start rs page ≡ space_pages
 next_start-at_none [] page h = refl
 next_start-at_none (r ∷ rs) page h =
     elim (cases_lt page r.first) [
@@ -265,7 +266,7 @@ with_region-insert new (r ∷ rs) (suc i) e =
 
 -- and with it the regions lie one behind another
 pub LieFrom-with_region : (low : ℕ) (new : Region) (rs : List Region) → LieFrom low rs → low ≤ new.first → 1 ≤ new.length
-    → end_of new ≤ 1048576 → list_any (meets_range new.first new.length) rs ≡ false → LieFrom low (with_region new rs)
+    → end_of new ≤ space_pages → list_any (meets_range new.first new.length) rs ≡ false → LieFrom low (with_region new rs)
 LieFrom-with_region low new [] l above some within free = (above, some, within)
 LieFrom-with_region low new (r ∷ rs) l above some within free =
     let parts = or_parts _ _ free in
@@ -370,7 +371,7 @@ LieFrom-repinned low (r ∷ rs) l zero pinned d h = (l.0, l.1, l.2)
 LieFrom-repinned low (r ∷ rs) l (suc i) pinned d h = (l.0, l.1, LieFrom-repinned (end_of r) rs l.2 i pinned d (omega arith))
 
 -- what begins behind a free range lies from its end on
-pub LieFrom-free : (low by : ℕ) (rs : List Region) → LieFrom low rs → 1 ≤ by → low + by ≤ 1048576 → list_any (meets_range low by) rs ≡ false
+pub LieFrom-free : (low by : ℕ) (rs : List Region) → LieFrom low rs → 1 ≤ by → low + by ≤ space_pages → list_any (meets_range low by) rs ≡ false
     → LieFrom (low + by) rs
 LieFrom-free low by [] l some within free = within
 LieFrom-free low by (r ∷ rs) l some within free =
@@ -378,7 +379,7 @@ LieFrom-free low by (r ∷ rs) l some within free =
 
 -- with a region grown by pages that none has, the regions lie one behind another
 pub LieFrom-longer : (low : ℕ) (rs : List Region) → LieFrom low rs → (i by : ℕ) (d : Region) → i < length rs → 1 ≤ by
-    → end_of (get_or rs i d) + by ≤ 1048576 → list_any (meets_range (end_of (get_or rs i d)) by) rs ≡ false
+    → end_of (get_or rs i d) + by ≤ space_pages → list_any (meets_range (end_of (get_or rs i d)) by) rs ≡ false
     → LieFrom low (set rs i (longer by (get_or rs i d)))
 LieFrom-longer low [] l i by d h some within free = absurd (omega arith)
 LieFrom-longer low (r ∷ rs) l zero by d h some within free =
@@ -388,7 +389,7 @@ LieFrom-longer low (r ∷ rs) l (suc i) by d h some within free =
     (l.0, l.1, LieFrom-longer (end_of r) rs l.2 i by d (omega arith) some within ((or_parts _ _ free).1))
 
 -- the table with a region more, without one, and with one grown
-pub IsTable-with_region : (rs : List Region) (new : Region) (i : ℕ) → IsTable rs → 1 ≤ new.length → end_of new ≤ 1048576
+pub IsTable-with_region : (rs : List Region) (new : Region) (i : ℕ) → IsTable rs → 1 ≤ new.length → end_of new ≤ space_pages
     → list_any (meets_range new.first new.length) rs ≡ false → length rs < 64 → i ≡ prefix_len (begins_by new.first) rs
     → IsTable (with_region new rs)
 IsTable-with_region rs new i t some within free room e = record {
@@ -410,7 +411,7 @@ IsTable-without_region rs page i t e d =
     )
 
 pub IsTable-grown : (rs : List Region) (page by i : ℕ) (d : Region) → IsTable rs → position (has_page page) rs ≡ Some i → 1 ≤ by
-    → end_of (get_or rs i d) + by ≤ 1048576 → list_any (meets_range (end_of (get_or rs i d)) by) rs ≡ false
+    → end_of (get_or rs i d) + by ≤ space_pages → list_any (meets_range (end_of (get_or rs i d)) by) rs ≡ false
     → (grown_regions page by rs ≡ set rs i (longer by (get_or rs i d))) × IsTable (grown_regions page by rs)
 IsTable-grown rs page by i d t e some within free =
     let at = position-Some (has_page page) rs i d e in
@@ -490,10 +491,10 @@ module _ (rs : List Region) (page by i : ℕ) (place : Some i ≡ position (has_
     at-growing : (r : Reply) → cond (not (grows (get_or rs i blank).kind)) NotGrowing r ≡ r
     at-growing r = cond-false _ _ _ (ap not (grows-is _) ∙ sym grown)
 
-    pub grow_reply-far : 1048576 < end_of (get_or rs i blank) + by → grow_reply rs page by ≡ OutOfSpace
-    grow_reply-far far = reply-at ∙ at-growing _ ∙ cond-true _ _ _ (lt-ltb 1048576 _ far)
+    pub grow_reply-far : space_pages < end_of (get_or rs i blank) + by → grow_reply rs page by ≡ OutOfSpace
+    grow_reply-far far = reply-at ∙ at-growing _ ∙ cond-true _ _ _ (lt-ltb space_pages _ far)
 
-    pub grow_reply-near : (meets : Bool) → end_of (get_or rs i blank) + by ≤ 1048576
+    pub grow_reply-near : (meets : Bool) → end_of (get_or rs i blank) + by ≤ space_pages
         → meets ≡ list_any (meets_range (end_of (get_or rs i blank)) by) rs → grow_reply rs page by ≡ cond meets Overlap Done
     grow_reply-near meets near is =
-        reply-at ∙ at-growing _ ∙ cond-false _ _ _ (le-ltb 1048576 _ near) ∙ ap (λ b. cond b Overlap Done) (sym is)
+        reply-at ∙ at-growing _ ∙ cond-false _ _ _ (le-ltb space_pages _ near) ∙ ap (λ b. cond b Overlap Done) (sym is)

@@ -8,6 +8,7 @@ use Rattle.std.proofs.lemmas.List.{get_or_past}
 use Rattle.std.proofs.lemmas.Nat.Bits.{bit_at_and, bit_at_or, bit_at_not, bit_at-lt, bit_at-zero, ones_shl, bit_at_mask_inside, bit_at_mask_below, bit_at_set_same, bit_at_set_other}
 use Rattle.bit_set.specs.Bits.{has_bit, bits_of}
 use Rattle.bit_set.proofs.Sets.{bits_of-replicate, bits_of-set, get_or-bits_of, length-bits_of}
+use Rattle.pager_model.specs.Bounds.{space_pages}
 use Rattle.pager_model.specs.Regions.{in_range}
 use Rattle.store_file.specs.FileState.{no_pages}
 
@@ -100,7 +101,7 @@ either false = refl
 
 -- the pages of a range are taken out
 pub removed : (words after : List ℕ) (pages : List Bool) (first len end : ℕ) → bits_of words ≡ pages → length words ≡ 16384
-    → end ≡ min (min (first + len) (2 ^ 32 - 1)) 1048576
+    → end ≡ min (min (first + len) (2 ^ 32 - 1)) space_pages
     → ((p : ℕ) → has_bit after p ≡ cond (nat_le first p && nat_lt p end) false (has_bit words p))
     → (p : ℕ) → get_or (bits_of after) p false ≡ cond (in_range first len p) false (get_or pages p false)
 removed words after pages first len end view long is_end cleared p =
@@ -109,7 +110,7 @@ removed words after pages first len end view long is_end cleared p =
     same : cond (nat_le first p && nat_lt p end) false (has_bit words p) ≡ cond (in_range first len p) false
         (get_or (bits_of words) p false)
     same =
-        elim (cases_lt p 1048576) [
+        elim (cases_lt p space_pages) [
           | inl inside ↦
               let upto : nat_lt p end ≡ nat_lt p (first + len) = grind (arith, nat_tests) in
               ap (λ b. cond (nat_le first p && b) false (has_bit words p)) upto

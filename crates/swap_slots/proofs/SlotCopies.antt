@@ -4,6 +4,7 @@ use Rattle.std.specs.List.{list_any, list_all, range_with_len}
 use Rattle.std.proofs.lemmas.Bool.{cases_lt, ne_eqb, false≢true}
 use Rattle.std.proofs.lemmas.Bool.Decides.{nat_tests}
 use Rattle.std.proofs.lemmas.Option.{none-some}
+use Rattle.pager_model.specs.Bounds.{space_pages}
 use Rattle.pager_model.specs.Regions.{in_range}
 use Rattle.pager_model.specs.SpaceStates.{Rises, last_count}
 use Rattle.pager_model.specs.Stored.{copy_in, copy_at, keeps_at, zero_words, SameCopies, SetsCopy, DropsCopies, TellsZero}
@@ -41,12 +42,12 @@ among_space : (page : ℕ) → list_any (λ p. page == p) all_pages ≡ nat_lt p
 unfolding all_pages
 among_space page = list_any-range page_count 0 page ∙ grind (arith, nat_tests)
 
-counted : page_count ≡ 1048576
+counted : page_count ≡ space_pages
 unfolding page_count
 counted = refl
 
 -- it keeps the pages of a space
-pub keeps_at-slots : (s : SlotState) (page : ℕ) → keeps_at (stored_slots s) page ≡ nat_lt page 1048576
+pub keeps_at-slots : (s : SlotState) (page : ℕ) → keeps_at (stored_slots s) page ≡ nat_lt page space_pages
 unfolding keeps_at
 keeps_at-slots s page = among_space page ∙ ap (nat_lt page) counted
 

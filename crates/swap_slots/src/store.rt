@@ -1,6 +1,7 @@
 //! A store over slots.
 
 ghost use Rattle.std.specs.Prelude.{◌≡◌, ◌≢◌, ℕ, ◌-◌, ◌^◌, ◌<◌, ◌≤◌, ◌⊎◌, ◌↔◌, true, false, [], length, Some, None, IfOk, IfErr, IfSome, OnOk, OnErr, if◌then◌else◌};
+ghost use Rattle.bit_set.specs.Bits.{most_bound};
 ghost use Rattle.pager_model.specs.Bounds.{space_pages};
 ghost use Rattle.pager_model.specs.SpaceStates.{Rises};
 ghost use Rattle.pager_model.specs.Stored.{copy_at, keeps_at, SameCopies, SetsCopy, DropsCopies, TellsZero};
@@ -65,7 +66,7 @@ impl<B: Blocks> SlotStore<B> {
           refused = 0;
         }) }
         ensures given_back { IfErr result (λ device. device ≡ blocks) }
-        ensures few { IfOk result (λ _. (B.device blocks).slots ≤ 262144) }
+        ensures few { IfOk result (λ _. (B.device blocks).slots ≤ most_bound) }
     {
         if blocks.slots() > MOST_SLOTS {
             return Err(blocks);

@@ -2,6 +2,7 @@
 
 ghost use Rattle.std.specs.Prelude.{◌≡◌, ◌≢◌, ℕ, ◌+◌, ◌-◌, ◌<◌, ◌≤◌, false, true, [], ◌++◌, length, replicate, slice_set, if◌then◌else◌, vec_capacity, IfOk, IfSome, IfNone};
 ghost use Rattle.std.specs.List.{list_all};
+ghost use Rattle.bit_set.specs.Bits.{most_bound};
 ghost use Rattle.pager_model.specs.Bounds.{space_pages};
 ghost use Rattle.pager_model.specs.Regions.{in_range};
 ghost use Rattle.swap_slots.specs.SlotState.{is_zero};
@@ -51,7 +52,7 @@ impl Model for SlotTable {
 impl SlotTable {
     /// All pages zero, and all of this many slots free. Its memory is all that it ever takes.
     pub(crate) fn create(alloc: Global, count: u32) -> Result<SlotTable, NoMemory>
-        requires { count ≤ 262144 }
+        requires { count ≤ most_bound }
         ensures { IfOk result (λ table. table ≡ record { count = count; pages = [] }) }
     {
         let pages = Vec::with_capacity(alloc, PAGES as usize)?;

@@ -1,6 +1,7 @@
 -- A line that a trace may hold has no fault.
 use Rattle.std.proofs.Common.{◌≡◌, ℕ, ◌^◌, ◌<◌, ◌≤◌, ◌%◌, Bool, true, false, ◌∷◌, Some, None, Ok, decimal, refl, arith, lit≤, inl, inr}
 use Rattle.std.proofs.lemmas.Bool.{eq-eqb, ne_eqb, le-ltb}
+use Rattle.pager_model.specs.Bounds.{space_pages}
 use Rattle.pager_model.specs.declared.call.Call.{Call}
 use Rattle.pager_model.specs.declared.call.Call.TheVariants.{Map, Grow, Unmap, Protect, Load, Store, Sync, Evict, Discard, Wire, Unwire}
 use Rattle.pager_model.specs.declared.call.Line.{Line}
@@ -29,7 +30,7 @@ rights_stand Write = refl
 below : (end n : ℕ) → end ≤ 2 ^ 64 → n < end → number_in 1 0 end (decimal n) ≡ Ok n
 below end n small lt = number_in_again 1 0 end n (omega arith) (omega arith) lt (omega arith)
 
-some_pages : (n : ℕ) → 1 ≤ n → n ≤ 1048576 → number_in 1 1 1048577 (decimal n) ≡ Ok n
+some_pages : (n : ℕ) → 1 ≤ n → n ≤ space_pages → number_in 1 1 1048577 (decimal n) ≡ Ok n
 some_pages n low high = number_in_again 1 1 1048577 n (omega arith) low (omega arith) (omega arith)
 
 an_address : (n : ℕ) → n % 8 ≡ 0 → n < 8589934592 → number_in 8 0 8589934592 (decimal n) ≡ Ok n
@@ -43,19 +44,19 @@ call_is_lawful version processors spaces processor (Map space page len kind righ
       rights_stand rights,
       below processors processor few of,
       below spaces space small is.0,
-      below 1048576 page (lit≤ tt) is.1,
+      below space_pages page (lit≤ tt) is.1,
       some_pages len is.2 is.3,
     ) refl
 call_is_lawful version processors spaces processor (Grow space page by) few small of is has =
-    rw (below processors processor few of, below spaces space small is.0, below 1048576 page (lit≤ tt) is.1, some_pages by is.2 is.3) refl
+    rw (below processors processor few of, below spaces space small is.0, below space_pages page (lit≤ tt) is.1, some_pages by is.2 is.3) refl
 call_is_lawful version processors spaces processor (Unmap space page) few small of is has =
-    rw (below processors processor few of, below spaces space small is.0, below 1048576 page (lit≤ tt) is.1) refl
+    rw (below processors processor few of, below spaces space small is.0, below space_pages page (lit≤ tt) is.1) refl
 call_is_lawful version processors spaces processor (Protect space page len rights) few small of is has =
     rw (
       rights_stand rights,
       below processors processor few of,
       below spaces space small is.0,
-      below 1048576 page (lit≤ tt) is.1,
+      below space_pages page (lit≤ tt) is.1,
       some_pages len is.2 is.3,
     ) refl
 call_is_lawful version processors spaces processor (Load space address) few small of is has =
@@ -68,21 +69,21 @@ call_is_lawful version processors spaces processor (Store space address word) fe
       below (2 ^ 64) word (lit≤ tt) is.3,
     ) refl
 call_is_lawful version processors spaces processor (Sync space page) few small of is has =
-    rw (below processors processor few of, below spaces space small is.0, below 1048576 page (lit≤ tt) is.1) refl
+    rw (below processors processor few of, below spaces space small is.0, below space_pages page (lit≤ tt) is.1) refl
 call_is_lawful version processors spaces processor (Evict space page) few small of is has =
-    rw (below processors processor few of, below spaces space small is.0, below 1048576 page (lit≤ tt) is.1) refl
+    rw (below processors processor few of, below spaces space small is.0, below space_pages page (lit≤ tt) is.1) refl
 call_is_lawful version processors spaces processor (Discard space page len) few small of is has =
     rw (
       le-ltb version 3 has,
       below processors processor few of,
       below spaces space small is.0,
-      below 1048576 page (lit≤ tt) is.1,
+      below space_pages page (lit≤ tt) is.1,
       some_pages len is.2 is.3,
     ) refl
 call_is_lawful version processors spaces processor (Wire space page) few small of is has =
-    rw (le-ltb version 3 has, below processors processor few of, below spaces space small is.0, below 1048576 page (lit≤ tt) is.1) refl
+    rw (le-ltb version 3 has, below processors processor few of, below spaces space small is.0, below space_pages page (lit≤ tt) is.1) refl
 call_is_lawful version processors spaces processor (Unwire space page) few small of is has =
-    rw (le-ltb version 3 has, below processors processor few of, below spaces space small is.0, below 1048576 page (lit≤ tt) is.1) refl
+    rw (le-ltb version 3 has, below processors processor few of, below spaces space small is.0, below space_pages page (lit≤ tt) is.1) refl
 
 pub line_is_lawful : (version processors spaces : ℕ) (line : Line) → processors ≤ 2 ^ 64 → spaces ≤ 2 ^ 64
     → IsLine version processors spaces line → line_fault (call_forms version processors spaces) (line_words line) ≡ None

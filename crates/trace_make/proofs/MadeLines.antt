@@ -4,6 +4,7 @@ use Rattle.std.specs.List.{AllByRecursion, range_with_len}
 use Rattle.std.proofs.lemmas.List.Elements.{All-append, All-from_get_or, All-from_recursion}
 use Rattle.std.proofs.lemmas.List.FromFn.{length-map-range_with_len, get_or-map-range_with_len}
 use Rattle.std.proofs.lemmas.Nat.{mod_below}
+use Rattle.pager_model.specs.Bounds.{space_pages}
 use Rattle.pager_model.specs.declared.call.Line.{Line}
 use Rattle.pager_model.specs.TraceText.{HasLine, HasText, IsCall, IsLine}
 use Rattle.pager_model.specs.Schedules.{next_state, drawn}
@@ -49,7 +50,7 @@ is_address page x within =
 
 call_is : (spaces space page kind x : ℕ) → space < spaces → page < 4096 → IsCall spaces (call_of_kind space page kind x)
 call_is spaces space page kind x below within =
-    let here : page < 1048576 = omega (arith, within) in
+    let here : page < space_pages = omega (arith, within) in
     either (IsCall spaces) (ltb kind 40) _ _ (below, (is_address page x within).0, (is_address page x within).1)
     (either (IsCall spaces) (ltb kind 58) _ _ (
       below,

@@ -9,6 +9,7 @@ use Rattle.std.proofs.lemmas.List.Elements.{All-from_recursion, All-append, All-
 use Rattle.std.proofs.lemmas.List.Splits.{slice_split_at, slice_split_none}
 use Rattle.std.proofs.lemmas.Slice.Eq.{bytes_eq-Decides}
 use Rattle.std.proofs.lemmas.Str.Parse.{digit_from_value}
+use Rattle.pager_model.specs.Bounds.{most_calls}
 use Rattle.pager_model.specs.declared.call.Call.{Call}
 use Rattle.pager_model.specs.declared.call.Call.TheVariants.{Map, Grow, Unmap, Protect, Load, Store, Sync, Evict, Discard, Wire, Unwire}
 use Rattle.pager_model.specs.declared.call.Line.{Line}
@@ -138,7 +139,7 @@ call_is_lawful version processors spaces call some few is =
 
 -- a call before others, and before one call too many
 pub before_call : (version processors spaces number before : ℕ) (call : Line) (rest : List ℕ) → processors ≤ 2 ^ 64 → spaces ≤ 2 ^ 64
-    → IsLine version processors spaces call → before ≢ 262144
+    → IsLine version processors spaces call → before ≢ most_calls
     → calls_refusal (call_forms version processors spaces) number before (lines_of (call_line call ++ rest))
     ≡ calls_refusal (call_forms version processors spaces) (number + 1) (before + 1) (lines_of rest)
 before_call version processors spaces number before call rest some few is less =
@@ -148,7 +149,7 @@ before_call version processors spaces number before call rest some few is less =
     (call_is_lawful version processors spaces call some few is) less
 
 pub call_too_many : (version processors spaces number before : ℕ) (call : Line) (rest : List ℕ) → processors ≤ 2 ^ 64 → spaces ≤ 2 ^ 64
-    → IsLine version processors spaces call → before ≡ 262144
+    → IsLine version processors spaces call → before ≡ most_calls
     → calls_refusal (call_forms version processors spaces) number before (lines_of (call_line call ++ rest)) ≡ Some TooManyCalls
 call_too_many version processors spaces number before call rest some few is many =
     one_call_more (call_forms version processors spaces) number before (call_line call ++ rest) (join_with_byte 32 (line_words call)) rest
@@ -157,7 +158,7 @@ call_too_many version processors spaces number before call rest some few is many
     (call_is_lawful version processors spaces call some few is) many
 
 calls_are_lawful : (version processors spaces number before : ℕ) (calls : List Line) → processors ≤ 2 ^ 64 → spaces ≤ 2 ^ 64
-    → AllByRecursion (IsLine version processors spaces) calls → before + length calls ≤ 262144
+    → AllByRecursion (IsLine version processors spaces) calls → before + length calls ≤ most_calls
     → calls_refusal (call_forms version processors spaces) number before (lines_of (calls_text calls)) ≡ None
 calls_are_lawful version processors spaces number before [] some few are in' = refl
 calls_are_lawful version processors spaces number before (call ∷ calls) some few are in' =

@@ -8,6 +8,7 @@ use Rattle.std.proofs.lemmas.Bool.{and_parts, or_cases, cases_Bool, cases_lt, eq
 use Rattle.std.proofs.lemmas.List.Elements.{All-from_recursion}
 use Rattle.std.proofs.lemmas.List.Splits.{join_with_byte-slice_split}
 use Rattle.std.proofs.lemmas.Slice.Eq.{bytes_eq-Decides}
+use Rattle.pager_model.specs.Bounds.{most_calls}
 use Rattle.pager_model.specs.declared.call.Call.TheVariants.{Map, Grow, Unmap, Protect, Load, Store, Sync, Evict, Discard, Wire, Unwire}
 use Rattle.pager_model.specs.declared.call.Line.{Line}
 use Rattle.pager_model.specs.declared.region.Kind.{Kind}
@@ -325,7 +326,7 @@ nothing_behind number (b ∷ next) (line ∷ lines) e = absurd cc
 -- the lines are those of some calls, up to the end
 abbrev SayCalls : ℕ → ℕ → ℕ → ℕ → List (List ℕ) → Type 0
 SayCalls version processors spaces before lines = (calls : List Line) × AllByRecursion (IsLine version processors spaces) calls
-    × (before + length calls ≤ 262144) × (join_with_byte 10 lines ≡ calls_text calls)
+    × (before + length calls ≤ most_calls) × (join_with_byte 10 lines ≡ calls_text calls)
 
 one_call_more : (line behind : List ℕ) (call : Line) (calls : List Line) → words_of line ≡ line_words call → behind ≡ calls_text calls
     → line ++ 10 ∷ behind ≡ calls_text (call ∷ calls)
@@ -333,7 +334,7 @@ one_call_more line behind call calls words is =
     line_is (line ++ 10 ∷ behind) line behind (line_words call) refl words ∙ ap (λ (t : List ℕ). call_line call ++ t) is
     ∙ sym (calls_text-cons call calls)
 
-calls_say : (version processors spaces number before : ℕ) (lines : List (List ℕ)) → before ≤ 262144
+calls_say : (version processors spaces number before : ℕ) (lines : List (List ℕ)) → before ≤ most_calls
     → calls_refusal (call_forms version processors spaces) number before lines ≡ None → SayCalls version processors spaces before lines
 calls_say version processors spaces number before [] few none = absurd cc
 calls_say version processors spaces number before (line ∷ []) few none = absurd cc
@@ -351,13 +352,13 @@ calls_say version processors spaces number before (line ∷ next ∷ lines) few 
       | inr other ↦
           let forms = call_forms version processors spaces in
           let both = neither (at_line number (line_fault forms (words_of line)))
-          (cond (eqb before 262144) (Some TooManyCalls) (calls_refusal forms (number + 1) (before + 1) (next ∷ lines)))
+          (cond (eqb before most_calls) (Some TooManyCalls) (calls_refusal forms (number + 1) (before + 1) (next ∷ lines)))
           (rw other at none) in
           let says = line_says version processors spaces (words_of line) (no_fault number (line_fault forms (words_of line)) both.0) in
-          elim (cases_Bool (eqb before 262144)) [
+          elim (cases_Bool (eqb before most_calls)) [
             | inl many ↦ absurd (let fault : Some TooManyCalls ≡ None = rw many at both.1 in cc)
             | inr room ↦
-                let more : before ≢ 262144 = λ e. (let full : eqb before 262144 ≡ true = eq-eqb before 262144 e in cc) in
+                let more : before ≢ most_calls = λ e. (let full : eqb before most_calls ≡ true = eq-eqb before most_calls e in cc) in
                 let rest = calls_say version processors spaces (number + 1) (before + 1) (next ∷ lines) (omega arith) (rw room at both.1) in (
                   says.0 ∷ rest.0,
                   (says.1, rest.1),
@@ -370,7 +371,7 @@ calls_say version processors spaces number before (line ∷ next ∷ lines) few 
 -- the lines behind the first are those of a daemon or none, and of some calls up to the end
 abbrev SayBehind : ℕ → ℕ → ℕ → List (List ℕ) → Type 0
 SayBehind version processors spaces lines = (daemon : Option Daemon) × IsDaemon daemon × (calls : List Line)
-    × AllByRecursion (IsLine version processors spaces) calls × (length calls ≤ 262144) × (join_with_byte 10 lines ≡ behind_text daemon calls)
+    × AllByRecursion (IsLine version processors spaces) calls × (length calls ≤ most_calls) × (join_with_byte 10 lines ≡ behind_text daemon calls)
 
 behind_says : (version processors spaces : ℕ) (lines : List (List ℕ)) → second_refusal (call_forms version processors spaces) lines ≡ None
     → SayBehind version processors spaces lines

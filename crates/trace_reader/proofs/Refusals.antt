@@ -8,6 +8,7 @@ use Rattle.std.proofs.lemmas.List.Splits.{join_with_byte-slice_split}
 use Rattle.std.proofs.lemmas.Grind.{flat_map-append}
 use Rattle.std.proofs.lemmas.List.{append-nil}
 use Rattle.std.proofs.lemmas.List.Concat.{flat_map-cons}
+use Rattle.pager_model.specs.Bounds.{most_calls}
 use Rattle.pager_model.specs.declared.call.Line.{Line as Call}
 use Rattle.pager_model.specs.declared.trace.Daemon.{Daemon}
 use Rattle.pager_model.proofs.Texts.{version_low}
@@ -30,16 +31,16 @@ pub faulty_line : (forms : List (List Place)) (number calls : ℕ) (rest line af
 faulty_line forms number calls rest line after cause first other fault = let p = some_piece 10 after in rw (first, p.2, other, fault) refl
 
 pub one_call_more : (forms : List (List Place)) (number calls : ℕ) (rest line after : List ℕ) → lines_of rest ≡ line ∷ lines_of after
-    → bytes_eq line (codes "end") ≡ false → line_fault forms (words_of line) ≡ None → calls ≡ 262144
+    → bytes_eq line (codes "end") ≡ false → line_fault forms (words_of line) ≡ None → calls ≡ most_calls
     → calls_refusal forms number calls (lines_of rest) ≡ Some TooManyCalls
 one_call_more forms number calls rest line after first other lawful many = let p = some_piece 10 after in
-    rw (first, p.2, other, lawful, eq-eqb calls 262144 many) refl
+    rw (first, p.2, other, lawful, eq-eqb calls most_calls many) refl
 
 pub goes_on : (forms : List (List Place)) (number calls : ℕ) (rest line after : List ℕ) → lines_of rest ≡ line ∷ lines_of after
-    → bytes_eq line (codes "end") ≡ false → line_fault forms (words_of line) ≡ None → calls ≢ 262144
+    → bytes_eq line (codes "end") ≡ false → line_fault forms (words_of line) ≡ None → calls ≢ most_calls
     → calls_refusal forms number calls (lines_of rest) ≡ calls_refusal forms (number + 1) (calls + 1) (lines_of after)
 goes_on forms number calls rest line after first other lawful few = let p = some_piece 10 after in
-    rw (first, p.2, other, lawful, ne_eqb calls 262144 few) refl
+    rw (first, p.2, other, lawful, ne_eqb calls most_calls few) refl
 
 -- behind the end something stands
 pub something : (number : ℕ) (after first : List ℕ) (others : List (List ℕ)) → lines_of after ≡ first ∷ others → after ≢ []
@@ -122,7 +123,7 @@ behind_first_line text line rest head few first words is =
 -- the trace of what was read
 pub is_text : (text line behind rest : List ℕ) (head : Head) (daemon : Option Daemon) (calls : List Call) → text ≡ line ++ 10 ∷ behind
     → words_of line ≡ first_words head.version head.frames head.processors head.spaces head.sizes → IsInRange head
-    → behind ≡ daemon_line daemon ++ rest → IsDaemon daemon → All (IsLine head.version head.processors head.spaces) calls → length calls ≤ 262144
+    → behind ≡ daemon_line daemon ++ rest → IsDaemon daemon → All (IsLine head.version head.processors head.spaces) calls → length calls ≤ most_calls
     → rest ≡ flat_map call_line calls ++ line_of_words (codes "end" ∷ [])
     → IsTextOf text (record {
       version = head.version;

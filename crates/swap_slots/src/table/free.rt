@@ -1,7 +1,7 @@
 //! The set of free slots. Each call has a counter of steps of its own.
 
 ghost use Rattle.std.specs.Prelude.{◌≡◌, ℕ, ◌<◌, ◌≤◌, false, true, nat_lt, length, slice_index_or, slice_set, IfOk, IfSome};
-ghost use Rattle.bit_set.specs.Bits.{IsFirstFrom};
+ghost use Rattle.bit_set.specs.Bits.{IsFirstFrom, most_bound};
 ghost use Rattle.swap_slots.specs.FreeSlots.{with_slot};
 ghost use Rattle.swap_slots.specs.Slots.{slot_in};
 
@@ -14,7 +14,7 @@ use std::sync::ledger::{Blank, Ledger};
 
 /// The set of this many slots, all free.
 pub(super) fn all_free(alloc: Global, count: u32) -> Result<BitSet, AllocError>
-    requires { count ≤ 262144 }
+    requires { count ≤ most_bound }
     ensures wide { IfOk result (λ free. count ≤ length free) }
     ensures bits { IfOk result (λ free. (s : ℕ) → slice_index_or free s false ≡ nat_lt s count) }
 {

@@ -1,6 +1,7 @@
 use Rattle.std.proofs.Common.{◌≡◌, ◌+◌, ◌*◌, ℕ, ◌≤◌, Bool, List, length}
 use Rattle.buddy_extents.specs.Blocks.{InHand}
 use Rattle.buddy_extents.proofs.hand.cut.Given as goal
+use Rattle.pager_model.specs.Bounds.{most_frames}
 
 -- the frame's block of the order so far is in hand
 abbrev pub invariant-loop-order : goal.invariant-loop-order
@@ -9,7 +10,7 @@ invariant-loop-order g l = record {
   part : l.part ≤ l.order;
   small : l.order ≤ 9;
   cost : l.steps + 6 * l.order ≡ l.fn.steps + 6 * l.whole;
-  in_hand : (frames : ℕ) (free : List Bool) → frames ≤ 32768 → InHand l.fn.nodes frames l.whole l.frame free
+  in_hand : (frames : ℕ) (free : List Bool) → frames ≤ most_frames → InHand l.fn.nodes frames l.whole l.frame free
       → InHand l.nodes frames l.order l.frame free;
 }
 

@@ -2,6 +2,7 @@ use Rattle.std.proofs.Common.{◌≡◌, ◌≢◌, ◌+◌, ℕ, List, [], ◌�
 use Rattle.std.proofs.lemmas.Grind.{common_steps}
 use Rattle.std.proofs.lemmas.List.Elements.{All-push}
 use Rattle.std.proofs.lemmas.Result.{err_from_is_err_and}
+use Rattle.pager_model.specs.Bounds.{most_calls}
 use Rattle.pager_model.specs.declared.call.Line.{Line}
 use Rattle.pager_model.specs.TraceText.{IsLine, call_line}
 use denote.Ref.{Bor}
@@ -30,7 +31,7 @@ returns-then-len-eq-MAX_CALLS-clause-refused c =
     subst (λ (next : Option (Line × Bor (List ℕ))). IfSome next (λ parts. IsLine head.version head.processors head.spaces parts.0)) c.in-Some.is c.in_ok-call.ensures.line in
     let text : c.lines.rest.now ≡ call_line c.in-Some.call ++ c.in-Some.after.now =
     subst (λ (next : Option (Line × Bor (List ℕ))). IfSome next (λ parts. c.lines.rest.now ≡ call_line parts.0 ++ parts.1.now)) c.in-Some.is c.in_ok-call.ensures.text in
-    let many : length calls ≡ 262144 = omega arith in
+    let many : length calls ≡ most_calls = omega arith in
     c.lines.invariant.refusal
     ∙ ap (λ (x : List ℕ). calls_refusal forms (c.args.first + length calls) (length calls) (lines_of x)) text
     ∙ call_too_many head.version head.processors head.spaces (c.args.first + length calls) (length calls) c.in-Some.call c.in-Some.after.now
@@ -47,7 +48,7 @@ lines-preserved c =
     subst (λ (next : Option (Line × Bor (List ℕ))). IfSome next (λ parts. c.lines.rest.now ≡ call_line parts.0 ++ parts.1.now)) c.in-Some.is c.in_ok-call.ensures.text in
     let items : c.push.new.self.items ≡ calls ++ c.in-Some.call ∷ [] = grind (arith, common_steps) in
     let more : length c.push.new.self.items ≡ length calls + 1 = grind (arith, common_steps) in
-    let few : length calls ≢ 262144 = λ e. omega arith in
+    let few : length calls ≢ most_calls = λ e. omega arith in
     let next = before_call head.version head.processors head.spaces (c.args.first + length calls) (length calls) c.in-Some.call c.in-Some.after.now
     (omega (arith, c.requires.range.3.1)) (omega (arith, c.requires.range.4.1)) line few in
     let number : c.args.first + length calls + 1 ≡ c.args.first + length c.push.new.self.items = omega arith in

@@ -1,5 +1,6 @@
 use Rattle.std.proofs.Common.{◌≡◌, ◌+◌, min, true, false, nat_lt, Some, None, Err, sym, ap, subst, ◌∙◌, arith}
 use Rattle.std.proofs.lemmas.Bool.Decides.{nat_tests}
+use Rattle.pager_model.specs.Bounds.{space_pages}
 use Rattle.pager_model.specs.SpaceStates.{Rises, last_count}
 use Rattle.pager_model.specs.Stored.{SameCopies, SetsCopy}
 use Rattle.swap_slots.specs.declared.table.PageCopy.TheVariants.{Lost}
@@ -10,7 +11,7 @@ use Rattle.swap_slots.proofs.store.SlotStoreStore.write.Goals as goal
 
 pub returns-then-page-ge-PAGES-clause-no_memory : goal.returns-then-page-ge-PAGES-clause-no_memory
 returns-then-page-ge-PAGES-clause-no_memory g c = λ _.
-    let past : nat_lt c.args.page 1048576 ≡ false = grind (arith, nat_tests) in
+    let past : nat_lt c.args.page space_pages ≡ false = grind (arith, nat_tests) in
     let now = c.args.self.now in (
       keeps_at-slots now c.args.page ∙ past,
       subst (λ s. SameCopies (stored_slots now) (stored_slots s)) (sym c.self.view_is) (unchanged now),
@@ -19,7 +20,7 @@ returns-then-page-ge-PAGES-clause-no_memory g c = λ _.
 
 pub returns-in-Ok-clause-wrote : goal.returns-in-Ok-clause-wrote
 returns-in-Ok-clause-wrote g c =
-    let inside : nat_lt c.args.page 1048576 ≡ true = grind (arith, nat_tests) in
+    let inside : nat_lt c.args.page space_pages ≡ true = grind (arith, nat_tests) in
     let wrote = c.in-Ok.ensures.ok in
     let Sets : SlotState → Type 0 = λ s. SetsCopy c.args.page (Some c.args.words.now) (stored_slots s) (stored_slots c.put.new.self) in (
       subst Sets c.self.view_is (sets_written _ c.put.new.self c.args.page wrote.0 c.args.words.now c.put.ensures.own.0 wrote.1),
