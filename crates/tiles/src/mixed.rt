@@ -65,13 +65,8 @@ impl Mixed {
         ensures entry { result ≡ entry_at self.now page }
         ensures cost { steps.new ≤ steps.old + 4 }
     {
-        let mut size = Size::at_level(3);
-        let mut spot = self.tree.at(size, page, steps);
-        while spot.value().is_none() && size.level() > 0 {
-            size = size.smaller();
-            spot = self.tree.part(spot, size, page, steps);
-        }
-        Some(TableEntry::round(size, page, spot.value()?))
+        let row = self.tree.row_round(page, steps)?;
+        Some(TableEntry::round(row.size, page, row.value))
     }
 
     /// The entry of the lowest page from `from` on and before `end` that is mapped. Pages that no entry maps are passed over by extents, and all at once
