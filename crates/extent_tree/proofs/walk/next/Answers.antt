@@ -3,6 +3,7 @@ use Rattle.extent_tree.specs.Kept.{AreInOrder}
 use Rattle.extent_tree.specs.Rows.{row}
 use Rattle.extent_tree.proofs.Nexts.{IsUnderSplit, under_used, under_split, found_root, no_root, no_rows_on, no_rows_at_roots, no_rows_up, next_up, no_root_node, number_within, parts_in_order, row_at}
 use Rattle.extent_tree.proofs.walk.next.Goals as goal
+use Rattle.extent_tree.proofs.walk.next.Goals.{After-part_at}
 use Rattle.extent_tree.proofs.walk.next.Given.{Over}
 
 pub returns-in-Some-clause-some : goal.returns-in-Some-clause-some
@@ -36,7 +37,7 @@ returns-in_default-node-clause-none g c size page most on before =
     size page most on (omega (arith, last, c.div_ceil-past.ensures))
 
 -- the root has a node, and its parts are gone over
-below : (g : Over) (c : goal.After-part_at g)
+below : (g : Over) (c : After-part_at g)
     → IsUnderSplit c.args.store.now c.loop-page.page c.max-page.result c.args.end c.next_root-root.result.0 c.in-Some-node.node
 below g c =
     under_split c.args.store.now c.requires.tree c.loop-page.page c.args.end c.next_root-root.result.0 c.div_ceil-past.result
@@ -56,13 +57,13 @@ next_below-requires-clause-places g c =
     let root = c.next_root-root.result.0 in
     let page = c.max-page.result in
     let stop = page + c.min.result in
-    let split = below g c.before.before in
+    let split = below g (goal.at.next_below-requires-clause-places g c).After-part_at in
     let first = c.place-first.ensures ∙ ap (λ n. s.roots + 8 * c.in-Some-node.node + n) c.part_at.ensures.part in
     subst (λ place. AreInOrder s 1 place page stop) (sym first)
     (parts_in_order s 0 root page stop c.in-Some-node.node (omega arith) (omega (arith, c.min.ensures, c.rest_at.ensures)) split.under.at split.leads)
 
 -- a root that is split has a row of its size at no page before the end of its extent
-whole : (g : Over) (c : goal.After-part_at g) (page : ℕ) → c.max-page.result ≤ page → page < c.max-page.result + c.min.result
+whole : (g : Over) (c : After-part_at g) (page : ℕ) → c.max-page.result ≤ page → page < c.max-page.result + c.min.result
     → row c.args.store.now 3 page ≡ None
 whole g c page on before =
     let s = c.args.store.now in
@@ -75,9 +76,9 @@ pub returns-in-Some-next_below-clause-some : goal.returns-in-Some-next_below-cla
 returns-in-Some-next_below-clause-some g c =
     let s = c.args.store.now in
     let page = c.max-page.result in
-    let under = (below g c.before.before.before.before).under in
+    let under = (below g (goal.at.returns-in-Some-next_below-clause-some g c).After-part_at).under in
     let next = next_up s 0 page (page + c.min.result) c.in-Some-next_below.found c.in-Some-next_below.ensures.some
-    (whole g c.before.before.before.before) in
+    (whole g (goal.at.returns-in-Some-next_below-clause-some g c).After-part_at) in
     record {
       from_on = omega (arith, next.from_on, under.on, c.loop-page.invariant.from_on);
       before_end = omega (arith, next.before_end, c.min.ensures, under.before);
@@ -90,7 +91,7 @@ returns-in-Some-next_below-clause-some g c =
 
 pub returns-in-Some-next_below-clause-roots : goal.returns-in-Some-next_below-clause-roots
 returns-in-Some-next_below-clause-roots g c _ bare =
-    let split = below g c.before.before.before.before in
+    let split = below g (goal.at.returns-in-Some-next_below-clause-roots g c).After-part_at in
     absurd (no_root_node c.args.store.now 0 c.max-page.result c.next_root-root.result.0 c.in-Some-node.node refl split.under.at split.leads
     (bare c.max-page.result (omega (arith, split.under.on, c.loop-page.invariant.from_on)) split.under.before))
 
@@ -99,9 +100,9 @@ loop-page-preserved g c =
     let s = c.args.store.now in
     let page = c.max-page.result in
     let stop = page + c.min.result in
-    let split = below g c.before.before.before.before in
+    let split = below g (goal.at.loop-page-preserved g c).After-part_at in
     let was = c.loop-page.invariant in
-    let passed = no_rows_up s 0 page stop c.in_default-next_below.ensures.none (whole g c.before.before.before.before) in
+    let passed = no_rows_up s 0 page stop c.in_default-next_below.ensures.none (whole g (goal.at.loop-page-preserved g c).After-part_at) in
     record {
       none = no_rows_on s 3 c.args.from c.loop-page.page stop was.none (no_rows_on s 3 c.loop-page.page page stop split.under.none passed);
       from_on = omega (arith, was.from_on, split.under.on);
