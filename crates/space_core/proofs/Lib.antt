@@ -1,3 +1,4 @@
+pub mod PlaceLists
 pub mod SameView
 pub mod FilledPages
 pub mod SavedCopies

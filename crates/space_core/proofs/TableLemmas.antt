@@ -4,7 +4,7 @@ use Rattle.std.proofs.Common.{◌≡◌, ◌≢◌, ℕ, ◌<◌, ◌≤◌, tru
 use Rattle.std.specs.Option.{option_and_then, IfSome, IfNone}
 use Rattle.std.proofs.lemmas.Bool.{cases_eq, cond-true, cond-false, eq-eqb, ne_eqb}
 use Rattle.pager_model.specs.Regions.{in_range}
-use Rattle.std.proofs.lemmas.List.{get_or-set_other, get_or-set_same, length-set, get_or_read, length-replicate}
+use Rattle.std.proofs.lemmas.List.{get_or-set_other, get_or-set_same, length-set, length-replicate}
 use Rattle.std.proofs.lemmas.Option.{none-some, same_Some}
 use Rattle.pager_model.specs.declared.region.Rights.{Rights}
 use Rattle.pager_model.specs.declared.tile.Mapping.{Mapping}
@@ -179,12 +179,7 @@ word-other : (frames : List (Option Framed)) (k : ℕ) (f : Option Framed) (o : 
 word-other frames k f None i h = refl
 word-other frames k f (Some n) i h = ap (λ x. word_in_frame x i) (get_or-set_other frames k n f None (λ e. h (ap Some e)))
 
--- what is read at a number
-pub frame-read : (t : Table) (number : ℕ) (x : Option Framed) → number < length t.frames → x ≡ slice_index_or t.frames number x
-    → slice_index_or t.frames number None ≡ x
-frame-read t number x known read = sym (get_or_read t.frames number x known read None)
-
-pub found_within : (t : Table) → IsPaged t → (p number : ℕ) → frame_in t p ≡ Some number → number < length t.frames
+found_within : (t : Table) → IsPaged t → (p number : ℕ) → frame_in t p ≡ Some number → number < length t.frames
 found_within t paged p number h = get_or_within t.frames number _ (paged.found p number h).is
 
 -- a resident page's number names a frame of that number

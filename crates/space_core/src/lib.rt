@@ -3,6 +3,7 @@
 
 mod access;
 mod frames;
+mod places;
 mod room;
 mod space;
 mod table;

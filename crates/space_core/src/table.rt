@@ -1,6 +1,6 @@
 //! What a space keeps of its pages: which are resident, in which frames and tiles, which are dirty, and which rights a protect gave them.
 
-ghost use Rattle.std.specs.Prelude.{◌≡◌, ◌≢◌, ◌∷◌, [], ◌+◌, ◌<◌, ◌≤◌, ℕ, List, true, false, length, replicate, None, Some, IfOk, IfSome, IfNone, OnErr, option_map};
+ghost use Rattle.std.specs.Prelude.{◌≡◌, ◌≢◌, ◌∷◌, [], ◌+◌, ◌<◌, ◌≤◌, ℕ, List, true, false, length, None, Some, IfOk, IfSome, IfNone, OnErr, option_map};
 ghost use Rattle.pager_model.specs.SpaceStates.{Rises};
 ghost use Rattle.pager_model.specs.Tiles.{tile_in, is_tile_in, tile_count_in};
 ghost use Rattle.pager_model.specs.Stored.{copy_at, keeps_at, SameCopies, SetsCopy};
@@ -10,7 +10,8 @@ ghost use Rattle.space_core.specs.Tables.{mapping_in, frame_in, word_in, own_in,
 ghost use Rattle.space_core.specs.Pages.{IsFresh, Maps, Refills, HasWords, SetsWord, Writes, Cleans, Protects, Forgets, IsFirstResident, NoneFrom};
 ghost use Rattle.pager_model.specs.Bounds.{most_frames, space_pages};
 
-use crate::frames::{set_copied, set_word, word};
+use crate::frames::word;
+use crate::places::Places;
 use page_rights::PageRights;
 use pager_model::{Frame, Mapping, NoMemory, Rights, Sizes, Tile, WORDS};
 use std::alloc::Global;
@@ -30,7 +31,7 @@ pub struct PageTable {
     /// The rights that a protect gave pages.
     own: PageRights,
     /// For each number the frame, where a page has it.
-    frames: Vec<Option<Frame>>,
+    frames: Places,
     /// Words for a store to read a copy into, kept so that no read has to make them. What they are means nothing.
     copy: Box<[u64; WORDS]>,
 }
@@ -45,14 +46,14 @@ impl Model for PageTable {
       sizes = t.sizes;
       pages = t.pages;
       own = t.own;
-      frames = t.frames.items;
+      frames = t.frames;
     } };
 
     ghost invariant = { λ t. IsPaged (record {
       sizes = t.sizes;
       pages = t.pages;
       own = t.own;
-      frames = t.frames.items;
+      frames = t.frames;
     }) };
 }
 
@@ -66,7 +67,7 @@ impl PageTable {
         Ok(PageTable {
             sizes,
             copy: Box::new(alloc, [0; WORDS])?,
-            frames: empty_places(alloc, frames)?,
+            frames: Places::create(alloc, frames)?,
             own: PageRights::create(alloc)?,
             pages: Base::create(alloc, frames)?,
         })
@@ -136,10 +137,7 @@ impl PageTable {
         requires index { index < 1024 }
         ensures { (page : ℕ) → frame_in self.now page ≡ Some number → result ≡ word_in self.now page index }
     {
-        let Some(frame) = &self.frames[number as usize] else {
-            unreachable!()
-        };
-        word(frame, index)
+        word(self.frames.frame(number), index)
     }
 
     /// The lowest resident page from `from` on and before `end`.
@@ -161,7 +159,7 @@ impl PageTable {
         ensures moves { AreMovesIn self.old.sizes (mapping_in self.old) (mapping_in self.new) result }
     {
         let number = frame.number();
-        self.frames[number as usize] = Some(frame);
+        self.frames.put(frame);
         let mapping = Mapping {
             frame: number,
             region,
@@ -180,7 +178,7 @@ impl PageTable {
     {
         let changes = after_remove::<Brand>(&mut self.pages, page, Blank::new(1));
         let number = changes.frame_before()?;
-        let frame = self.frames[number as usize].take()?;
+        let frame = self.frames.take(number)?;
         Some((frame, changes.moves(self.sizes)))
     }
 
@@ -191,7 +189,7 @@ impl PageTable {
         ensures none { IfNone result (NoneFrom self.old from end × (self.new ≡ self.old)) }
     {
         let (page, number) = self.pages.take_next(from, end)?;
-        let frame = self.frames[number as usize].take()?;
+        let frame = self.frames.take(number)?;
         Some((page, frame))
     }
 
@@ -214,10 +212,7 @@ impl PageTable {
         ensures never_falls { (S.seen store.old).faults ≤ (S.seen store.new).faults }
     {
         let copied = store.read(page, &mut *self.copy)?;
-        let Some(frame) = &mut self.frames[number as usize] else {
-            unreachable!()
-        };
-        set_copied(frame, copied, &*self.copy);
+        self.frames.set_copied(number, copied, &*self.copy);
         Ok(())
     }
 
@@ -242,9 +237,7 @@ impl PageTable {
         ensures unfailed { IfOk result (λ _. (S.seen store.new).faults ≡ (S.seen store.old).faults) }
         ensures never_falls { (S.seen store.old).faults ≤ (S.seen store.new).faults }
     {
-        let Some(frame) = &self.frames[number as usize] else {
-            unreachable!()
-        };
+        let frame = self.frames.frame(number);
         store.write(page, frame.words())
     }
 
@@ -287,10 +280,7 @@ impl PageTable {
         requires index { index < 1024 }
         ensures { (page : ℕ) → frame_in self.old page ≡ Some number → SetsWord page index word self.old self.new }
     {
-        let Some(frame) = &mut self.frames[number as usize] else {
-            unreachable!()
-        };
-        set_word(frame, index, word);
+        self.frames.set_word(number, index, word);
     }
 
     /// Gives the pages of a range these rights of their own. The moves of their tiles.
@@ -317,15 +307,4 @@ impl PageTable {
     {
         self.own.set(first, length, None);
     }
-}
-
-/// So many places with nothing in them.
-fn empty_places(alloc: Global, count: u32) -> Result<Vec<Option<Frame>>, NoMemory>
-    ensures { IfOk result (λ places. places.items ≡ replicate count None) }
-{
-    let mut places = Vec::with_capacity(alloc, count as usize)?;
-    for _ in 0..count {
-        places.push_reserved(None);
-    }
-    Ok(places)
 }

@@ -12,7 +12,7 @@ after_fill-changes-requires-clause-other c p e =
 
 pub invariant_of-self : goal.invariant_of-self
 invariant_of-self c =
-    rw c.number-number.ensures
+    rw c.put.ensures
     (put_paged (the_view c.self.inside) c.args.page _ c.args.frame _
     (record {
       paged = c.self.invariant;
@@ -24,7 +24,7 @@ invariant_of-self c =
 
 pub returns-clause-maps : goal.returns-clause-maps
 returns-clause-maps c =
-    rw (← c.self.view_is, c.number-number.ensures)
+    rw (← c.self.view_is, c.put.ensures)
     (put_maps (the_view c.self.inside) c.args.page _ c.args.frame _
     (record {
       paged = c.self.invariant;

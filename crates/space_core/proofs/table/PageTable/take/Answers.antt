@@ -1,9 +1,7 @@
-use Rattle.std.proofs.Common.{◌≡◌, ◌∙◌, sym, ap, Some, arith}
-use Rattle.std.proofs.lemmas.Option.{none-some, same_Some}
-use Rattle.pager_model.specs.Frame.{Framed}
+use Rattle.std.proofs.Common.{◌≡◌, ◌∙◌, sym, ap, Some}
 use Rattle.space_core.specs.Tables.{frame_in}
 use Rattle.space_core.specs.contracts.table.PageTable.{the_view}
-use Rattle.space_core.proofs.TableLemmas.{frame_in-is, frame-read, found_within, take_paged, take_maps, untaken_paged, untaken_maps}
+use Rattle.space_core.proofs.TableLemmas.{frame_in-is, frame-number, frame-there, take_paged, take_maps, untaken_paged, untaken_maps}
 use Rattle.space_core.proofs.table.PageTable.take.Goals as goal
 use Rattle.space_core.proofs.table.PageTable.take.Goals.{After-frame_before}
 
@@ -28,11 +26,6 @@ returns-in_err-number-clause-after c =
     let none = told (goal.at.returns-in_err-number-clause-after c).After-frame_before ∙ c.in_err-number.was in
     rw (← c.self.view_is) (untaken_maps t c.args.page _ c.after_remove-changes.ensures.maps none)
 
-pub index_mut-requires : goal.index_mut-requires
-index_mut-requires c =
-    let has = told (goal.at.index_mut-requires c).After-frame_before ∙ c.in_ok-number.was in
-    omega (arith, found_within _ c.self.invariant _ _ has)
-
 pub invariant_of-self-in_err-frame : goal.invariant_of-self-in_err-frame
 invariant_of-self-in_err-frame c =
     let t = the_view c.self.inside in
@@ -43,9 +36,7 @@ pub returns-in_err-frame-clause-none : goal.returns-in_err-frame-clause-none
 returns-in_err-frame-clause-none c =
     let t = the_view c.self.inside in
     let has = told (goal.at.returns-in_err-frame-clause-none c).After-frame_before ∙ c.in_ok-number.was in
-    let at = c.self.invariant.found _ _ has in
-    let is = sym at.is ∙ frame-read t _ _ (found_within _ c.self.invariant _ _ has) c.index_mut.ensures.value ∙ sym c.take.ensures.value in
-    absurd (none-some _ (sym (is ∙ c.in_err-frame.was)))
+    absurd (frame-there t c.self.invariant _ _ has (sym c.take.ensures.frame ∙ c.in_err-frame.was))
 
 pub returns-in_err-frame-clause-after : goal.returns-in_err-frame-clause-after
 returns-in_err-frame-clause-after c =
@@ -63,11 +54,8 @@ pub returns-clause-some : goal.returns-clause-some
 returns-clause-some c =
     let t = the_view c.self.inside in
     let has = told (goal.at.returns-clause-some c).After-frame_before ∙ c.in_ok-number.was in
-    let at = c.self.invariant.found _ _ has in
-    let is = sym at.is ∙ frame-read t _ _ (found_within _ c.self.invariant _ _ has) c.index_mut.ensures.value ∙ sym c.take.ensures.value in
     rw (← c.self.view_is) (
-      has ∙ ap Some (sym at.number_is)
-          ∙ ap (λ (f : Framed). Some f.number) (same_Some _ _ (is ∙ c.in_ok-frame.was)),
+      has ∙ ap Some (sym (frame-number t c.self.invariant _ _ _ has (sym c.take.ensures.frame ∙ c.in_ok-frame.was))),
       rw c.moves.ensures
           (c.after_remove-changes.ensures.changes.moves_in c.self.inside.sizes),
     )

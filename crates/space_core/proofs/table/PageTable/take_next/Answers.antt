@@ -1,6 +1,6 @@
-use Rattle.std.proofs.Common.{◌∙◌, ap, sym, arith, None, Some}
+use Rattle.std.proofs.Common.{◌∙◌, ap, sym, None, Some}
 use Rattle.space_core.specs.contracts.table.PageTable.{the_view}
-use Rattle.space_core.proofs.TableLemmas.{frame_in-is, frame-read, frame-number, frame-there, found_within, next_some, next_none, take_paged, take_maps}
+use Rattle.space_core.proofs.TableLemmas.{frame_in-is, frame-number, frame-there, next_some, next_none, take_paged, take_maps}
 use Rattle.space_core.proofs.table.PageTable.take_next.Goals as goal
 
 pub invariant_of-self : goal.invariant_of-self
@@ -15,11 +15,6 @@ returns-in_err-page-clause-none c =
       ap (λ pages. record t { pages = pages }) e.1,
     )
 
-pub index_mut-requires : goal.index_mut-requires
-index_mut-requires c =
-    let t = the_view c.self.inside in
-    omega (arith, found_within t c.self.invariant c.in_ok-page.page _ (frame_in-is t c.in_ok-page.page ∙ c.in_ok-page.ensures.some.1))
-
 pub invariant_of-self-in_err-frame : goal.invariant_of-self-in_err-frame
 invariant_of-self-in_err-frame c =
     let t = the_view c.self.inside in
@@ -30,8 +25,7 @@ pub returns-in_err-frame-clause-none : goal.returns-in_err-frame-clause-none
 returns-in_err-frame-clause-none c =
     let t = the_view c.self.inside in
     let has = frame_in-is t c.in_ok-page.page ∙ c.in_ok-page.ensures.some.1 in
-    absurd (frame-there t c.self.invariant _ _ has (frame-read t _ _ (found_within t c.self.invariant _ _ has) c.index_mut.ensures.value
-    ∙ sym c.take.ensures.value ∙ c.in_err-frame.was))
+    absurd (frame-there t c.self.invariant _ _ has (sym c.take.ensures.frame ∙ c.in_err-frame.was))
 
 pub invariant_of-self-2 : goal.invariant_of-self-2
 invariant_of-self-2 c =
@@ -44,11 +38,9 @@ returns-clause-some c =
     let t = the_view c.self.inside in
     let e = c.in_ok-page.ensures.some in
     let has = frame_in-is t c.in_ok-page.page ∙ e.1 in
-    let is = frame-read t _ _ (found_within t c.self.invariant _ _ has) c.index_mut.ensures.value ∙ sym c.take.ensures.value
-    ∙ c.in_ok-frame.was in
     rw (← c.self.view_is, c.take.ensures.after) (
       next_some t c.args.from c.args.end (Some c.in_ok-page.page) e.0,
       has
-          ∙ ap Some (sym (frame-number t c.self.invariant _ _ _ has is)),
+          ∙ ap Some (sym (frame-number t c.self.invariant _ _ _ has (sym c.take.ensures.frame ∙ c.in_ok-frame.was))),
       take_maps t c.self.invariant c.in_ok-page.page _ _ e.2 has,
     )
