@@ -4,8 +4,8 @@
 //! Pages are counted over all spaces (`page_at`). What is kept of an extent is its id, and which of its eight parts have populated pages
 //! and are full of them, as a row of the tree. Each look at a root or a node of it, and each write of one, counts as a step.
 //!
-//! The pool calls `place`, `remove`, `split`, `find` and `meets`. `populate`, `evict`, `some` and `full` are for policies that look at which
-//! pages are populated, and the pool calls none of them.
+//! The pool calls `insert`, `remove`, `split`, `find` and `meets`. `populate`, `evict`, `some` and `full` are for policies that look at which
+//! pages are populated. The pool calls none of them, since it counts by frame which are.
 #![tactic(auto)]
 
 ghost use Rattle.std.specs.Prelude.{◌≡◌, ℕ, ◌+◌, ◌-◌, ◌*◌, ◌/◌, ◌%◌, ◌^◌, ◌<◌, ◌≤◌, ◌↔◌, true, false, IfOk, MatchOption, Some, None, is_some, All};
