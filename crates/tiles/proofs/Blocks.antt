@@ -17,6 +17,7 @@ use Rattle.tiles.specs.Blocks.{ProtectsInBlock, ProtectsTo, OutsideSame, is_grow
 use Rattle.tiles.specs.Kept.{FitsFrames, MapsExtent}
 use Rattle.tiles.specs.Resident.{NoneResident, Resident, mapping_at, frames_in, with_rights, Protects}
 use Rattle.tiles.specs.Sized.{AreMovesIn, size_by}
+use Rattle.tiles.specs.Touched.{IsInSpace}
 use Rattle.tiles.proofs.Counting.{count, count-zero, count-suc, count-apart, count-none, count-same, count_pages-is}
 use Rattle.tiles.proofs.MoveCounts.{LieApart}
 use Rattle.tiles.proofs.SizedTiles.{by_small, local_by, none_grown, promoted_test}
@@ -195,6 +196,35 @@ blocks_more to first len rights r s t so_far protects = record {
     lt_more : (m n : ℕ) → m ≢ n → nat_lt m n ≡ nat_lt m (n + 1)
     lt_more m n h = grind (arith, nat_tests)
 
+-- and where no page of further blocks is resident they are those before a further one
+pub blocks_bare : (to next first len : ℕ) (rights : Rights) (r s : Resident) → to ≤ next
+    → NoneResident (mapping_at s) (to * 512) (next * 512) → ProtectsBlocks to first len rights r s → ProtectsBlocks next first len rights r s
+blocks_bare to next first len rights r s on none so_far = record {
+  frames = so_far.frames;
+  at = λ p. elim (cases_lt (p / 512) to) [
+    | inl before ↦ so_far.at p ∙ ap (λ b. protected b rights (mapping_at r p)) (right_alike (in_range first len p) _ _ (both p before))
+    | inr after ↦
+        let was : mapping_at s p ≡ mapping_at r p = so_far.at p ∙ ap (λ b. protected b rights (mapping_at r p)) (out p to after) in
+        elim (cases_lt (p / 512) next) [
+          | inl within ↦
+              let gone = none p (omega arith) (omega arith) in
+              gone ∙ sym (ap (protected (in_range first len p && nat_lt (p / 512) next) rights) (sym was ∙ gone)
+              ∙ protects_none (in_range first len p && nat_lt (p / 512) next) rights)
+          | inr past ↦ was ∙ sym (ap (λ b. protected b rights (mapping_at r p)) (out p next past))
+        ]
+  ];
+}
+  where
+    both : (p : ℕ) → p / 512 < to → nat_lt (p / 512) to ≡ nat_lt (p / 512) next
+    both p before = grind (arith, nat_tests)
+
+    out : (p end : ℕ) → end ≤ p / 512 → (in_range first len p && nat_lt (p / 512) end) ≡ false
+    out p end past = right_no (in_range first len p) (p / 512) end past
+      where
+        right_no : (a : Bool) (m n : ℕ) → n ≤ m → (a && nat_lt m n) ≡ false
+        right_no true m n h = grind (arith, nat_tests)
+        right_no false m n h = refl
+
 -- the pages in the blocks before that one are as before in it
 pub block_untouched : (to first len : ℕ) (rights : Rights) (r s : Resident) → ProtectsBlocks to first len rights r s → (p : ℕ) → p / 512 ≡ to
     → mapping_at s p ≡ mapping_at r p
@@ -324,6 +354,20 @@ counts_more z block i old new so_far all counts promoted demoted =
       promotions = omega (arith, promoted, counts.promotions, count_eight z old new (block * 512) i whole);
       demotions = omega (arith, demoted, counts.demotions, count_eight z new old (block * 512) i whole);
     }
+
+-- What is counted at a page of which the tile had one level and has another is added.
+pub record Adds (page had has : ℕ) (so_far all : Moves) : Type 0 where
+  pub promotions : all.promotions ≡ so_far.promotions + weight (is_grown_at page had has)
+  pub demotions : all.demotions ≡ so_far.demotions + weight (is_grown_at page has had)
+  pub in_space : IsInSpace all.touched
+
+-- that is nothing where both are one
+pub adds_none : (page had has : ℕ) (moves : Moves) → had ≡ has → IsInSpace moves.touched → Adds page had has moves moves
+adds_none page had has moves same inside =
+    record { promotions = omega (arith, none had has same); demotions = omega (arith, none has had (sym same)); in_space = inside }
+  where
+    none : (a b : ℕ) → a ≡ b → weight (is_grown_at page a b) ≡ 0
+    none a b e = let t : ltb a b ≡ false = grind (arith, nat_tests) in ap (λ x. weight (x && eqb (page % 8 ^ b) 0)) t
 
 -- and they are in it
 pub counts_all : (z : SizeSet) (block : ℕ) (old new : ℕ → Option Mapping) (moves : Moves) → block < 2048 → OutsideSame block old new

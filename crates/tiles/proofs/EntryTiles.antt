@@ -4,12 +4,12 @@ use Rattle.std.proofs.Math.Nat.{mul-mod_left}
 use Rattle.std.proofs.lemmas.Bool.{cases_Bool, cases_eq, cases_lt, cond-true, eq-eqb, ne_eqb, eqb-true, false≢true}
 use Rattle.std.proofs.lemmas.Option.{none-some, same_Some}
 use Rattle.tiles.specs.declared.entry.TableEntry.{TableEntry}
-use Rattle.tiles.specs.TableEntries.{AreEntries, AreParts, Maps, entry_at, entry_with, extent_round, mapping_of, pages_in, part_of, tile_of_entry, mapping_at as said_at}
+use Rattle.tiles.specs.TableEntries.{AreEntries, AreParts, Maps, entry_at, entry_size, entry_with, extent_round, mapping_of, pages_in, part_of, tile_of_entry, mapping_at as said_at}
 use Rattle.tiles.proofs.Mappings.{first_is, join_mapping, maps_inside, maps_outside, split_mapping}
 use Rattle.pager_model.specs.declared.extent.Extent.{Extent}
 use Rattle.pager_model.specs.declared.tile.Mapping.{Mapping}
 use Rattle.pager_model.specs.Extents.{IsExtent, extent_start}
-use Rattle.pager_model.specs.Tiles.{moved_by, tile_of, tile_with}
+use Rattle.pager_model.specs.Tiles.{moved_by, size_at, size_in, tile_of, tile_with}
 use Rattle.pager_model.proofs.ExtentLemmas.{coarser, eight_pos, extent_of_frame, first_of_extent}
 use Rattle.tiles.specs.Beside.{whole}
 use Rattle.tiles.specs.Kept.{AreAligned, AreTiles, AreTilesBut, MapsAlike}
@@ -109,6 +109,14 @@ tile_is m tiles p = of (entry_at m p) refl
         ∙ ap (λ (n : Mapping). Some (tile_with entry.extent.size (extent_start entry.extent.size p) n)) head
         ∙ ap (λ n. Some (tile_with entry.extent.size n entry.mapping)) (first_is m p entry tiles.entries at)
         ∙ ap (option_map tile_of_entry) (sym at)
+
+-- so they are of one size
+pub size_of_tile : (m : Resident) → AreTiles m → (p : ℕ) → size_at (mapping_at m) p ≡ entry_size (entry_at m p)
+size_of_tile m tiles p = ap size_in (tile_is m tiles p) ∙ of (entry_at m p)
+  where
+    of : (o : Option TableEntry) → size_in (option_map tile_of_entry o) ≡ entry_size o
+    of None = refl
+    of (Some entry) = refl
 
 -- ---- other entries that say the same
 

@@ -19,6 +19,7 @@ pub mod Counting
 pub mod CutCounts
 pub mod CutTiles
 pub mod Eligible
+pub mod EntrySizes
 pub mod EntryTiles
 pub mod Extents
 pub mod KeptPages

@@ -1,18 +1,18 @@
 -- How many looks a change of rights makes.
-use Rattle.std.proofs.Common.{◌≡◌, ℕ, suc, ◌+◌, ◌-◌, ◌*◌, ◌/◌, ◌<◌, ◌≤◌, Bool, true, false, if◌then◌else◌, ◌&&◌, nat_le, nat_lt, max, Option, Some, None, option_map, is_some, refl, sym, ap, ◌∙◌, arith}
-use Rattle.std.proofs.lemmas.Bool.Decides.{nat_tests}
-use Rattle.std.proofs.lemmas.Option.{none-some}
+use Rattle.std.proofs.Common.{◌≡◌, ℕ, zero, suc, ◌+◌, ◌-◌, ◌*◌, ◌/◌, ◌<◌, ◌≤◌, Bool, true, false, if◌then◌else◌, ◌&&◌, nat_le, nat_lt, max, Option, Some, None, option_map, is_some, refl, sym, ap, ◌∙◌, arith}
+use Rattle.std.proofs.lemmas.Bool.{lt-ltb}
 use Rattle.tiles.specs.declared.entry.TableEntry.{TableEntry}
-use Rattle.tiles.specs.TableEntries.{mapping_of}
+use Rattle.tiles.specs.TableEntries.{entry_at}
 use Rattle.pager_model.specs.declared.region.Rights.{Rights}
 use Rattle.pager_model.specs.declared.tile.Mapping.{Mapping}
 use Rattle.pager_model.proofs.CountLemmas.{weight}
 use Rattle.tiles.specs.Blocks.{ProtectsTo}
 use Rattle.tiles.specs.Kept.{IsNextTile}
 use Rattle.tiles.specs.Looks.{looks_in_block, looks_in_blocks, resident_in}
-use Rattle.tiles.specs.Resident.{NoneResident, Resident, mapping_at, with_rights}
+use Rattle.tiles.specs.Resident.{Resident, mapping_at, with_rights}
 use Rattle.tiles.proofs.Blocks.{count_in_range}
 use Rattle.tiles.proofs.Counting.{count, count-apart, count-same, count-suc}
+use Rattle.tiles.proofs.EntryTiles.{entry_says}
 
 -- ---- a change of one page
 
@@ -75,22 +75,6 @@ resident_part pages from many first len low high known =
       count-part (has_page pages) from many first len low high,
     )
 
-none_resident : (pages : ℕ → Option Mapping) (first len : ℕ) → first + len ≤ 1048576 → nat_lt 0 (resident_in pages first len) ≡ false
-    → NoneResident pages first (first + len)
-none_resident pages first len known none p low high = of (pages p) refl
-  where
-    zero_of : (n : ℕ) → nat_lt 0 n ≡ false → n ≤ 0
-    zero_of n h = grind (arith, nat_tests)
-
-    of : (o : Option Mapping) → pages p ≡ o → pages p ≡ None
-    of None at = at
-    of (Some m) at = absurd (omega (
-      arith,
-      zero_of (resident_in pages first len) none,
-      resident_is pages first len known,
-      count-has (has_page pages) first len p low high (ap is_some at),
-    ))
-
 -- a page with other rights is resident still
 pub still_resident : (first end : ℕ) (rights : Rights) (r s : Resident) → ProtectsTo first end rights r s
     → (p : ℕ) → has_page (mapping_at s) p ≡ has_page (mapping_at r) p
@@ -105,25 +89,35 @@ still_resident first end rights r s protects p = ap is_some (protects.at p) ∙ 
 pub next_resident : (r : Resident) (from end : ℕ) (e : TableEntry) → IsNextTile r from end e → has_page (mapping_at r) (max from e.extent.first) ≡ true
 next_resident r from end e next = ap is_some (next.fits.says (max from e.extent.first) next.fits.from next.fits.to)
 
--- so there is none where no page is
-pub no_entry : (r : Resident) (from end low high : ℕ) (e : TableEntry) → IsNextTile r from end e → low ≤ from → end ≤ high
-    → NoneResident (mapping_at r) low high → ⊥
-no_entry r from end low high e next on before none =
-    let page = max from e.extent.first in
-    none-some (mapping_of e page) (sym (none page (omega arith) (omega (arith, next.next.before_end)))
-    ∙ next.fits.says page next.fits.from next.fits.to)
+-- a block that has an entry has a resident page
+pub block_resident : (r : Resident) (block page : ℕ) → block < 2048 → page / 512 ≡ block → is_some (entry_at r page) ≡ true
+    → 0 < resident_in (mapping_at r) (block * 512) 512
+block_resident r block page known inside has =
+    omega (
+      arith,
+      resident_is (mapping_at r) (block * 512) 512 (omega arith),
+      count-has (has_page (mapping_at r)) (block * 512) 512 page (omega arith) (omega arith) (of (entry_at r page) refl has),
+    )
+  where
+    of : (o : Option TableEntry) → entry_at r page ≡ o → is_some o ≡ true → has_page (mapping_at r) page ≡ true
+    of (Some entry) at some = ap is_some (entry_says r page entry at)
+    of None at some = absurd (cc)
 
 -- ---- the looks in blocks
 
--- a block without a resident page is one look, and the others are as many as their resident pages allow
-pub within_block : (pages : ℕ → Option Mapping) (block begun done : ℕ) → block < 2048
-    → done ≤ begun + (8192 + 58 * resident_in pages (block * 512) 512)
-    → (NoneResident pages (block * 512) (block * 512 + 512) → done ≤ begun + 1) → done ≤ begun + looks_in_block pages block
-within_block pages block begun done known most bare = at (nat_lt 0 (resident_in pages (block * 512) 512)) refl
+-- each block is a look
+look_least : (pages : ℕ → Option Mapping) (block : ℕ) → 1 ≤ looks_in_block pages block
+look_least pages block = of (nat_lt 0 (resident_in pages (block * 512) 512)) (resident_in pages (block * 512) 512)
   where
-    at : (b : Bool) → nat_lt 0 (resident_in pages (block * 512) 512) ≡ b → done ≤ begun + looks_in_block pages block
-    at true some = rw some most
-    at false none = rw none (bare (none_resident pages (block * 512) 512 (omega arith) none))
+    of : (b : Bool) (n : ℕ) → 1 ≤ (if b then 8192 + 58 * n else 1)
+    of true n = omega arith
+    of false n = omega arith
+
+-- and one with a resident page as many as these allow
+pub looks_used : (pages : ℕ → Option Mapping) (block : ℕ) → 0 < resident_in pages (block * 512) 512
+    → looks_in_block pages block ≡ 8192 + 58 * resident_in pages (block * 512) 512
+looks_used pages block some =
+    ap (λ b. if b then 8192 + 58 * resident_in pages (block * 512) 512 else 1) (lt-ltb 0 (resident_in pages (block * 512) 512) some)
 
 -- they are of the pages of the block alone
 pub block_alike : (old new : ℕ → Option Mapping) (block : ℕ) → block < 2048 → ((p : ℕ) → p / 512 ≡ block → new p ≡ old p)
@@ -149,3 +143,20 @@ pub looks-more : (pages : ℕ → Option Mapping) (from block : ℕ) → from �
 looks-more pages from block on =
     ap (looks_in_blocks pages from) {x = block + 1 - from} {y = suc (block - from)} (omega arith) ∙ looks-suc pages from (block - from)
     ∙ ap (λ b. looks_in_blocks pages from (block - from) + looks_in_block pages b) {x = from + (block - from)} {y = block} (omega arith)
+
+-- in further blocks, a look in each at least
+pub looks-on : (pages : ℕ → Option Mapping) (from block next : ℕ) → from ≤ block → block ≤ next
+    → looks_in_blocks pages from (block - from) + (next - block) ≤ looks_in_blocks pages from (next - from)
+looks-on pages from block next on up =
+    omega (arith, further (next - block), ap (looks_in_blocks pages from) {x = (block - from) + (next - block)} {y = next - from} (omega arith))
+  where
+    further : (more : ℕ) → looks_in_blocks pages from (block - from) + more ≤ looks_in_blocks pages from ((block - from) + more)
+    further zero = omega (arith, ap (looks_in_blocks pages from) {x = (block - from) + 0} {y = block - from} (omega arith))
+    further (suc more) =
+        omega (
+          arith,
+          further more,
+          ap (looks_in_blocks pages from) {x = (block - from) + suc more} {y = suc ((block - from) + more)} (omega arith),
+          looks-suc pages from ((block - from) + more),
+          look_least pages (from + ((block - from) + more)),
+        )

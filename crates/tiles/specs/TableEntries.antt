@@ -22,6 +22,11 @@ entry_with size page mapping = record { extent = extent_round size page; mapping
 abbrev pub tile_of_entry : TableEntry → Tile
 tile_of_entry entry = tile_with entry.extent.size entry.extent.first entry.mapping
 
+-- the size of an entry, and a page's where there is none
+abbrev pub entry_size : Option TableEntry → ℕ
+entry_size None = 0
+entry_size (Some entry) = entry.extent.size
+
 -- what an entry says of a page of its extent
 abbrev pub mapping_of : TableEntry → ℕ → Mapping
 mapping_of entry page = moved_by (page - entry.extent.first) entry.mapping

@@ -1,7 +1,8 @@
 //! The resident pages of a space, and what each change does to their tiles.
 
 ghost use Rattle.std.specs.Int.{div_ceil};
-ghost use Rattle.std.specs.Prelude.{◌≡◌, ◌≢◌, ◌∷◌, [], ℕ, ◌+◌, ◌-◌, ◌*◌, ◌/◌, ◌%◌, ◌^◌, ◌<◌, ◌≤◌, true, false, Option, None, Some, IfOk, IfNone, IfSome, option_map, slice_index, nat_le, nat_lt, ◌&&◌, if◌then◌else◌};
+ghost use Rattle.std.specs.Prelude.{◌≡◌, ◌≢◌, ◌∷◌, [], ℕ, ◌+◌, ◌-◌, ◌*◌, ◌/◌, ◌%◌, ◌^◌, ◌<◌, ◌≤◌, true, false, Option, None, Some, IfOk, IfNone, IfSome, option_map, slice_index};
+ghost use Rattle.pager_model.specs.SizeSets.{size_within};
 ghost use Rattle.pager_model.specs.Tiles.{tile_in, is_tile_in, tile_count_in, cut_to};
 ghost use Rattle.pager_model.specs.declared.tile.Mapping.{Mapping};
 ghost use Rattle.tiles.specs.Resident.{mapping_at, frames_in, frame_of_page, Maps, Protects, IsNextResident, NoneResident, with_flag, with_rights};
@@ -10,7 +11,7 @@ ghost use Rattle.tiles.specs.TableEntries.{entry_at};
 ghost use Rattle.tiles.specs.Blocks.{KeepsRights, ProtectsTo, ProtectsInBlock, AreSizesOfBlock, OutsideSame};
 ghost use Rattle.tiles.specs.Sized.{AreMovesIn, size_by, begins_before_in, large_tiles_begun_in, large_tiles_meeting_in};
 ghost use Rattle.tiles.specs.Kept.{FitsFrames};
-ghost use Rattle.tiles.specs.Looks.{looks_in_block, looks_of_rights, resident_in};
+ghost use Rattle.tiles.specs.Looks.{looks_of_rights, resident_in};
 ghost use Rattle.pager_model.specs.Bounds.{most_frames, space_pages};
 
 use crate::changes::Changes;
@@ -93,13 +94,16 @@ fn large_begun(size: Size, from: u32, end: u32) -> u32
     end.div_ceil(size.pages()) - from.div_ceil(size.pages())
 }
 
-/// Writes this level at the places from one on and before an end.
-fn set_places(levels: &mut [u8; 64], from: u32, end: u32, level: u8)
-    requires range { from ≤ end }
-    requires within { end ≤ 64 }
-    ensures { (i : ℕ) → i < 64 → slice_index levels.new i ≡ (if nat_le from i && nat_lt i end then level else slice_index levels.old i) }
+/// The level of the largest of some sizes within each of the four.
+fn levels_within(sizes: Sizes) -> [u8; 4]
+    ensures { (k : ℕ) → k ≤ 3 → slice_index result k ≡ size_within sizes k }
 {
-    levels[from as usize..end as usize].fill(level);
+    [
+        sizes.within(Size::at_level(0)).level(),
+        sizes.within(Size::at_level(1)).level(),
+        sizes.within(Size::at_level(2)).level(),
+        sizes.within(Size::at_level(3)).level(),
+    ]
 }
 
 /// Whether a mapping has other rights.
@@ -277,8 +281,6 @@ impl Base {
         requires in_space { end ≤ space_pages }
         ensures keeps { result ≡ false → KeepsRights first end rights (mapping_at self.now) }
         ensures cost { steps.new ≤ steps.old + 4 * (end - first) }
-        ensures bare { NoneResident (mapping_at self.now) (first / 512 * 512) ((end + 511) / 512 * 512)
-            → (result ≡ false) × (steps.new + first / 512 ≤ steps.old + (end + 511) / 512) }
     {
         let mut from = first;
         while let Some(entry) = self.find_next(from, end, steps) {
@@ -343,29 +345,15 @@ impl Base {
 
     /// The sizes of the tiles by some sizes at the first of each eight pages of a block: each tile of size 1 or more begins at such a page.
     ///
-    /// It goes from entry to entry: an entry is at the places whose first page it has, and where none is resident the place keeps its 0.
+    /// They are read from the nodes of the tree of entries: the block, the eight parts of it, and the eight parts of each of these.
     fn sizes_of_block<L: Ledger>(&self, block: u32, sizes: Sizes, steps: &mut Steps<L>) -> [u8; 64]
         requires { block < 2048 }
         ensures sizes { AreSizesOfBlock sizes block result (mapping_at self.now) }
         ensures small { (i : ℕ) → i < 64 → slice_index result i ≤ 3 }
-        ensures cost { steps.new ≤ steps.old + 2048 }
+        ensures cost { steps.new ≤ steps.old + 10 }
     {
-        let first = block * LARGEST;
-        let end = first + LARGEST;
-        let mut levels = [0; 64];
-        let mut from = first;
-        while let Some(entry) = self.find_next(from, end, steps) {
-            let begun = (from.max(entry.extent.first) - first).div_ceil(8);
-            let past = (behind(&entry).min(end) - first).div_ceil(8);
-            set_places(
-                &mut levels,
-                begun,
-                past,
-                sizes.within(entry.extent.size).level(),
-            );
-            from = first + 8 * past;
-        }
-        levels
+        self.map
+            .levels_of_block(block, &levels_within(sizes), steps)
     }
 
     /// The moves by some sizes of a change within a block, before which its first of each eight pages had tiles of these sizes.
@@ -380,13 +368,15 @@ impl Base {
         requires small { (i : ℕ) → i < 64 → slice_index before.now i ≤ 3 }
         ensures moves { (old : ℕ → Option Mapping) → AreSizesOfBlock sizes block before.now old → OutsideSame block old (mapping_at self.now)
             → AreMovesIn sizes old (mapping_at self.now) result }
-        ensures cost { steps.new ≤ steps.old + 2048 }
+        ensures cost { steps.new ≤ steps.old + 10 }
     {
         let after = self.sizes_of_block(block, sizes, steps);
         let mut moves = Moves::NONE;
         for i in 0..64 {
-            let page = block * LARGEST + 8 * i as u32;
-            moves = moves.and(Moves::at(page, before[i], after[i]));
+            if before[i] != after[i] {
+                let page = block * LARGEST + 8 * i as u32;
+                moves = moves.and(Moves::at(page, before[i], after[i]));
+            }
         }
         Moves {
             touched: PageRange {
@@ -399,8 +389,8 @@ impl Base {
 
     /// The resident pages of a range that are in a block have these rights. The moves by some sizes.
     ///
-    /// The range in the block is gone through twice, and the block twice, each with four looks a page at most; and each change of a part of an entry, of
-    /// which there is one at most for each resident page, is 58 looks at most.
+    /// The range in the block is gone through twice, with four looks a page at most, and the sizes in the block are read twice, with ten; and each
+    /// change of a part of an entry, of which there is one at most for each resident page, is 58 looks at most.
     fn after_rights_in_block<L: Ledger>(
         &mut self,
         block: u32,
@@ -416,7 +406,7 @@ impl Base {
         requires to { block * 512 ≤ first + length }
         ensures protects { ProtectsInBlock block first length rights self.old self.new }
         ensures moves { AreMovesIn sizes (mapping_at self.old) (mapping_at self.new) result }
-        ensures cost { steps.new ≤ steps.old + looks_in_block (mapping_at self.old) block }
+        ensures cost { steps.new ≤ steps.old + 4116 + 58 * resident_in (mapping_at self.old) (block * 512) 512 }
     {
         let from = first.max(block * LARGEST);
         let end = (first + length).min(block * LARGEST + LARGEST);
@@ -430,7 +420,8 @@ impl Base {
 
     /// The resident pages of a range have these rights. The moves by some sizes are those of the whole change.
     ///
-    /// It goes from block to block. One without a resident page is one look; a single page is changed as the others are that change one page.
+    /// It goes from block to block, and passes over those without a resident page, with one look at each; a single page is changed as the others are
+    /// that change one page.
     pub fn after_rights<L: Ledger>(
         &mut self,
         first: u32,
@@ -447,12 +438,14 @@ impl Base {
         if length == 1 {
             return self.after_rights_of_page(first, rights, steps).moves(sizes);
         }
-        let end = first + length;
+        let past = (first + length).div_ceil(LARGEST);
         let mut moves = Moves::NONE;
-        for block in first / LARGEST..end.div_ceil(LARGEST) {
+        let mut block = self.next_block(first / LARGEST, past, steps);
+        while block < past {
             moves = moves.and(self.after_rights_in_block(
                 block, first, length, rights, sizes, steps,
             ));
+            block = self.next_block(block + 1, past, steps);
         }
         moves
     }

@@ -18,6 +18,7 @@ mod counts;
 mod entries;
 mod entry;
 pub mod laws;
+mod levels;
 mod mixed;
 mod moves;
 mod pages;

@@ -4,14 +4,14 @@
 //! four nodes at most, and an entry breaks into its eight parts, or eight parts join, by writes at two nodes. Each look at a root or a node, and
 //! each write of one, counts as a step.
 
-ghost use Rattle.std.specs.Prelude.{◌≡◌, ◌∷◌, [], ℕ, ◌+◌, ◌-◌, ◌*◌, ◌/◌, ◌<◌, ◌≤◌, ◌^◌, true, max, None, Some, IfNone, IfOk, IfSome, MatchOption};
+ghost use Rattle.std.specs.Prelude.{◌≡◌, ◌∷◌, [], ℕ, ◌+◌, ◌-◌, ◌*◌, ◌/◌, ◌<◌, ◌≤◌, ◌^◌, true, max, is_some, slice_index, None, Some, IfNone, IfOk, IfSome, MatchOption};
 ghost use Rattle.pager_model.specs.Bounds.{most_frames, space_pages};
 ghost use Rattle.pager_model.specs.Extents.{IsExtent};
 ghost use Rattle.tiles.specs.declared.entry.TableEntry.{TableEntry as Item};
-ghost use Rattle.tiles.specs.TableEntries.{entry_at, extent_round, frames_in, pages_in, entry_count, is_in, part_of, AreParts, IsNextEntry, Maps, NoneMapped};
+ghost use Rattle.tiles.specs.TableEntries.{entry_at, entry_size, extent_round, frames_in, pages_in, entry_count, is_in, part_of, AreParts, IsNextEntry, Maps, NoneMapped};
 
 use crate::entry::{TableEntry, parts_from};
-use crate::{counts, parts};
+use crate::{counts, levels, parts};
 use extent_tree::ExtentTree;
 use pager_model::{Extent, Mapping, NoMemory, Size, Steps};
 use std::alloc::Global;
@@ -84,6 +84,34 @@ impl Mixed {
         }
         let row = self.tree.next(from, end, steps)?;
         Some(TableEntry::round(row.size, row.page, row.value))
+    }
+
+    /// The first block of 512 pages from one on and before an end that has a mapped page, or the end. Each up to it is one look.
+    pub fn used_block<L: Ledger>(&self, from: u32, end: u32, steps: &mut Steps<L>) -> u32
+        requires range { from ≤ end }
+        requires end { end ≤ 2048 }
+        ensures from_on { from ≤ result }
+        ensures within { result ≤ end }
+        ensures bare { NoneMapped self.now (from * 512) (result * 512) }
+        ensures used { result < end → (page : ℕ) × (page / 512 ≡ result) × (is_some (entry_at self.now page) ≡ true) }
+        ensures cost_used { result < end → steps.new + from ≤ steps.old + result + 1 }
+        ensures cost_none { result ≡ end → steps.new + from ≤ steps.old + end }
+    {
+        self.tree.used_root(from, end, steps)
+    }
+
+    /// What is said of the level of the entry that maps the first of each eight pages of a block of 512, and of level 0 where none does.
+    pub fn levels_of_block<L: Ledger>(
+        &self,
+        block: u32,
+        said: &[u8; 4],
+        steps: &mut Steps<L>,
+    ) -> [u8; 64]
+        requires { block < 2048 }
+        ensures levels { (i : ℕ) → i < 64 → slice_index result i ≡ slice_index said.now (entry_size (entry_at self.now (block * 512 + 8 * i))) }
+        ensures cost { steps.new ≤ steps.old + 10 }
+    {
+        levels::levels_of_block(&self.tree, block, said, steps)
     }
 
     /// Maps the pages of an entry's extent, of which none is mapped.

@@ -6,6 +6,7 @@ ghost use Rattle.pager_model.specs.Bounds.{space_pages};
 ghost use Rattle.pager_model.specs.Tiles.{tile_of, tiles_of_size};
 ghost use Rattle.tiles.specs.Changes.{IsTileChange};
 ghost use Rattle.tiles.specs.Kept.{FitsFrames, IsNextTile, MapsExtent};
+ghost use Rattle.tiles.specs.Looks.{resident_in};
 ghost use Rattle.tiles.specs.Resident.{mapping_at, frame_of_page, frames_in, Maps, NoneResident};
 
 use crate::base::Base;
@@ -52,8 +53,7 @@ impl Base {
         counted::next::<Brand>(&self.map, from, end, Blank::new(1))
     }
 
-    /// The same, where the caller counts the looks: four at most for each page up to the one that is found or the end, and one for each extent of 512
-    /// pages where none of theirs is resident.
+    /// The same, where the caller counts the looks: four at most for each page up to the one that is found or the end.
     pub(crate) fn find_next<L: Ledger>(
         &self,
         from: u32,
@@ -64,10 +64,22 @@ impl Base {
         ensures some { IfSome result (IsNextTile self.now from end) }
         ensures none { IfNone result (NoneResident (mapping_at self.now) from end) }
         ensures cost { MatchOption result (steps.new ≤ steps.old + 4 * (end - from)) (λ entry. steps.new + 4 * from ≤ steps.old + 4 * (max from entry.extent.first + 1)) }
-        ensures bare { from ≤ end → NoneResident (mapping_at self.now) (from / 512 * 512) ((end + 511) / 512 * 512)
-            → steps.new + from / 512 ≤ steps.old + (end + 511) / 512 }
     {
         self.map.next(from, end, steps)
+    }
+
+    /// The first block of 512 pages from one on and before an end that has a resident page, or the end. Each up to it is one look.
+    pub(crate) fn next_block<L: Ledger>(&self, from: u32, end: u32, steps: &mut Steps<L>) -> u32
+        requires range { from ≤ end }
+        requires end { end ≤ 2048 }
+        ensures from_on { from ≤ result }
+        ensures within { result ≤ end }
+        ensures bare { NoneResident (mapping_at self.now) (from * 512) (result * 512) }
+        ensures used { result < end → 0 < resident_in (mapping_at self.now) (result * 512) 512 }
+        ensures cost_used { result < end → steps.new + from ≤ steps.old + result + 1 }
+        ensures cost_none { result ≡ end → steps.new + from ≤ steps.old + end }
+    {
+        self.map.used_block(from, end, steps)
     }
 
     /// How many tiles there are of each size.

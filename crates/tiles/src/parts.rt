@@ -1,14 +1,25 @@
-//! Whether the eight parts of an extent form one entry.
+//! The eight parts of an extent, and whether they form one entry.
 
-ghost use Rattle.std.specs.Prelude.{◌≡◌, ◌*◌, ◌<◌, ◌≤◌, ◌↔◌, Some, IsTrue, MatchOption};
+ghost use Rattle.std.specs.Prelude.{◌≡◌, ◌*◌, ◌<◌, ◌≤◌, ◌↔◌, slice_index_or, Some, IsTrue, MatchOption};
+ghost use Rattle.extent_tree.specs.Rows.{blank};
 ghost use Rattle.pager_model.specs.Tiles.{moved_by};
 ghost use Rattle.tiles.specs.KeptEntries.{Joins, value_of};
 
 use extent_tree::Spot;
 use pager_model::Mapping;
 
+/// What is at a part.
+pub(crate) fn spot_at(parts: &[Spot<Mapping>], part: usize) -> Spot<Mapping>
+    ensures { result ≡ slice_index_or parts.now part blank }
+{
+    match parts.get(part) {
+        Some(spot) => *spot,
+        None => Spot::blank(),
+    }
+}
+
 /// The mapping at a part.
-fn value_of(parts: &[Spot<Mapping>], part: usize) -> Option<Mapping>
+pub(crate) fn value_of(parts: &[Spot<Mapping>], part: usize) -> Option<Mapping>
     ensures { result ≡ value_of parts.now part }
 {
     parts.get(part)?.value()

@@ -1,8 +1,7 @@
-use Rattle.std.proofs.Common.{◌*◌, ◌-◌, refl, sym, ◌∙◌, arith}
-use Rattle.std.proofs.lemmas.Bool.{false≢true}
+use Rattle.std.proofs.Common.{◌*◌, ◌-◌, refl, arith}
 use Rattle.tiles.specs.Resident.{mapping_at}
 use Rattle.tiles.proofs.Blocks.{outside_part}
-use Rattle.tiles.proofs.Looks.{resident_part, within_block}
+use Rattle.tiles.proofs.Looks.{resident_part}
 use Rattle.tiles.proofs.MoveCounts.{moves_same}
 use Rattle.tiles.proofs.base.Base.after_rights_in_block.Goals as goal
 
@@ -12,17 +11,7 @@ returns-then-not-any_has_other_rights-clause-moves g c = moves_same c.args.sizes
 
 pub returns-then-not-any_has_other_rights-clause-cost : goal.returns-then-not-any_has_other_rights-clause-cost
 returns-then-not-any_has_other_rights-clause-cost g c =
-    let any = c.any_has_other_rights.ensures in
-    within_block (mapping_at c.args.self.now) c.args.block c.args.steps.now c.any_has_other_rights.new.steps c.requires.block
-    (omega (arith, any.cost, c.max-from.ensures, c.min-end.ensures))
-    (λ none. omega (
-      arith,
-      (any.bare (λ p low high. none p (omega (arith, low, c.max-from.ensures)) (omega (arith, high, c.min-end.ensures)))).1,
-      c.max-from.ensures,
-      c.min-end.ensures,
-      c.requires.from,
-      c.requires.to,
-    ))
+    omega (arith, c.any_has_other_rights.ensures.cost, c.max-from.ensures, c.min-end.ensures)
 
 pub returns-clause-moves : goal.returns-clause-moves
 returns-clause-moves g c =
@@ -32,14 +21,11 @@ returns-clause-moves g c =
 
 pub returns-clause-cost : goal.returns-clause-cost
 returns-clause-cost g c =
-    let any = c.any_has_other_rights.ensures in
-    let pages = mapping_at c.args.self.now in
     let from = c.max-from.result in
     let end = c.min-end.result in
-    within_block pages c.args.block c.args.steps.now c.moves_of_block.new.steps c.requires.block
-    (omega (
+    omega (
       arith,
-      any.cost,
+      c.any_has_other_rights.ensures.cost,
       c.sizes_of_block-before.ensures.cost,
       c.after_rights_of_all.ensures.cost,
       c.moves_of_block.ensures.cost,
@@ -47,8 +33,6 @@ returns-clause-cost g c =
       c.min-end.ensures,
       c.requires.from,
       c.requires.to,
-      resident_part pages (c.args.block * 512) 512 from (end - from) (omega (arith, c.max-from.ensures))
+      resident_part (mapping_at c.args.self.now) (c.args.block * 512) 512 from (end - from) (omega (arith, c.max-from.ensures))
           (omega (arith, c.max-from.ensures, c.min-end.ensures, c.requires.from, c.requires.to)) (omega (arith, c.requires.block)),
-    ))
-    (λ none. absurd (false≢true (sym (any.bare (λ p low high. none p (omega (arith, low, c.max-from.ensures)) (omega (arith, high, c.min-end.ensures)))).0
-    ∙ c.if-not-any_has_other_rights.false)))
+    )

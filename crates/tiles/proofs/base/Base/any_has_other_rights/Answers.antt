@@ -1,17 +1,8 @@
-use Rattle.std.proofs.Common.{◌+◌, ◌*◌, ◌/◌, max, option_map, inl, inr, refl, ap, sym, ◌∙◌, arith}
+use Rattle.std.proofs.Common.{max, option_map, inl, inr, ap, sym, ◌∙◌, arith}
 use Rattle.std.proofs.lemmas.Bool.{cases_lt}
-use Rattle.tiles.specs.Resident.{NoneResident, mapping_at, with_rights}
+use Rattle.tiles.specs.Resident.{mapping_at, with_rights}
 use Rattle.tiles.proofs.Behind.{end_fits, keeps_within}
-use Rattle.tiles.proofs.Looks.{no_entry}
 use Rattle.tiles.proofs.base.Base.any_has_other_rights.Goals as goal
-use Rattle.tiles.proofs.base.Base.any_has_other_rights.Goals.{In-Some}
-use Rattle.tiles.proofs.base.Base.any_has_other_rights.Given.{Over}
-
--- some page is resident where there is an entry in hand
-not_bare : (g : Over) (c : In-Some g)
-    → NoneResident (mapping_at c.args.self.now) (c.args.first / 512 * 512) ((c.args.end + 511) / 512 * 512) → ⊥
-not_bare g c = no_entry c.args.self.now c.loop-entry.from c.args.end (c.args.first / 512 * 512) ((c.args.end + 511) / 512 * 512) c.in-Some.entry
-    c.in-Some.ensures.some (omega (arith, c.loop-entry.invariant.from_on)) (omega arith)
 
 pub behind-from-requires : goal.behind-from-requires
 behind-from-requires g c = end_fits c.args.self.now _ c.in-Some.entry c.in-Some.ensures.some.fits
@@ -45,22 +36,11 @@ loop-entry-preserved g c =
         next.fits.to,
         next.next.before_end,
       );
-      bare = λ none. absurd (not_bare g (goal.at.loop-entry-preserved g c).In-Some none);
     }
 
 pub returns-then-has_other_rights-clause-cost : goal.returns-then-has_other_rights-clause-cost
 returns-then-has_other_rights-clause-cost g c =
     omega (arith, c.loop-entry.invariant.cost, c.in-Some.ensures.cost, c.in-Some.ensures.some.next.before_end)
 
-pub returns-then-has_other_rights-clause-bare : goal.returns-then-has_other_rights-clause-bare
-returns-then-has_other_rights-clause-bare g c none = absurd (not_bare g (goal.at.returns-then-has_other_rights-clause-bare g c).In-Some none)
-
 pub returns-clause-cost : goal.returns-clause-cost
 returns-clause-cost g c = omega (arith, c.loop-entry.invariant.cost, c.in_default.ensures.cost)
-
-pub returns-clause-bare : goal.returns-clause-bare
-returns-clause-bare g c none =
-    let begun = c.loop-entry.invariant.bare none in
-    let looked = c.in_default.ensures.bare (omega (arith, begun.0, c.requires.range))
-    (λ p low high. none p (omega (arith, low, begun.0)) high) in
-    (refl, omega (arith, looked, begun.0, begun.1))

@@ -1,5 +1,4 @@
 use Rattle.tiles.specs.contracts.base.Base.{the_view}
-use Rattle.tiles.proofs.EntryTiles.{unmapped}
 use Rattle.tiles.proofs.KeptPages.{next_tile, no_next}
 use Rattle.tiles.proofs.base.Base.find_next.Goals as goal
 
@@ -9,6 +8,3 @@ returns-clause-some g c = rw (← c.self.view_is)
 
 pub returns-clause-none : goal.returns-clause-none
 returns-clause-none g c = rw (← c.self.view_is) (no_next (the_view c.self.inside) c.args.from c.args.end c.next.result c.next.ensures.none)
-
-pub returns-clause-bare : goal.returns-clause-bare
-returns-clause-bare g c ordered none = c.next.ensures.empty ordered (λ p low high. rw c.self.view_is (unmapped c.args.self.now p (none p low high)))
