@@ -109,15 +109,15 @@ block_resident r block page known inside has =
 look_least : (pages : ℕ → Option Mapping) (block : ℕ) → 1 ≤ looks_in_block pages block
 look_least pages block = of (nat_lt 0 (resident_in pages (block * 512) 512)) (resident_in pages (block * 512) 512)
   where
-    of : (b : Bool) (n : ℕ) → 1 ≤ (if b then 8192 + 58 * n else 1)
+    of : (b : Bool) (n : ℕ) → 1 ≤ (if b then 4117 + 58 * n else 1)
     of true n = omega arith
     of false n = omega arith
 
 -- and one with a resident page as many as these allow
 pub looks_used : (pages : ℕ → Option Mapping) (block : ℕ) → 0 < resident_in pages (block * 512) 512
-    → looks_in_block pages block ≡ 8192 + 58 * resident_in pages (block * 512) 512
+    → looks_in_block pages block ≡ 4117 + 58 * resident_in pages (block * 512) 512
 looks_used pages block some =
-    ap (λ b. if b then 8192 + 58 * resident_in pages (block * 512) 512 else 1) (lt-ltb 0 (resident_in pages (block * 512) 512) some)
+    ap (λ b. if b then 4117 + 58 * resident_in pages (block * 512) 512 else 1) (lt-ltb 0 (resident_in pages (block * 512) 512) some)
 
 -- they are of the pages of the block alone
 pub block_alike : (old new : ℕ → Option Mapping) (block : ℕ) → block < 2048 → ((p : ℕ) → p / 512 ≡ block → new p ≡ old p)
@@ -126,7 +126,7 @@ block_alike old new block known same =
     let alike = resident_is new (block * 512) 512 (omega arith)
     ∙ count-same (has_page new) (has_page old) (block * 512) 512 (λ p low high. ap is_some (same p (omega arith)))
     ∙ sym (resident_is old (block * 512) 512 (omega arith)) in
-    ap (λ n. if nat_lt 0 n then 8192 + 58 * n else 1) alike
+    ap (λ n. if nat_lt 0 n then 4117 + 58 * n else 1) alike
 
 pub looks-none : (pages : ℕ → Option Mapping) (from : ℕ) → looks_in_blocks pages from (from - from) ≡ 0
 unfolding looks_in_blocks

@@ -12,7 +12,7 @@ resident_in pages first len = count_pages (λ page. in_range first len page && i
 abbrev pub looks_in_block : (ℕ → Option Mapping) → ℕ → ℕ
 looks_in_block pages block =
     let resident = resident_in pages (block * 512) 512 in
-    if nat_lt 0 resident then 8192 + 58 * resident else 1
+    if nat_lt 0 resident then 4117 + 58 * resident else 1
 
 -- in so many blocks from one on
 unfoldable pub looks_in_blocks : (ℕ → Option Mapping) → ℕ → ℕ → ℕ
