@@ -1,12 +1,11 @@
 -- The place of a member in a list in order: behind those that come before it.
-use Rattle.std.proofs.Common.{◌≡◌, ◌≢◌, ℕ, ◌+◌, ◌-◌, true, false, not, cond, List, [], ◌∷◌, length, get_or, Some, refl, ap, sym, ◌∙◌, arith, subst, inl, inr}
+use Rattle.std.proofs.Common.{◌≡◌, ◌≢◌, ◌<◌, ℕ, zero, suc, ◌+◌, ◌-◌, true, false, not, cond, List, [], ◌∷◌, length, get_or, take, Some, refl, ap, sym, ◌∙◌, arith, subst, inl, inr}
 use Rattle.std.proofs.Math.Numerals.{one-add}
 use Rattle.std.specs.List.{All, insert, remove, prefix_len, slice_get}
 use Rattle.std.specs.List.Sorted.{IsPartitionedBy}
 use Rattle.std.proofs.lemmas.Bool.{cases_eq, cond-true, cond-false}
 use Rattle.std.proofs.lemmas.List.Elements.{All-head, All-tail}
 use Rattle.std.proofs.lemmas.List.Sums.{prefix_len_is}
-use Rattle.std.proofs.lemmas.Option.{slice_get_within, get_or_from_slice_get}
 use Rattle.pager_model.specs.Ages.{Member, is_before, with_member}
 use Rattle.reservation_lists.specs.Kept.{IsInOrder, without_member}
 use Rattle.pager_model.proofs.AgeOrder.{is_before-later, is_before-same}
@@ -25,13 +24,12 @@ IsPartitionedBy-before member ms ordered = λ i j d le below before.
     ]
 
 -- where the last comes before a member, all do
-pub place_at_end : (member last : Member) (ms : List Member) → IsInOrder ms → slice_get ms (length ms - 1) ≡ Some last
-    → is_before last member ≡ true → place_in member ms ≡ length ms
-place_at_end member last ms ordered at before =
-    let within = slice_get_within ms (length ms - 1) last at in
-    let ends = subst (λ m. is_before m member ≡ true) (sym (get_or_from_slice_get ms (length ms - 1) last last at)) before in
-    prefix_len_is (λ m. is_before m member) ms (length ms) last (omega arith)
-    (λ k below. IsPartitionedBy-before member ms ordered k (length ms - 1) last (omega arith) within ends) (λ beyond. absurd (omega arith))
+pub place_at_end : (member last : Member) (ms : List Member) (n : ℕ) → IsInOrder ms → n ≡ length ms → 0 < n
+    → last ≡ get_or ms (n - 1) last → is_before last member ≡ true → place_in member ms ≡ n
+place_at_end member last ms n ordered long some ends before =
+    let behind = subst (λ m. is_before m member ≡ true) ends before in
+    prefix_len_is (λ m. is_before m member) ms n last (omega arith)
+    (λ k below. IsPartitionedBy-before member ms ordered k (n - 1) last (omega arith) (omega arith) behind) (λ beyond. absurd (omega arith))
 
 -- a new member goes in at its place
 pub with_member_at_place : (new : Member) (ms : List Member) → All (λ m. m.frame ≢ new.frame) ms
@@ -53,6 +51,17 @@ without_member-after gone [] after = refl
 without_member-after gone (m ∷ ms) after =
     cond-true _ _ _ (ap not (same_member-after gone m (All-head (λ n. is_before gone n ≡ true) m ms after)))
     ∙ ap (λ rest. m ∷ rest) (without_member-after gone ms (All-tail (λ n. is_before gone n ≡ true) m ms after))
+
+-- a member that stands at the end goes out there
+pub without_member_at_end : (gone : Member) (ms : List Member) (n : ℕ) → IsInOrder ms → length ms ≡ suc n → get_or ms n gone ≡ gone
+    → without_member gone ms ≡ take n ms
+without_member_at_end gone [] n ordered long ends = absurd (omega arith)
+without_member_at_end gone (m ∷ []) zero ordered long ends = cond-false _ _ _ (ap not ((Decides-same_member gone m).1 (sym ends)))
+without_member_at_end gone (m ∷ k ∷ ms) zero ordered long ends = absurd (omega arith)
+without_member_at_end gone (m ∷ ms) (suc n) ordered long ends =
+    let before = subst (λ last. is_before m last ≡ true) ends (ordered 0 (suc n) gone (omega arith) (omega arith)) in
+    cond-true _ _ _ (ap not (same_member-before gone m before))
+    ∙ ap (λ tail. m ∷ tail) (without_member_at_end gone ms n (IsInOrder-tail m ms ordered) (omega arith) ends)
 
 -- a member that stands at its place goes out there
 pub without_member_at_place : (gone : Member) (ms : List Member) → IsInOrder ms → slice_get ms (place_in gone ms) ≡ Some gone

@@ -1,14 +1,16 @@
 //! The lists of reservations by age: one for each size of extent that a reservation can give back.
 //!
 //! A reservation that isn't full stands in the list of its yield, the largest size of an extent inside it without a used
-//! place. Each list is a vector in order of the stamp and then of the first frame, in memory that `create` took. The reservation to break
-//! is the first member of the first list that isn't empty, from that of the wanted size on. A member's place is searched for by
-//! halves. Beside the lists stands for each frame which list has the reservation that begins at it, and by which stamp; so one is taken out
-//! with nothing asked but its first frame.
+//! place. Each list is a double-ended queue in order of the stamp and then of the first frame, in memory that `create` took. The
+//! reservation to break is the first member of the first list that isn't empty, from that of the wanted size on. A member's place is
+//! searched for by halves, and what goes in or out there moves the shorter side of the list: the parts of a broken reservation, which
+//! are the oldest, go in near the head and move few members. Beside the lists stands for each frame which list has the reservation that
+//! begins at it, and by which stamp; so one is taken out with nothing asked but its first frame.
 #![tactic(auto)]
 
-ghost use Rattle.std.specs.Prelude.{◌≡◌, ◌-◌, ◌<◌, ◌≤◌, IfOk, vec_len, vec_capacity, true, false, if◌then◌else◌, Some};
+ghost use Rattle.std.specs.Prelude.{◌≡◌, ◌-◌, ◌<◌, ◌≤◌, IfOk, true, false, if◌then◌else◌, Some};
 ghost use Rattle.std.specs.List.{prefix_len};
+ghost use Rattle.std.specs.VecDeque.{deque_len, deque_capacity};
 ghost use Rattle.pager_model.specs.Ages.{first_oldest, is_before, list_at, oldest_in, with_list, with_member};
 ghost use Rattle.reservation_lists.specs.Kept.{Differ, IsInOrder, has_member_of, is_listed, moved_to, no_members, without_frame, without_member, without_member_of};
 
@@ -17,6 +19,7 @@ mod listed;
 use listed::{Listed, Listing};
 use pager_model::{NoMemory, Size};
 use std::alloc::Global;
+use std::collections::VecDeque;
 use std::marker::Model;
 
 /// A reservation in a list.
@@ -46,11 +49,11 @@ impl Member {
 }
 
 /// Where a member stands in a list in order, or would stand: after those that come before it.
-fn position_of(list: &[Member], member: &Member) -> usize
-    requires { IsInOrder list.now }
-    ensures { result ≡ prefix_len (λ m. is_before m member.now) list.now }
+fn position_of(list: &VecDeque<Member>, member: &Member) -> usize
+    requires { IsInOrder list.now.items }
+    ensures { result ≡ prefix_len (λ m. is_before m member.now) list.now.items }
 {
-    match list.last() {
+    match list.back() {
         // Most members that go in have the youngest stamp, and stand at the end.
         Some(last) if last.is_before(member) => list.len(),
         _ => list.partition_point(|m| m.is_before(member)),
@@ -58,24 +61,34 @@ fn position_of(list: &[Member], member: &Member) -> usize
 }
 
 /// Puts a member in its place in the list, which is in order, has room for it and has no member of its frame.
-fn insert_in(list: &mut Vec<Member>, new: Member)
+fn insert_in(list: &mut VecDeque<Member>, new: Member)
     requires ordered { IsInOrder list.old.items }
-    requires room { vec_len list.old < vec_capacity list.old }
+    requires room { deque_len list.old < deque_capacity list.old }
     requires unlisted { has_member_of new.frame list.old.items ≡ false }
     ensures items { list.new.items ≡ with_member new list.old.items }
-    ensures capacity { vec_capacity list.old ≤ vec_capacity list.new }
+    ensures capacity { deque_capacity list.old ≤ deque_capacity list.new }
 {
-    let place = position_of(list.as_slice(), &new);
-    list.insert(place, new).unwrap()
+    let place = position_of(list, &new);
+    // Mostly the place is the end, where a push costs less than an insertion.
+    if place == list.len() {
+        list.push_back_reserved(new)
+    } else {
+        list.insert(place, new).unwrap()
+    }
 }
 
 /// Takes a member out of the list, which is in order, where it stands there.
-fn remove_from(list: &mut Vec<Member>, gone: &Member)
+fn remove_from(list: &mut VecDeque<Member>, gone: &Member)
     requires { IsInOrder list.old.items }
     ensures items { list.new.items ≡ without_member gone.now list.old.items }
-    ensures capacity { vec_capacity list.new ≡ vec_capacity list.old }
+    ensures capacity { deque_capacity list.new ≡ deque_capacity list.old }
 {
-    let place = position_of(list.as_slice(), gone);
+    // The youngest stands at the end: it goes out with no search.
+    if list.back() == Some(gone) {
+        list.pop_back();
+        return;
+    }
+    let place = position_of(list, gone);
     if list.get(place) == Some(gone) {
         list.remove(place);
     }
@@ -83,15 +96,15 @@ fn remove_from(list: &mut Vec<Member>, gone: &Member)
 
 /// Puts the new member in place of the last one of the list, which is in order, where that is of the same frame and no younger, and
 /// notes its stamp. There it goes in once the last one has gone out: all others come before it. Answers whether it did.
-fn renew_last(list: &mut Vec<Member>, listing: &mut Listing, size: Size, new: Member) -> bool
+fn renew_last(list: &mut VecDeque<Member>, listing: &mut Listing, size: Size, new: Member) -> bool
     requires ordered { IsInOrder list.old.items }
     requires differ { Differ list.old.items }
     ensures stood { result ≡ true → has_member_of new.frame list.old.items ≡ true }
     ensures items { list.new.items ≡ (if result then with_member new (without_member_of new.frame list.old.items) else list.old.items) }
-    ensures capacity { vec_capacity list.new ≡ vec_capacity list.old }
+    ensures capacity { deque_capacity list.new ≡ deque_capacity list.old }
     ensures listing { listing.new ≡ (if result then Some (record { size = size; stamp = new.stamp }) else listing.old) }
 {
-    let Some(last) = list.last_mut() else {
+    let Some(last) = list.back_mut() else {
         return false;
     };
     if last.frame != new.frame || last.stamp > new.stamp {
@@ -111,22 +124,22 @@ pub struct Lists {
     frames: u32,
     /// For each frame what list has the reservation that begins at it, where one has.
     listed: Vec<Listing>,
-    base: Vec<Member>,
-    small: Vec<Member>,
-    middle: Vec<Member>,
+    base: VecDeque<Member>,
+    small: VecDeque<Member>,
+    middle: VecDeque<Member>,
 }
 
 impl Model for Lists {
-    ghost use Rattle.std.specs.Prelude.{vec_capacity};
+    ghost use Rattle.std.specs.VecDeque.{deque_capacity};
     ghost use Rattle.reservation_lists.specs.Kept.{KeptLists, HasRoom, AreTold, lists_in};
 
     ghost Value = { KeptLists };
 
     ghost view = { λ l. record { lists = lists_in l; frames = l.frames } };
 
-    ghost invariant = { λ l. HasRoom l.frames (vec_capacity l.base) l.base.items
-        × HasRoom l.frames (vec_capacity l.small) l.small.items
-        × HasRoom l.frames (vec_capacity l.middle) l.middle.items
+    ghost invariant = { λ l. HasRoom l.frames (deque_capacity l.base) l.base.items
+        × HasRoom l.frames (deque_capacity l.small) l.small.items
+        × HasRoom l.frames (deque_capacity l.middle) l.middle.items
         × AreTold l.frames l.listed.items (lists_in l) };
 }
 
@@ -138,9 +151,9 @@ impl Lists {
         Ok(Lists {
             frames,
             listed: vec![in alloc; Listing::NONE; frames as usize]?,
-            base: Vec::with_capacity(alloc, frames as usize)?,
-            small: Vec::with_capacity(alloc, frames as usize)?,
-            middle: Vec::with_capacity(alloc, frames as usize)?,
+            base: VecDeque::with_capacity(alloc, frames as usize)?,
+            small: VecDeque::with_capacity(alloc, frames as usize)?,
+            middle: VecDeque::with_capacity(alloc, frames as usize)?,
         })
     }
 
@@ -222,7 +235,7 @@ impl Lists {
             1 => &self.small,
             _ => &self.middle,
         };
-        list.first().map(|m| m.frame)
+        list.front().map(|m| m.frame)
     }
 
     /// The first frame of the oldest reservation of the first list that isn't empty, from that of a size on; None where all these are
