@@ -9,6 +9,8 @@ use Rattle.pager_model.specs.declared.call.Line.{Line}
 use Rattle.line_source.specs.Lines.{HasNoFeed, IsLineAt}
 use Rattle.lackey_regions.specs.declared.refusal.Refusal.{Refusal}
 use Rattle.lackey_regions.specs.LineCalls.{MadeAt, Word}
+use Rattle.from_lackey.specs.declared.convert.Converter.{Converter}
+use Rattle.from_lackey.specs.declared.log.Log.{Log}
 use Rattle.from_lackey.specs.declared.log.Taken.TheVariants.{Part, All}
 use Rattle.from_lackey.specs.declared.stop.Stop.{Stop}
 use Rattle.from_lackey.specs.declared.stop.Stop.TheVariants.{Usage, Line as AtLine, ReadFault, WriteFault, NoMemory, TooLong}
@@ -63,11 +65,12 @@ end_before n (Some bytes) (Some more) left' lines long ahead p end = end
 
 -- ---- what is taken
 
-module _ (instructions : Bool) (places : List (Option ℕ)) (n : ℕ) (before left : Option (List ℕ)) (lines : List (List ℕ)) (long : Bool) (ahead : List ℕ) where
-  pub took_line : (calls : List Line) (k counted count : ℕ) (behind : List ℕ) → Passed n before lines long ahead left → IsLineAt k ahead →
-      length ahead ≤ 4096 → behind ≡ drop (k + 1) ahead → MadeAt places [] calls (if long then [] else line_words instructions (take k ahead)) →
-      (counted < 2 ^ 64 - 1 → count ≡ counted + 1) → Took Part instructions places n before lines calls false behind left counted count
-  took_line calls k counted count behind p at few gone made counts =
+module _ (n : ℕ) (before left : Option (List ℕ)) (lines : List (List ℕ)) (long : Bool) (ahead : List ℕ) (old new : Converter) where
+  pub took_line : (k : ℕ) (behind : List ℕ) → Passed n before lines long ahead left → IsLineAt k ahead → length ahead ≤ 4096 →
+      behind ≡ drop (k + 1) ahead → MadeAt new.memory.layout [] new.calls.items (if long then [] else line_words old.instructions (take k ahead)) →
+      (old.counts.lines < 2 ^ 64 - 1 → new.counts.lines ≡ old.counts.lines + 1) →
+      Took Part n before lines (record { ahead = behind; long = false }) left old new
+  took_line k behind p at few gone made counts =
       let front = is_front k ahead at in
       let line : List ℕ = take k ahead in
       let short : length line ≤ 4095 = omega (arith, ap length front.parts, length-append line (10 ∷ drop (k + 1) ahead), few) in
@@ -76,36 +79,35 @@ module _ (instructions : Bool) (places : List (Option ℕ)) (n : ℕ) (before le
         one = omega arith;
         is_taken = subst (λ (l : List ℕ). Passed (n + 1) before (lines ++ (p.part ++ line) ∷ []) false l left) (sym gone)
             (passed_line n before left lines long ahead line (drop (k + 1) ahead) p front);
-        made = made_by instructions long places [] calls p.part line refl p.by short made;
+        made = made_by old.instructions long new.memory.layout [] new.calls.items p.part line refl p.by short made;
         counts = counts;
       }
 
-  pub took_piece : (calls : List Line) (counted : ℕ) (behind : List ℕ) → Passed n before lines long ahead left → length ahead ≡ 4096 → HasNoFeed ahead →
-      behind ≡ drop 4096 ahead → calls ≡ [] → Took Part instructions places n before lines calls true behind left counted counted
-  took_piece calls counted behind p full none gone empty =
+  pub took_piece : (behind : List ℕ) → Passed n before lines long ahead left → length ahead ≡ 4096 → HasNoFeed ahead → behind ≡ drop 4096 ahead →
+      new.calls.items ≡ [] → new.counts.lines ≡ old.counts.lines → Took Part n before lines (record { ahead = behind; long = true }) left old new
+  took_piece behind p full none gone empty same =
       let nothing : behind ≡ [] = gone ∙ drop_whole ahead 4096 full in
       record {
         more = [];
         one = omega arith;
         is_taken = subst (λ (ls : List (List ℕ)). Passed (n + 1) before ls true behind left) (sym (append-nil lines))
             (passed_piece n before left lines long ahead behind p full none nothing);
-        made = made_no_calls places calls empty;
-        counts = λ _. omega arith;
+        made = made_no_calls new.memory.layout new.calls.items empty;
+        counts = λ _. omega (arith, same);
       }
 
   -- nothing is left, and no part of a line was passed
-  pub took_nothing : (calls : List Line) (counted : ℕ) (ahead' : List ℕ) (long' : Bool) → Passed n before lines long ahead left → long ≡ false → length ahead ≡ 0 →
-      HasNoFeed ahead → IfSome before (λ _. left ≡ Some []) → calls ≡ [] →
-      Took All instructions places n before lines calls long' ahead' left counted counted
-  took_nothing calls counted ahead' long' p whole none feedless end empty =
+  pub took_nothing : (log : Log) → Passed n before lines long ahead left → long ≡ false → length ahead ≡ 0 → HasNoFeed ahead →
+      IfSome before (λ _. left ≡ Some []) → new.calls.items ≡ [] → new.counts.lines ≡ old.counts.lines → Took All n before lines log left old new
+  took_nothing log p whole none feedless end empty same =
       let both : p.part ++ ahead ≡ [] = length-none (p.part ++ ahead) (omega (arith, length-append p.part ahead, none, part_none long p.part p.by whole)) in
       record {
         more = [];
         one = omega arith;
         is_taken = IfSome_then before (all_passed n before left lines long ahead p feedless end) (λ bytes all.
             (all.0 ∙ ap (λ (l : List ℕ). lines ++ last_line l) both, all.1));
-        made = made_no_calls places calls empty;
-        counts = λ _. omega arith;
+        made = made_no_calls new.memory.layout new.calls.items empty;
+        counts = λ _. omega (arith, same);
       }
     where
       part_none : (long : Bool) (part : List ℕ) → IsLongBy long part → long ≡ false → length part ≡ 0
@@ -113,11 +115,11 @@ module _ (instructions : Bool) (places : List (Option ℕ)) (n : ℕ) (before le
       part_none false part by is = ap length by
 
   -- the rest is a line, or ends one that is too long
-  pub took_rest : (calls : List Line) (counted count : ℕ) (k : ℕ) (ahead' : List ℕ) (long' : Bool) → Passed n before lines long ahead left → length ahead ≡ k →
-      k ≤ 4095 → HasNoFeed ahead → IfSome before (λ _. left ≡ Some []) → (k ≡ 0 → long ≡ true) →
-      MadeAt places [] calls (if long then [] else line_words instructions (take k ahead)) →
-      (counted < 2 ^ 64 - 1 → count ≡ counted + 1) → Took All instructions places n before lines calls long' ahead' left counted count
-  took_rest calls counted count k ahead' long' p shown short feedless end some made counts =
+  pub took_rest : (k : ℕ) (log : Log) → Passed n before lines long ahead left → length ahead ≡ k → k ≤ 4095 → HasNoFeed ahead →
+      IfSome before (λ _. left ≡ Some []) → (k ≡ 0 → long ≡ true) →
+      MadeAt new.memory.layout [] new.calls.items (if long then [] else line_words old.instructions (take k ahead)) →
+      (old.counts.lines < 2 ^ 64 - 1 → new.counts.lines ≡ old.counts.lines + 1) → Took All n before lines log left old new
+  took_rest k log p shown short feedless end some made counts =
       let line : List ℕ = take k ahead in
       let same : line ≡ ahead = ap (λ (m : ℕ). take m ahead) (sym shown) ∙ take_all (length ahead) ahead (omega arith) in
       let few : length line ≤ 4095 = omega (arith, ap length same, shown, short) in
@@ -131,7 +133,7 @@ module _ (instructions : Bool) (places : List (Option ℕ)) (n : ℕ) (before le
               ∙ ap (λ (l : List ℕ). lines ++ (p.part ++ l) ∷ []) (sym same),
           all.1,
         ));
-        made = made_by instructions long places [] calls p.part line refl p.by few made;
+        made = made_by old.instructions long new.memory.layout [] new.calls.items p.part line refl p.by few made;
         counts = counts;
       }
     where

@@ -1,11 +1,12 @@
 -- What a step of the converter takes of a log.
 use Rattle.std.specs.Prelude.{ℕ, ◌≡◌, ◌+◌, ◌-◌, ◌^◌, ◌<◌, ◌≤◌, Bool, false, List, [], ◌++◌, length, flat_map, Option, Some, IfSome}
-use Rattle.pager_model.specs.declared.call.Line.{Line}
 use Rattle.lackey_regions.specs.declared.memory.Memory.{Memory}
 use Rattle.lackey_regions.specs.declared.refusal.Refusal.TheVariants.{MoreRegions}
 use Rattle.lackey_regions.specs.LineCalls.{MadeAt}
 use Rattle.lackey_regions.specs.Held.{regions_of}
 use Rattle.lackey_regions.specs.Refusals.{most_regions}
+use Rattle.from_lackey.specs.declared.convert.Converter.{Converter}
+use Rattle.from_lackey.specs.declared.log.Log.{Log}
 use Rattle.from_lackey.specs.declared.log.Taken.{Taken}
 use Rattle.from_lackey.specs.declared.log.Taken.TheVariants.{Part, All}
 use Rattle.from_lackey.specs.declared.stop.Stop.{Stop}
@@ -19,14 +20,15 @@ abbrev pub IsTaken : Taken → ℕ → Option (List ℕ) → List (List ℕ) →
 IsTaken Part n before lines long ahead left = Passed n before lines long ahead left
 IsTaken All n before lines long ahead left = IfSome before (λ bytes. (lines_of bytes ≡ lines) × (left ≡ Some []))
 
--- Behind these lines one more was taken, or none where a piece of one that is too long was or nothing was left; it became these calls, and was counted.
-pub record Took (taken : Taken) (instructions : Bool) (places : List (Option ℕ)) (n : ℕ) (before : Option (List ℕ)) (lines : List (List ℕ)) (calls : List Line)
-    (long : Bool) (ahead : List ℕ) (left : Option (List ℕ)) (counted count : ℕ) : Type 0 where
+-- Behind these lines one more was taken, or none where a piece of one that is too long was or nothing was left; it became the calls that the new
+-- converter has, and was counted.
+pub record Took (taken : Taken) (n : ℕ) (before : Option (List ℕ)) (lines : List (List ℕ)) (log : Log) (left : Option (List ℕ))
+    (old new : Converter) : Type 0 where
   pub more : List (List ℕ)
   pub one : length more ≤ 1
-  pub is_taken : IsTaken taken (n + 1) before (lines ++ more) long ahead left
-  pub made : MadeAt places [] calls (flat_map (log_words instructions) more)
-  pub counts : counted < 2 ^ 64 - 1 → count ≡ counted + length more
+  pub is_taken : IsTaken taken (n + 1) before (lines ++ more) log.long log.ahead left
+  pub made : MadeAt new.memory.layout [] new.calls.items (flat_map (log_words old.instructions) more)
+  pub counts : old.counts.lines < 2 ^ 64 - 1 → new.counts.lines ≡ old.counts.lines + length more
 
 -- it stopped for a read or a line
 abbrev pub IsOfLog : Stop → Type 0

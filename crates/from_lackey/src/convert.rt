@@ -136,8 +136,7 @@ impl Converter {
     fn take_next<T: Source>(&mut self, log: &mut Log, source: &mut T) -> Result<Taken, Stop>
         ensures took { IfOk result (λ taken. (n : ℕ) (before : Option (List ℕ)) (lines : List (List ℕ))
             → Passed n before lines log.old.long log.old.ahead (T.left source.old)
-            → Took taken self.old.instructions self.new.memory.layout n before lines self.new.calls.items
-            log.new.long log.new.ahead (T.left source.new) self.old.counts.lines self.new.counts.lines) }
+            → Took taken n before lines log.new (T.left source.new) self.old self.new) }
         ensures unfailed { IfOk result (λ taken. T.faults source.new ≡ T.faults source.old) }
         ensures stopped { IfErr result (λ stop. (n : ℕ) (before : Option (List ℕ)) (lines : List (List ℕ))
             → Passed n before lines log.old.long log.old.ahead (T.left source.old)

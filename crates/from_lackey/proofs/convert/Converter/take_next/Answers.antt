@@ -1,5 +1,5 @@
 -- what each step takes
-use Rattle.std.proofs.Common.{◌≡◌, ◌<◌, ◌^◌, ◌-◌, ℕ, true, List, Option, length, subst, ◌∙◌}
+use Rattle.std.proofs.Common.{◌≡◌, ◌<◌, ◌^◌, ◌-◌, ℕ, true, List, Option, length, subst, refl, ◌∙◌}
 use Rattle.line_source.specs.Lines.{IsNext}
 use Rattle.line_source.specs.declared.Next.{Next}
 use Rattle.from_lackey.specs.Converted.{StopsReading}
@@ -35,9 +35,9 @@ returns-in_ok-take_front-in-Line-clause-took g c = λ n before lines p.
     c.look.new.self p c.look.ensures.same in
     let at = subst (λ (it : Next). IsNext it c.look.new.self (g.T.Source.left c.args.source.now) (g.T.Source.left c.look.new.source)) c.in-Line.is
     c.in_ok-count.ensures.next in
-    took_line c.args.self.now.instructions c.take_front.new.self.memory.layout n before (g.T.Source.left c.look.new.source) lines c.args.log.now.long
-    c.look.new.self c.take_front.new.self.calls.items c.in-Line.count c.args.self.now.counts.lines c.take_front.new.self.counts.lines c.pass.new.self q at
-    c.look.ensures.few c.pass.ensures c.in_ok-take_front-in-Line.ensures.made c.in_ok-take_front-in-Line.ensures.counted
+    took_line n before (g.T.Source.left c.look.new.source) lines c.args.log.now.long c.look.new.self c.args.self.now c.take_front.new.self
+    c.in-Line.count c.pass.new.self q at c.look.ensures.few c.pass.ensures c.in_ok-take_front-in-Line.ensures.made
+    c.in_ok-take_front-in-Line.ensures.counted
 
 pub returns-in-Long-clause-took : goal.returns-in-Long-clause-took
 returns-in-Long-clause-took g c = λ n before lines p.
@@ -45,8 +45,8 @@ returns-in-Long-clause-took g c = λ n before lines p.
     c.look.new.self p c.look.ensures.same in
     let at = subst (λ (it : Next). IsNext it c.look.new.self (g.T.Source.left c.args.source.now) (g.T.Source.left c.look.new.source)) c.in-Long.is
     c.in_ok-count.ensures.next in
-    took_piece c.args.self.now.instructions c.args.self.now.memory.layout n before (g.T.Source.left c.look.new.source) lines c.args.log.now.long
-    c.look.new.self c.clear.new.self.items c.args.self.now.counts.lines c.pass-in-Long.new.self q at.0 at.1 c.pass-in-Long.ensures c.clear.ensures.items
+    took_piece n before (g.T.Source.left c.look.new.source) lines c.args.log.now.long c.look.new.self c.args.self.now _ c.pass-in-Long.new.self q
+    at.0 at.1 c.pass-in-Long.ensures c.clear.ensures.items refl
 
 pub returns-in_err-take_front-in-Line-clause-stopped : goal.returns-in_err-take_front-in-Line-clause-stopped
 returns-in_err-take_front-in-Line-clause-stopped g c =
@@ -71,11 +71,10 @@ returns-then-not-log-clause-took g c = λ n before lines p.
     c.look.new.self p c.look.ensures.same in
     let at = subst (λ (it : Next). IsNext it c.look.new.self (g.T.Source.left c.args.source.now) (g.T.Source.left c.look.new.source)) c.in-Rest.is
     c.in_ok-count.ensures.next in
-    took_nothing c.args.self.now.instructions c.args.self.now.memory.layout n before (g.T.Source.left c.look.new.source) lines c.args.log.now.long
-    c.look.new.self c.clear-then-not-log.new.self.items c.args.self.now.counts.lines c.look.new.self c.args.log.now.long q
-    c.if-not-log.true (at.0 ∙ c.if-count-eq0.true) at.2
+    took_nothing n before (g.T.Source.left c.look.new.source) lines c.args.log.now.long c.look.new.self c.args.self.now _ _ q c.if-not-log.true
+    (at.0 ∙ c.if-count-eq0.true) at.2
     (end_before n before (g.T.Source.left c.args.source.now) (g.T.Source.left c.look.new.source) lines c.args.log.now.long c.args.log.now.ahead p at.3)
-    c.clear-then-not-log.ensures.items
+    c.clear-then-not-log.ensures.items refl
 
 pub returns-in_ok-take_front-in-Rest-clause-took : goal.returns-in_ok-take_front-in-Rest-clause-took
 returns-in_ok-take_front-in-Rest-clause-took g c = λ n before lines p.
@@ -87,9 +86,8 @@ returns-in_ok-take_front-in-Rest-clause-took g c = λ n before lines p.
       | else-count-eq0-via-then-count-eq0+else-not-log w ↦ λ none. w.if-not-log.false
       | else-count-eq0-via-else-count-eq0 w ↦ λ none. absurd (w.if-count-eq0.false none)
     ] in
-    took_rest c.args.self.now.instructions c.take_front-in-Rest.new.self.memory.layout n before (g.T.Source.left c.look.new.source) lines c.args.log.now.long
-    c.look.new.self c.take_front-in-Rest.new.self.calls.items c.args.self.now.counts.lines c.take_front-in-Rest.new.self.counts.lines c.in-Rest.count
-    c.look.new.self c.args.log.now.long q at.0 at.1 at.2
+    took_rest n before (g.T.Source.left c.look.new.source) lines c.args.log.now.long c.look.new.self c.args.self.now c.take_front-in-Rest.new.self
+    c.in-Rest.count _ q at.0 at.1 at.2
     (end_before n before (g.T.Source.left c.args.source.now) (g.T.Source.left c.look.new.source) lines c.args.log.now.long c.args.log.now.ahead p at.3)
     some c.in_ok-take_front-in-Rest.ensures.made c.in_ok-take_front-in-Rest.ensures.counted
 
