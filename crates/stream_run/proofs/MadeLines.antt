@@ -19,8 +19,9 @@ use Rattle.stream_core.specs.Streaming.{IsAfter, IsMade, IsNext, Streaming}
 use Rattle.trace_lines.specs.declared.line.Head.{Head}
 use Rattle.trace_stream.specs.Streams.{GoesOn, HasOpening, most_stream_calls}
 use Rattle.stream_run.specs.declared.run.Ending.TheVariants.{WriteFault}
-use Rattle.stream_run.specs.Steps.{CallsEnd, CountsCall, EachTold, Goes, StandsAt, WentOn, WentPart}
-use Rattle.stream_run.specs.Streams.{IsSoFar, Ports, ports, told_text}
+use Rattle.stream_run.specs.declared.telling.Telling.{Telling}
+use Rattle.stream_run.specs.Steps.{CallsEnd, ComesNext, CountsCall, EachTold, Goes, StandsAt, WentOn, WentPart}
+use Rattle.stream_run.specs.Streams.{Course, IsSoFar, Ports, course, ports, told_text}
 use Rattle.stream_run.proofs.ReadText.{reads_ahead, reads_more}
 use Rattle.stream_run.proofs.ToldCounts.{AreToldBy-of, EachTold-more, next_not_due, next_of, told_due, wrote_part, wrote_told}
 use Rattle.stream_run.proofs.WholeStreams.{none_lacked}
@@ -54,86 +55,91 @@ each_none : (g : Given) (script : Script) (every : Option ℕ) → EachTold g sc
 each_none g script None = refl
 each_none g script (Some every) = λ i s at. absurd (let within = slice_get_within {A = SoFar} [] i s at in omega (arith, within))
 
-pub StandsAt-none : (lasts : Bool) (every : Option ℕ) (script : Script) (stores : List Stored) (left : ℕ) (s : Streaming)
-    → IsAfter script stores [] [] s → IfSome every (λ n. 1 ≤ n) → IfSome every (λ n. left ≡ n) → StandsAt lasts every script stores [] [] [] left s
-StandsAt-none lasts every script stores left s after some is = record {
+pub StandsAt-none : (lasts : Bool) (telling : Telling) (every : Option ℕ) (script : Script) (stores : List Stored) (s : Streaming)
+    → telling.every ≡ every → IsAfter script stores [] [] s → IfSome every (λ n. 1 ≤ n) → IfSome every (λ n. telling.left ≡ n)
+    → StandsAt lasts telling (course script stores [] [] []) s
+StandsAt-none lasts telling every script stores s same after some is = record {
   after = after;
   lasting = λ lasting. tt;
-  each = each_none (setting_over script stores) script every;
-  next = next_of every left some is;
+  each = each_none (setting_over script stores) script telling.every;
+  next = rw same (next_of every telling.left some is);
 }
 
-module _ (lasts : Bool) (every : Option ℕ) (script : Script) (stores : List Stored) (calls : List Line) (h : List Entry) (told : List SoFar)
-    (left left' : ℕ) (s s' : Streaming) (line : Line) (stands : StandsAt lasts every script stores calls h told left s)
-    (made : IsMade lasts script stores (calls ++ line ∷ []) h s') where
-  each : EachTold (setting_over script stores) script (calls ++ line ∷ []) (h ++ made.piece) every told
-  each = EachTold-more (setting_over script stores) script calls line h made.piece every told left stands.next stands.each
+module _ (lasts : Bool) (telling telling' : Telling) (same : telling'.every ≡ telling.every) (c : Course) (s s' : Streaming) (line : Line)
+    (stands : StandsAt lasts telling c s) (made : IsMade lasts c.script c.stores (c.calls ++ line ∷ []) c.history s') where
+  abbrev calls : List Line
+  calls = c.calls ++ line ∷ []
 
-  none_more : lasts ≡ true → NoneLacked (h ++ made.piece)
-  none_more keeps = none_lacked h made.piece (stands.lasting keeps) (made.lasting keeps)
+  abbrev history : List Entry
+  history = c.history ++ made.piece
+
+  each : EachTold (setting_over c.script c.stores) c.script calls history telling.every c.told
+  each = EachTold-more (setting_over c.script c.stores) c.script c.calls line c.history made.piece telling.every c.told telling.left stands.next
+      stands.each
+
+  none_more : lasts ≡ true → NoneLacked history
+  none_more keeps = none_lacked c.history made.piece (stands.lasting keeps) (made.lasting keeps)
 
   -- It isn't time.
 
-  pub WentOn-not_due : (had now : Option (List ℕ)) → CountsCall every left left' false → WroteAll (told_text told) had now
-      → WentOn lasts every script stores (calls ++ line ∷ []) left' s' had now
+  pub WentOn-not_due : (had now : Option (List ℕ)) → CountsCall telling.every telling.left telling'.left false → WroteAll (told_text c.told) had now
+      → WentOn lasts telling' c line s' had now
   WentOn-not_due had now counts wrote = record {
-    history = h ++ made.piece;
-    told = told;
+    history = history;
+    told = c.told;
     stands = record {
       after = made.after;
       lasting = none_more;
-      each = each;
-      next = next_not_due every (length calls) (length (calls ++ line ∷ [])) (length told) left left' (length_push calls line) counts stands.next;
+      each = rw same each;
+      next = rw same
+          (next_not_due telling.every (length c.calls) (length calls) (length c.told) telling.left telling'.left (length_push c.calls line) counts
+          stands.next);
     };
     wrote = wrote;
   }
 
   -- It is time.
 
-  module _ (last : SoFar) (is : IsSoFar (setting_over script stores) script (calls ++ line ∷ []) (h ++ made.piece) (length (calls ++ line ∷ [])) last)
-      (counts : CountsCall every left left' true) where
-    stands_due : StandsAt lasts every script stores (calls ++ line ∷ []) (h ++ made.piece) (told ++ last ∷ []) left' s'
-    stands_due =
-        let due = told_due (setting_over script stores) script (calls ++ line ∷ []) (h ++ made.piece) told last every (length calls) left left'
-        (length_push calls line) counts stands.next each is in
-        record { after = made.after; lasting = none_more; each = due.0; next = due.1 }
+  module _ (last : SoFar) (is : IsSoFar (setting_over c.script c.stores) c.script calls history (length calls) last)
+      (counts : CountsCall telling.every telling.left telling'.left true) where
+    due : EachTold (setting_over c.script c.stores) c.script calls history telling.every (c.told ++ last ∷ [])
+        × ComesNext telling.every (length calls) (length (c.told ++ last ∷ [])) telling'.left
+    due = told_due (setting_over c.script c.stores) c.script calls history c.told last telling.every (length c.calls) telling.left telling'.left
+        (length_push c.calls line) counts stands.next each is
 
-    pub WentOn-due : (had mid now : Option (List ℕ)) → WroteAll (told_text told) had mid → WroteAll (so_far_text last) mid now
-        → WentOn lasts every script stores (calls ++ line ∷ []) left' s' had now
+    pub WentOn-due : (had mid now : Option (List ℕ)) → WroteAll (told_text c.told) had mid → WroteAll (so_far_text last) mid now
+        → WentOn lasts telling' c line s' had now
     WentOn-due had mid now wrote writes = record {
-      history = h ++ made.piece;
-      told = told ++ last ∷ [];
-      stands = stands_due;
-      wrote = wrote_told told last had mid now wrote writes;
+      history = history;
+      told = c.told ++ last ∷ [];
+      stands = record { after = made.after; lasting = none_more; each = rw same due.0; next = rw same due.1 };
+      wrote = wrote_told c.told last had mid now wrote writes;
     }
 
-    pub WentPart-due : (had mid now : Option (List ℕ)) → WroteAll (told_text told) had mid → WrotePart (so_far_text last) mid now
-        → WentPart lasts every script stores (calls ++ line ∷ []) s' had now
+    pub WentPart-due : (had mid now : Option (List ℕ)) → WroteAll (told_text c.told) had mid → WrotePart (so_far_text last) mid now
+        → WentPart lasts telling.every c line s' had now
     WentPart-due had mid now wrote writes = record {
-      history = h ++ made.piece;
-      earlier = told;
+      history = history;
+      earlier = c.told;
       last = last;
       after_calls = made.after;
       lasting = none_more;
-      told_are = AreToldBy-of (setting_over script stores) script (calls ++ line ∷ []) (h ++ made.piece) every (told ++ last ∷ []) left'
-          stands_due.next stands_due.each;
+      told_are = AreToldBy-of (setting_over c.script c.stores) c.script calls history telling.every (c.told ++ last ∷ []) telling'.left due.1 due.0;
       last_is = is.calls_are;
-      wrote = wrote_part (told_text told) (so_far_text last) had mid now wrote writes;
+      wrote = wrote_part (told_text c.told) (so_far_text last) had mid now wrote writes;
     }
 
 -- The run goes on.
 
-module _ (lasts : Bool) (every' every : Option ℕ) (same : every' ≡ every) (script : Script) (stores : List Stored) (left left' : ℕ)
-    (s s' : Streaming) (line : Line) (before now : Ports) (goes : Goes lasts every script stores left s before now)
-    (next : IsNext script goes.calls line) (taken' : Option (List ℕ)) where
-  module _ (on : (script : Script) (stores : List Stored) (calls : List Line) (h : List Entry) (told : List SoFar) (had : Option (List ℕ))
-      → StandsAt lasts every' script stores calls h told left s → IsNext script calls line → WroteAll (told_text told) had now.taken
-      → WentOn lasts every' script stores (calls ++ line ∷ []) left' s' had taken') where
-    went : WentOn lasts every script stores (goes.calls ++ line ∷ []) left' s' before.taken taken'
-    went = subst
-        (λ e. StandsAt lasts e script stores goes.calls goes.history goes.told left s
-        → WentOn lasts e script stores (goes.calls ++ line ∷ []) left' s' before.taken taken')
-        same (λ stands. on script stores goes.calls goes.history goes.told before.taken stands next goes.wrote) goes.stands
+module _ (lasts : Bool) (telling telling' : Telling) (script : Script) (stores : List Stored) (s s' : Streaming) (line : Line) (before now : Ports)
+    (goes : Goes lasts telling script stores s before now) (next : IsNext script goes.calls line) (taken' : Option (List ℕ)) where
+  abbrev so_far : Course
+  so_far = course script stores goes.calls goes.history goes.told
+
+  module _ (on : (c : Course) (had : Option (List ℕ)) → StandsAt lasts telling c s → IsNext c.script c.calls line
+      → WroteAll (told_text c.told) had now.taken → WentOn lasts telling' c line s' had taken') where
+    went : WentOn lasts telling' so_far line s' before.taken taken'
+    went = on so_far before.taken goes.stands next goes.wrote
 
     pub one_call_more : s'.calls ≡ s.calls + 1
     one_call_more =
@@ -141,7 +147,7 @@ module _ (lasts : Bool) (every' every : Option ℕ) (same : every' ≡ every) (s
 
     pub Goes-more : (read : Option Line) (then : Option (List ℕ)) (reads' writes' : ℕ) → read ≡ Some line
         → IfSome now.left (λ bytes. GoesOn bytes read then) → reads' ≡ now.read_faults → writes' ≡ now.write_faults
-        → Goes lasts every script stores left' s' before (ports then reads' taken' writes')
+        → Goes lasts telling' script stores s' before (ports then reads' taken' writes')
     Goes-more read then reads' writes' is on_line no_read no_write = record {
       calls = goes.calls ++ line ∷ [];
       history = went.history;
@@ -154,25 +160,21 @@ module _ (lasts : Bool) (every' every : Option ℕ) (same : every' ≡ every) (s
       no_write_fault = no_write ∙ goes.no_write_fault;
     }
 
-  module _ (part : (script : Script) (stores : List Stored) (calls : List Line) (h : List Entry) (told : List SoFar) (had : Option (List ℕ))
-      → StandsAt lasts every' script stores calls h told left s → IsNext script calls line → WroteAll (told_text told) had now.taken
-      → WentPart lasts every' script stores (calls ++ line ∷ []) s' had taken') where
-    went_part : WentPart lasts every script stores (goes.calls ++ line ∷ []) s' before.taken taken'
-    went_part = subst
-        (λ e. StandsAt lasts e script stores goes.calls goes.history goes.told left s
-        → WentPart lasts e script stores (goes.calls ++ line ∷ []) s' before.taken taken')
-        same (λ stands. part script stores goes.calls goes.history goes.told before.taken stands next goes.wrote) goes.stands
+  module _ (part : (c : Course) (had : Option (List ℕ)) → StandsAt lasts telling c s → IsNext c.script c.calls line
+      → WroteAll (told_text c.told) had now.taken → WentPart lasts telling.every c line s' had taken') where
+    went_part : WentPart lasts telling.every so_far line s' before.taken taken'
+    went_part = part so_far before.taken goes.stands next goes.wrote
 
-    pub CallsEnd-part : (read : Option Line) (ahead : List ℕ) (rest : Option (List ℕ)) (reads' writes' : ℕ) → read ≡ Some line
-        → IfSome now.left (λ bytes. GoesOn bytes read (seen ahead rest)) → length ahead ≤ 4096 → reads' ≡ now.read_faults
+    pub CallsEnd-part : (every : Option ℕ) (read : Option Line) (ahead : List ℕ) (rest : Option (List ℕ)) (reads' writes' : ℕ) → telling.every ≡ every
+        → read ≡ Some line → IfSome now.left (λ bytes. GoesOn bytes read (seen ahead rest)) → length ahead ≤ 4096 → reads' ≡ now.read_faults
         → writes' ≡ one_more now.write_faults → CallsEnd lasts every script stores s' before (ports rest reads' taken' writes') WriteFault
-    CallsEnd-part read ahead rest reads' writes' is on_line few no_read rose = record {
+    CallsEnd-part every read ahead rest reads' writes' same is on_line few no_read rose = record {
       calls = goes.calls ++ line ∷ [];
       history = went_part.history;
       told = went_part.earlier ++ went_part.last ∷ [];
       after_calls = went_part.after_calls;
       lasting = went_part.lasting;
-      told_are = went_part.told_are;
+      told_are = rw (sym same) went_part.told_are;
       ends = (
         reads_ahead before.left rest ahead script (goes.calls ++ line ∷ [])
             (reads_more before.left now.left (seen ahead rest) script goes.calls line goes.reads

@@ -22,9 +22,9 @@ use Rattle.stream_run.specs.declared.report.StreamReport.{StreamReport}
 use Rattle.stream_run.specs.declared.report.StreamReport.TheVariants.{Counts, Curves as Asked}
 use Rattle.stream_run.specs.declared.run.Ending.{Ending}
 use Rattle.stream_run.specs.declared.run.Ending.TheVariants.{Done, Stopped, WriteFault, NoMemory}
-use Rattle.stream_run.specs.Steps.{CallsEnd, CallsEndSo, RanWhole, WritesEnd, end_text}
+use Rattle.stream_run.specs.Steps.{CallsEnd, CallsEndSo, RanWhole, WritesEnd, end_text, output}
 use Rattle.stream_run.specs.Reports.{Admits, IsEndText, every_in, is_of_curves}
-use Rattle.stream_run.specs.Streams.{AreToldBy, EndsSo, Ports, RanSome, TellsRead, ports, told_text}
+use Rattle.stream_run.specs.Streams.{AreToldBy, EndsSo, Ports, RanSome, TellsRead, course, ports, told_text}
 use Rattle.stream_run.proofs.ToldCounts.{AreToldBy-longer, wrote_more, wrote_part}
 
 -- want of memory in neither of two pieces
@@ -48,7 +48,7 @@ module _ (lasts : Bool) (report : StreamReport) (script : Script) (stores : List
   module _ (ending : Ending) (end : CallsEnd lasts (every_in report) script stores s before mid ending) (stores' : List Stored)
       (run : IsRunTo script stores end.calls end.history stores') where
     front_ends : (e : Ending) → (e ≡ Done → ⊥) → CallsEndSo script end.calls end.told before mid e
-        → EndsSo report (setting_over script stores) script end.calls end.told (front_of script end.calls) (entries_in run.history) before mid e
+        → EndsSo report (course script stores end.calls (entries_in run.history) end.told) (front_of script end.calls) before mid e
     front_ends Done other ends = absurd (other refl)
     front_ends (Stopped fault) other ends = (refl, ends.0, ends.1, ends.2)
     front_ends WriteFault other ends = inr (refl, ends.0, ends.1)
@@ -82,9 +82,10 @@ module _ (lasts : Bool) (report : StreamReport) (script : Script) (stores : List
   -- Ended whole.
 
   module _ (end : CallsEnd lasts (every_in report) script stores s before mid Done) (stores' : List Stored) (taken' : Option (List ℕ)) (faults' : ℕ)
-      (ending : Ending) (whole : RanWhole lasts report script stores end.calls end.history stores' ending mid.taken taken' mid.write_faults faults') where
-    whole_ends : (e : Ending) → WritesEnd (end_text whole.summary whole.curves) e mid.taken taken' mid.write_faults faults'
-        → EndsSo report (setting_over script stores) script end.calls end.told (with_calls script end.calls) (end.history ++ whole.run.piece) before
+      (ending : Ending) (whole : RanWhole lasts report (course script stores end.calls end.history end.told) stores' ending
+      (output mid.taken mid.write_faults) (output taken' faults')) where
+    whole_ends : (e : Ending) → WritesEnd (end_text whole.summary whole.curves) e (output mid.taken mid.write_faults) (output taken' faults')
+        → EndsSo report (course script stores end.calls (end.history ++ whole.run.piece) end.told) (with_calls script end.calls) before
         (ports mid.left mid.read_faults taken' faults') e
     whole_ends Done writes = (
       refl,
@@ -110,7 +111,7 @@ module _ (lasts : Bool) (report : StreamReport) (script : Script) (stores : List
     same_writes : mid.write_faults ≡ before.write_faults
     same_writes = end.no_write_fault (λ is. cc)
 
-    whole_faults : (e : Ending) → WritesEnd (end_text whole.summary whole.curves) e mid.taken taken' mid.write_faults faults'
+    whole_faults : (e : Ending) → WritesEnd (end_text whole.summary whole.curves) e (output mid.taken mid.write_faults) (output taken' faults')
         → TellsRead e before.read_faults mid.read_faults
         × (e ≡ WriteFault → faults' ≡ one_more before.write_faults) × ((e ≡ WriteFault → ⊥) → faults' ≡ before.write_faults)
     whole_faults Done writes = (end.read_fault, λ is. cc, λ other. writes.1 ∙ same_writes)
@@ -142,7 +143,7 @@ module _ (lasts : Bool) (report : StreamReport) (script : Script) (stores : List
           told_are = subst (λ h. AreToldBy (setting_over script stores) script end.calls h (every_in report) end.told) (sym run.entries)
               (AreToldBy-longer (setting_over script stores) script end.calls end.history run.piece (every_in report) end.told end.told_are);
           ends = subst
-              (λ h. EndsSo report (setting_over script stores) script end.calls end.told (with_calls script end.calls) h before
+              (λ h. EndsSo report (course script stores end.calls h end.told) (with_calls script end.calls) before
               (ports mid.left mid.read_faults taken' faults') ending)
               (sym run.entries) (whole_ends ending whole.writes);
           read_fault = faults.0;

@@ -20,8 +20,9 @@ use Rattle.trace_stream.specs.Streams.{IsOfStream}
 use Rattle.stream_run.specs.declared.report.StreamReport.{StreamReport}
 use Rattle.stream_run.specs.declared.run.Ending.{Ending}
 use Rattle.stream_run.specs.declared.run.Ending.TheVariants.{Done, Stopped, WriteFault, NoMemory}
+use Rattle.stream_run.specs.declared.telling.Telling.{Telling}
 use Rattle.stream_run.specs.Reports.{IsEndText}
-use Rattle.stream_run.specs.Streams.{AreToldBy, Behind, IsSoFar, Ports, TellsRead, WasAhead, WasStopped, WasWhole, WrotePartBehind, told_text}
+use Rattle.stream_run.specs.Streams.{AreToldBy, Behind, Course, IsSoFar, Ports, TellsRead, WasAhead, WasStopped, WasWhole, WrotePartBehind, course, told_text}
 
 -- Between two calls.
 
@@ -41,21 +42,19 @@ CountsCall None left left' due = due ≡ false
 CountsCall (Some every) left left' true = (left ≡ 1) × (left' ≡ every)
 CountsCall (Some every) left left' false = (left ≡ left' + 1) × (1 ≤ left')
 
--- These calls were made, by this history, and these counts were told.
-pub record StandsAt (lasts : Bool) (every : Option ℕ) (script : Script) (stores : List Stored) (calls : List Line) (h : List Entry)
-    (told : List SoFar) (left : ℕ) (s : Streaming) : Type 0 where
-  pub after : IsAfter script stores calls h s
-  pub lasting : lasts ≡ true → NoneLacked h
-  pub each : EachTold (setting_over script stores) script calls h every told
-  pub next : ComesNext every (length calls) (length told) left
+-- The calls of this course were made, by its history, and its counts were told.
+pub record StandsAt (lasts : Bool) (telling : Telling) (c : Course) (s : Streaming) : Type 0 where
+  pub after : IsAfter c.script c.stores c.calls c.history s
+  pub lasting : lasts ≡ true → NoneLacked c.history
+  pub each : EachTold (setting_over c.script c.stores) c.script c.calls c.history telling.every c.told
+  pub next : ComesNext telling.every (length c.calls) (length c.told) telling.left
 
 -- There are such calls, their lines were read, and the counts were written; no read and no write failed.
-pub record Goes (lasts : Bool) (every : Option ℕ) (script : Script) (stores : List Stored) (left : ℕ) (s : Streaming) (before now : Ports)
-    : Type 0 where
+pub record Goes (lasts : Bool) (telling : Telling) (script : Script) (stores : List Stored) (s : Streaming) (before now : Ports) : Type 0 where
   pub calls : List Line
   pub history : List Entry
   pub told : List SoFar
-  pub stands : StandsAt lasts every script stores calls history told left s
+  pub stands : StandsAt lasts telling (course script stores calls history told) s
   pub reads : IfSome before.left (λ bytes. (rest : List ℕ) × Behind bytes script calls rest × (now.left ≡ Some rest))
   pub wrote : WroteAll (told_text told) before.taken now.taken
   pub no_read_fault : now.read_faults ≡ before.read_faults
@@ -63,24 +62,22 @@ pub record Goes (lasts : Bool) (every : Option ℕ) (script : Script) (stores : 
 
 -- A call.
 
--- it was made and counted, and where it was time the counts were told
-pub record WentOn (lasts : Bool) (every : Option ℕ) (script : Script) (stores : List Stored) (calls : List Line) (left : ℕ) (s : Streaming)
-    (before after : Option (List ℕ)) : Type 0 where
+-- a line's call was made behind those of this course, and was counted, and where it was time the counts were told
+pub record WentOn (lasts : Bool) (telling : Telling) (c : Course) (line : Line) (s : Streaming) (before after : Option (List ℕ)) : Type 0 where
   pub history : List Entry
   pub told : List SoFar
-  pub stands : StandsAt lasts every script stores calls history told left s
+  pub stands : StandsAt lasts telling (course c.script c.stores (c.calls ++ line ∷ []) history told) s
   pub wrote : WroteAll (told_text told) before after
 
 -- it was made, and telling the counts failed
-pub record WentPart (lasts : Bool) (every : Option ℕ) (script : Script) (stores : List Stored) (calls : List Line) (s : Streaming)
-    (before after : Option (List ℕ)) : Type 0 where
+pub record WentPart (lasts : Bool) (every : Option ℕ) (c : Course) (line : Line) (s : Streaming) (before after : Option (List ℕ)) : Type 0 where
   pub history : List Entry
   pub earlier : List SoFar
   pub last : SoFar
-  pub after_calls : IsAfter script stores calls history s
+  pub after_calls : IsAfter c.script c.stores (c.calls ++ line ∷ []) history s
   pub lasting : lasts ≡ true → NoneLacked history
-  pub told_are : AreToldBy (setting_over script stores) script calls history every (earlier ++ last ∷ [])
-  pub last_is : last.calls ≡ length calls
+  pub told_are : AreToldBy (setting_over c.script c.stores) c.script (c.calls ++ line ∷ []) history every (earlier ++ last ∷ [])
+  pub last_is : last.calls ≡ length (c.calls ++ line ∷ [])
   pub wrote : WrotePartBehind (told_text earlier) (so_far_text last) before after
 
 -- The end of the calls.
@@ -119,17 +116,25 @@ abbrev pub end_text : Summary → Option Curves → List ℕ
 end_text summary None = summary_text summary
 end_text summary (Some c) = curves_text c.tiles.items c.pages.items
 
--- the text was written, or a write failed
-abbrev pub WritesEnd : List ℕ → Ending → (before after : Option (List ℕ)) → (faults faults' : ℕ) → Type 0
-WritesEnd text Done before after faults faults' = WroteAll text before after × (faults' ≡ faults)
-WritesEnd text WriteFault before after faults faults' = WrotePart text before after × (faults' ≡ one_more faults)
-WritesEnd text ending before after faults faults' = ⊥
+-- What a sink tells: the bytes that it has taken, where it tells them, and how often it has failed.
+pub record Output : Type 0 where
+  pub taken : Option (List ℕ)
+  pub faults : ℕ
 
--- the run is whole, and what is written at its end was, or a part of it
-pub record RanWhole (lasts : Bool) (report : StreamReport) (script : Script) (stores : List Stored) (calls : List Line) (h : List Entry)
-    (stores' : List Stored) (ending : Ending) (before after : Option (List ℕ)) (faults faults' : ℕ) : Type 0 where
+abbrev pub output : Option (List ℕ) → ℕ → Output
+output taken faults = record { taken = taken; faults = faults }
+
+-- the text was written, or a write failed
+abbrev pub WritesEnd : List ℕ → Ending → (before after : Output) → Type 0
+WritesEnd text Done before after = WroteAll text before.taken after.taken × (after.faults ≡ before.faults)
+WritesEnd text WriteFault before after = WrotePart text before.taken after.taken × (after.faults ≡ one_more before.faults)
+WritesEnd text ending before after = ⊥
+
+-- the run of this course is whole, and what is written at its end was, or a part of it
+pub record RanWhole (lasts : Bool) (report : StreamReport) (c : Course) (stores' : List Stored) (ending : Ending) (before after : Output)
+    : Type 0 where
   pub summary : Summary
   pub curves : Option Curves
-  pub run : IsRunWhole lasts script stores calls h summary curves stores'
-  pub text_is : IsEndText report (setting_over script stores) (h ++ run.piece) (end_text summary curves)
-  pub writes : WritesEnd (end_text summary curves) ending before after faults faults'
+  pub run : IsRunWhole lasts c.script c.stores c.calls c.history summary curves stores'
+  pub text_is : IsEndText report (setting_over c.script c.stores) (c.history ++ run.piece) (end_text summary curves)
+  pub writes : WritesEnd (end_text summary curves) ending before after

@@ -110,6 +110,18 @@ pub record RanNone (report : StreamReport) (before after : Ports) (stores stores
 
 -- Where calls were run, or could have been.
 
+-- The course of a run: the trace that is run, without its calls, and the stores that it is run over; the calls that were made, their history, and the
+-- counts that were told.
+pub record Course : Type 0 where
+  pub script : Script
+  pub stores : List Stored
+  pub calls : List Line
+  pub history : List Entry
+  pub told : List SoFar
+
+abbrev pub course : Script → List Stored → List Line → List Entry → List SoFar → Course
+course script stores calls history told = record { script = script; stores = stores; calls = calls; history = history; told = told }
+
 -- what is to come of the bytes behind the lines of these calls
 abbrev pub Behind : List ℕ → Script → List Line → List ℕ → Type 0
 Behind bytes script calls rest = bytes ≡ opening_text script ++ flat_map call_line calls ++ rest
@@ -137,21 +149,22 @@ WasAhead bytes script calls left' =
 -- end was. Stopped, it was the front that ends with these calls, and only the counts so far were written. Where a write failed, it was the whole one
 -- and a beginning of its text was written, or it was the front after whose last call the counts so far were to be told, and a beginning of the last
 -- line of theirs was.
-abbrev pub EndsSo : (report : StreamReport) (g : Given) (script : Script) (calls : List Line) (told : List SoFar) (run : Script) (h : List Entry) → (before after : Ports) → Ending
-    → Type 0
-EndsSo report g script calls told run h before after Done =
-    (run ≡ with_calls script calls) × IfSome before.left (λ bytes. WasWhole bytes script calls after.left)
-    × ((text : List ℕ) × IsEndText report g h text × WroteAll (told_text told ++ text) before.taken after.taken)
-EndsSo report g script calls told run h before after (Stopped fault) =
-    (run ≡ front_of script calls) × IfSome before.left (λ bytes. WasStopped bytes script calls fault after.left) × IsOfStream fault
-    × WroteAll (told_text told) before.taken after.taken
-EndsSo report g script calls told run h before after WriteFault =
-    ((run ≡ with_calls script calls) × IfSome before.left (λ bytes. WasWhole bytes script calls after.left)
-    × ((text : List ℕ) × IsEndText report g h text × WrotePartBehind (told_text told) text before.taken after.taken))
-    ⊎ ((run ≡ front_of script calls) × IfSome before.left (λ bytes. WasAhead bytes script calls after.left)
-    × ((earlier : List SoFar) × (last : SoFar) × (told ≡ earlier ++ last ∷ []) × (last.calls ≡ length calls)
+abbrev pub EndsSo : StreamReport → Course → (run : Script) → (before after : Ports) → Ending → Type 0
+EndsSo report c run before after Done =
+    (run ≡ with_calls c.script c.calls) × IfSome before.left (λ bytes. WasWhole bytes c.script c.calls after.left)
+    × ((text : List ℕ) × IsEndText report (setting_over c.script c.stores) c.history text
+    × WroteAll (told_text c.told ++ text) before.taken after.taken)
+EndsSo report c run before after (Stopped fault) =
+    (run ≡ front_of c.script c.calls) × IfSome before.left (λ bytes. WasStopped bytes c.script c.calls fault after.left) × IsOfStream fault
+    × WroteAll (told_text c.told) before.taken after.taken
+EndsSo report c run before after WriteFault =
+    ((run ≡ with_calls c.script c.calls) × IfSome before.left (λ bytes. WasWhole bytes c.script c.calls after.left)
+    × ((text : List ℕ) × IsEndText report (setting_over c.script c.stores) c.history text
+    × WrotePartBehind (told_text c.told) text before.taken after.taken))
+    ⊎ ((run ≡ front_of c.script c.calls) × IfSome before.left (λ bytes. WasAhead bytes c.script c.calls after.left)
+    × ((earlier : List SoFar) × (last : SoFar) × (c.told ≡ earlier ++ last ∷ []) × (last.calls ≡ length c.calls)
     × WrotePartBehind (told_text earlier) (so_far_text last) before.taken after.taken))
-EndsSo report g script calls told run h before after NoMemory = ⊥
+EndsSo report c run before after NoMemory = ⊥
 
 -- A run was made of these calls of a trace that begins so. Its history is nowhere in memory.
 pub record RanSome (lasts : Bool) (report : StreamReport) (before after : Ports) (stores stores' : List Stored) (ending : Ending) : Type 0 where
@@ -172,7 +185,7 @@ pub record RanSome (lasts : Bool) (report : StreamReport) (before after : Ports)
   pub filed : IsFiled run (entries_in history)
   pub lasting : lasts ≡ true → NoneLacked (entries_in history)
   pub told_are : AreToldBy (setting_over script stores) script calls (entries_in history) (every_in report) told
-  pub ends : EndsSo report (setting_over script stores) script calls told run (entries_in history) before after ending
+  pub ends : EndsSo report (course script stores calls (entries_in history) told) run before after ending
   pub read_fault : TellsRead ending before.read_faults after.read_faults
   pub write_fault : ending ≡ WriteFault → after.write_faults ≡ one_more before.write_faults
   pub no_write_fault : (ending ≡ WriteFault → ⊥) → after.write_faults ≡ before.write_faults

@@ -1,20 +1,16 @@
 //! The calls of a run, each as it is read.
 
-ghost use Rattle.std.specs.Prelude.{◌≡◌, ℕ, ◌≤◌, [], ◌∷◌, ◌++◌, IfSome, List, OnOk, OnErr, Option};
+ghost use Rattle.std.specs.Prelude.{◌≡◌, ℕ, ◌≤◌, [], IfSome, List, OnOk, OnErr, Option};
 ghost use Rattle.io_core.specs.Faults.{one_more};
 ghost use Rattle.line_source.specs.Lines.{seen};
-ghost use Rattle.pager_model.specs.declared.call.Line.{Line as CallLine};
-ghost use Rattle.pager_model.specs.declared.entry.Entry.{Entry};
-ghost use Rattle.pager_model.specs.Scripts.{Script};
 ghost use Rattle.pager_model.specs.Stored.{Stored};
-ghost use Rattle.report_text.specs.declared.so_far_line.SoFar.{SoFar};
 ghost use Rattle.report_text.specs.Written.{WroteAll};
 ghost use Rattle.stream_core.specs.Streaming.{CanMake, IsAfter, IsNext};
 ghost use Rattle.stream_core.specs.Tallies.{has_curves};
 ghost use Rattle.trace_lines.specs.Heads.{IsInRange};
 ghost use Rattle.trace_stream.specs.Streams.{HasOpening, OpensWith};
 ghost use Rattle.stream_run.specs.Steps.{CallsEnd, StandsAt, WentOn, WentPart};
-ghost use Rattle.stream_run.specs.Streams.{ports, told_text};
+ghost use Rattle.stream_run.specs.Streams.{Course, ports, told_text};
 
 use crate::run::Ending;
 use crate::telling::{Telling, so_far_of};
@@ -71,14 +67,12 @@ fn make_line<K: Sink, S: Store + Send + Drop>(
     requires left { IfSome telling.old.every (λ n. 1 ≤ telling.old.left) }
     ensures every { telling.new.every ≡ telling.old.every }
     ensures asked { has_curves stream.new.tally ≡ has_curves stream.old.tally }
-    ensures on { OnOk result ((script : Script) (stores : List Stored) (calls : List CallLine) (h : List Entry) (told : List SoFar) (had : Option (List ℕ))
-        → StandsAt S.lasts telling.old.every script stores calls h told telling.old.left stream.old → IsNext script calls line
-        → WroteAll (told_text told) had (K.taken sink.old)
-        → WentOn S.lasts telling.old.every script stores (calls ++ line ∷ []) telling.new.left stream.new had (K.taken sink.new)) }
-    ensures part { OnErr result ((script : Script) (stores : List Stored) (calls : List CallLine) (h : List Entry) (told : List SoFar) (had : Option (List ℕ))
-        → StandsAt S.lasts telling.old.every script stores calls h told telling.old.left stream.old → IsNext script calls line
-        → WroteAll (told_text told) had (K.taken sink.old)
-        → WentPart S.lasts telling.old.every script stores (calls ++ line ∷ []) stream.new had (K.taken sink.new)) }
+    ensures on { OnOk result ((course : Course) (had : Option (List ℕ)) → StandsAt S.lasts telling.old course stream.old
+        → IsNext course.script course.calls line → WroteAll (told_text course.told) had (K.taken sink.old)
+        → WentOn S.lasts telling.new course line stream.new had (K.taken sink.new)) }
+    ensures part { OnErr result ((course : Course) (had : Option (List ℕ)) → StandsAt S.lasts telling.old course stream.old
+        → IsNext course.script course.calls line → WroteAll (told_text course.told) had (K.taken sink.old)
+        → WentPart S.lasts telling.old.every course line stream.new had (K.taken sink.new)) }
     ensures unfailed { OnOk result (K.faults sink.new ≡ K.faults sink.old) }
     ensures rose { OnErr result (K.faults sink.new ≡ one_more (K.faults sink.old)) }
 {

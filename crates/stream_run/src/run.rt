@@ -3,9 +3,6 @@
 ghost use Rattle.std.specs.Prelude.{◌≡◌, ℕ, ◌≤◌, [], IfErr, IfOk, IfSome, List, OnErr, OnOk, Option, length, map};
 ghost use Rattle.line_source.specs.Lines.{seen};
 ghost use Rattle.miss_curves.specs.Curves.{AreLong, stream_capacities};
-ghost use Rattle.pager_model.specs.declared.call.Line.{Line as CallLine};
-ghost use Rattle.pager_model.specs.declared.entry.Entry.{Entry};
-ghost use Rattle.pager_model.specs.Scripts.{Script};
 ghost use Rattle.pager_model.specs.Stored.{Stored};
 ghost use Rattle.stream_core.specs.Streaming.{CanStand, IsAfter};
 ghost use Rattle.stream_core.specs.Tallies.{has_curves};
@@ -14,8 +11,8 @@ ghost use Rattle.trace_stream.specs.Streams.{HasOpening, OpensWith};
 ghost use Rattle.stream_run.specs.declared.report.StreamReport.{StreamReport as Asked};
 ghost use Rattle.stream_run.specs.declared.run.Ending.TheVariants.{Done, WriteFault};
 ghost use Rattle.stream_run.specs.Reports.{Admits, every_in, is_of_curves};
-ghost use Rattle.stream_run.specs.Steps.{RanWhole, WritesEnd, end_text};
-ghost use Rattle.stream_run.specs.Streams.{IsUnrun, RanSome, RunsStream, TellsRead, ports};
+ghost use Rattle.stream_run.specs.Steps.{RanWhole, WritesEnd, end_text, output};
+ghost use Rattle.stream_run.specs.Streams.{Course, IsUnrun, RanSome, RunsStream, TellsRead, ports};
 
 use crate::calls::make_calls;
 use crate::report::StreamReport;
@@ -173,10 +170,10 @@ fn run_calls<T: Source, K: Sink, S: Store + Send + Drop>(
 /// Makes the turns that the daemon has left, and writes what is written at the end of the whole run.
 fn finish<K: Sink, S: Store + Send + Drop>(sink: &mut K, stream: Stream<S>) -> Streamed<S>
     requires { CanStand stream }
-    ensures { (report : Asked) (script : Script) (stores : List Stored) (calls : List CallLine) (h : List Entry)
-        → has_curves stream.tally ≡ is_of_curves report → Admits report script → IsAfter script stores calls h stream
-        → RanWhole S.lasts report script stores calls h (map S.seen result.stores.items) result.ending
-        (K.taken sink.old) (K.taken sink.new) (K.faults sink.old) (K.faults sink.new) }
+    ensures { (report : Asked) (course : Course) → has_curves stream.tally ≡ is_of_curves report → Admits report course.script
+        → IsAfter course.script course.stores course.calls course.history stream
+        → RanWhole S.lasts report course (map S.seen result.stores.items) result.ending
+        (output (K.taken sink.old) (K.faults sink.old)) (output (K.taken sink.new) (K.faults sink.new)) }
 {
     let Finished {
         summary,
@@ -190,7 +187,8 @@ fn finish<K: Sink, S: Store + Send + Drop>(sink: &mut K, stream: Stream<S>) -> S
 /// Writes the curves, where there are some, or else the counts.
 fn write_end<K: Sink>(sink: &mut K, summary: &Summary, curves: &Option<Curves>) -> Ending
     requires long { IfSome curves.now (λ c. AreLong stream_capacities c.tiles.items c.pages.items) }
-    ensures { WritesEnd (end_text summary.now curves.now) result (K.taken sink.old) (K.taken sink.new) (K.faults sink.old) (K.faults sink.new) }
+    ensures { WritesEnd (end_text summary.now curves.now) result
+        (output (K.taken sink.old) (K.faults sink.old)) (output (K.taken sink.new) (K.faults sink.new)) }
 {
     match curves {
         Some(curves) => ending_of(write_curves(sink, &curves.tiles, &curves.pages)),

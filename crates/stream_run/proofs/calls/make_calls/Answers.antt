@@ -1,4 +1,4 @@
-use Rattle.std.proofs.Common.{◌≡◌, [], Option, None, IfSome, Err, refl, ap, subst, ◌∙◌, arith}
+use Rattle.std.proofs.Common.{◌≡◌, [], Option, None, IfSome, Err, refl, ap, sym, subst, ◌∙◌, arith}
 use Rattle.line_source.specs.Lines.{seen}
 use Rattle.pager_model.specs.declared.call.Line.{Line as CallLine}
 use Rattle.trace_reader.specs.declared.fault.TraceFault.TheVariants.{ReadFault}
@@ -17,8 +17,8 @@ lines-init g c = record {
     calls = [];
     history = [];
     told = [];
-    stands = StandsAt-none g.S.Store.lasts c.args.every c.args.opening.now.trace stores c.of-telling.result.left c.args.stream.now after
-        c.requires.some c.of-telling.ensures.left;
+    stands = StandsAt-none g.S.Store.lasts c.of-telling.result c.args.every c.args.opening.now.trace stores c.args.stream.now
+        c.of-telling.ensures.every after c.requires.some c.of-telling.ensures.left;
     reads = reads_none left (seen c.args.ahead.now (g.T.Source.left c.args.source.now)) c.args.opening.now.trace opens;
     wrote = wrote_none (g.K.Sink.taken c.args.sink.now);
     no_read_fault = refl;
@@ -46,7 +46,7 @@ pub make_line-requires-clause-left : goal.make_line-requires-clause-left
 make_line-requires-clause-left g c κs within =
     let can = c.requires.can in
     let goes = c.lines.invariant.goes None can.0 can.1 tt in
-    rw c.lines.invariant.every (next_some c.args.every _ _ c.lines.telling.left goes.stands.next)
+    next_some c.lines.telling.every _ _ c.lines.telling.left goes.stands.next
 
 pub lines-smaller : goal.lines-smaller
 lines-smaller g c =
@@ -55,9 +55,8 @@ lines-smaller g c =
     let goes = c.lines.invariant.goes None can.0 can.1 tt in
     let next = IsNext-of c.args.opening.now.head script goes.calls c.in-Ok-Some.field-0 c.in-Ok-Some.line c.calls.result c.requires.opening
     c.in-Ok-Some.field-0-is c.in-Ok-Some.ensures.line c.in-Ok-Some.ensures.few (c.calls.ensures ∙ goes.stands.after.at.calls_are) in
-    let more = one_call_more g.S.Store.lasts c.lines.telling.every c.args.every c.lines.invariant.every script can.0 c.lines.telling.left
-    c.make_line.new.telling.left c.lines.stream c.make_line.new.stream c.in-Ok-Some.line _ _ goes next (g.K.Sink.taken c.make_line.new.sink)
-    c.in_default.ensures.on in
+    let more = one_call_more g.S.Store.lasts c.lines.telling c.make_line.new.telling script can.0 c.lines.stream c.make_line.new.stream
+    c.in-Ok-Some.line _ _ goes next (g.K.Sink.taken c.make_line.new.sink) c.in_default.ensures.on in
     let few = next.few in
     let was = goes.stands.after.at.calls_are in
     omega (arith, more, few, was)
@@ -70,9 +69,9 @@ lines-preserved g c = record {
       let goes = c.lines.invariant.goes left stores after opens in
       let next = IsNext-of c.args.opening.now.head script goes.calls c.in-Ok-Some.field-0 c.in-Ok-Some.line c.calls.result c.requires.opening
       c.in-Ok-Some.field-0-is c.in-Ok-Some.ensures.line c.in-Ok-Some.ensures.few (c.calls.ensures ∙ goes.stands.after.at.calls_are) in
-      Goes-more g.S.Store.lasts c.lines.telling.every c.args.every c.lines.invariant.every script stores c.lines.telling.left
-      c.make_line.new.telling.left c.lines.stream c.make_line.new.stream c.in-Ok-Some.line _ _ goes next (g.K.Sink.taken c.make_line.new.sink)
-      c.in_default.ensures.on c.in-Ok-Some.field-0 (seen c.next_call.new.ahead (g.T.Source.left c.next_call.new.source)) _ _
+      Goes-more g.S.Store.lasts c.lines.telling c.make_line.new.telling script stores c.lines.stream c.make_line.new.stream c.in-Ok-Some.line _ _
+      goes next (g.K.Sink.taken c.make_line.new.sink) c.in_default.ensures.on c.in-Ok-Some.field-0
+      (seen c.next_call.new.ahead (g.T.Source.left c.next_call.new.source)) _ _
       c.in-Ok-Some.field-0-is c.in-Ok-Some.ensures.reads
       (c.in-Ok-Some.ensures.no_other_fault (ok_err c.in-Ok-Some.field-0 ReadFault)) c.in_default.ensures.unfailed;
   asked = c.make_line.ensures.asked ∙ c.lines.invariant.asked;
@@ -93,7 +92,8 @@ returns-in-Ok-None-clause-ended g c = λ left stores after opens.
       told = goes.told;
       after_calls = goes.stands.after;
       lasting = goes.stands.lasting;
-      told_are = AreToldBy-of _ script goes.calls goes.history c.args.every goes.told c.lines.telling.left goes.stands.next goes.stands.each;
+      told_are = rw (sym c.lines.invariant.every)
+          (AreToldBy-of _ script goes.calls goes.history c.lines.telling.every goes.told c.lines.telling.left goes.stands.next goes.stands.each);
       ends = (
         reads_whole left mid left' c.next_call.new.ahead script goes.calls at.opening at.lines at.few_calls goes.reads read,
         goes.wrote,
@@ -119,7 +119,8 @@ returns-in-Err-clause-ended g c = λ left stores after opens.
       told = goes.told;
       after_calls = goes.stands.after;
       lasting = goes.stands.lasting;
-      told_are = AreToldBy-of _ script goes.calls goes.history c.args.every goes.told c.lines.telling.left goes.stands.next goes.stands.each;
+      told_are = rw (sym c.lines.invariant.every)
+          (AreToldBy-of _ script goes.calls goes.history c.lines.telling.every goes.told c.lines.telling.left goes.stands.next goes.stands.each);
       ends = (
         reads_stopped left mid left' ahead script goes.calls c.calls.result fault goes.reads (c.calls.ensures ∙ goes.stands.after.at.calls_are)
             c.in-Err.ensures.few_ahead c.in-Err.ensures.own_fault (λ is. c.in-Err.ensures.unread (ap Err is)) c.in-Err.ensures.kept c.in-Err.ensures.refused,
@@ -137,8 +138,8 @@ returns-in-Err-make_line-clause-ended g c = λ left stores after opens.
     let goes = c.lines.invariant.goes left stores after opens in
     let next = IsNext-of c.args.opening.now.head script goes.calls c.in-Ok-Some.field-0 c.in-Ok-Some.line c.calls.result c.requires.opening
     c.in-Ok-Some.field-0-is c.in-Ok-Some.ensures.line c.in-Ok-Some.ensures.few (c.calls.ensures ∙ goes.stands.after.at.calls_are) in
-    CallsEnd-part g.S.Store.lasts c.lines.telling.every c.args.every c.lines.invariant.every script stores c.lines.telling.left
-    c.make_line.new.telling.left c.lines.stream c.make_line.new.stream c.in-Ok-Some.line _ _ goes next (g.K.Sink.taken c.make_line.new.sink)
-    c.in-Err-make_line.ensures.part c.in-Ok-Some.field-0 c.next_call.new.ahead (g.T.Source.left c.next_call.new.source) _ _
-    c.in-Ok-Some.field-0-is c.in-Ok-Some.ensures.reads c.in-Ok-Some.ensures.few_ahead
+    CallsEnd-part g.S.Store.lasts c.lines.telling c.make_line.new.telling script stores c.lines.stream c.make_line.new.stream c.in-Ok-Some.line _ _
+    goes next (g.K.Sink.taken c.make_line.new.sink) c.in-Err-make_line.ensures.part c.args.every c.in-Ok-Some.field-0 c.next_call.new.ahead
+    (g.T.Source.left c.next_call.new.source) _ _ c.lines.invariant.every c.in-Ok-Some.field-0-is c.in-Ok-Some.ensures.reads
+    c.in-Ok-Some.ensures.few_ahead
     (c.in-Ok-Some.ensures.no_other_fault (ok_err c.in-Ok-Some.field-0 ReadFault)) c.in-Err-make_line.ensures.rose

@@ -13,7 +13,7 @@ invariant-lines g l = record {
   every : l.telling.every ≡ l.fn.every;
   goes : (left : Option (List ℕ)) (stores : List Stored) → IsAfter l.fn.opening.trace stores [] [] l.fn.stream
       → IfSome left (λ bytes. OpensWith bytes l.fn.opening.trace (seen l.fn.ahead (g.T.Source.left l.fn.source)))
-      → Goes g.S.Store.lasts l.fn.every l.fn.opening.trace stores l.telling.left l.stream
+      → Goes g.S.Store.lasts l.telling l.fn.opening.trace stores l.stream
       (ports left (g.T.Source.faults l.fn.source) (g.K.Sink.taken l.fn.sink) (g.K.Sink.faults l.fn.sink))
       (ports (seen l.ahead (g.T.Source.left l.source)) (g.T.Source.faults l.source) (g.K.Sink.taken l.sink) (g.K.Sink.faults l.sink));
   asked : has_curves l.stream.tally ≡ has_curves l.fn.stream.tally;

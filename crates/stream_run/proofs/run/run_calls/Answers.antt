@@ -1,6 +1,6 @@
 use Rattle.std.proofs.Common.{None, map, ◌∙◌}
 use Rattle.line_source.specs.Lines.{seen}
-use Rattle.stream_run.specs.Streams.{ports}
+use Rattle.stream_run.specs.Streams.{course, ports}
 use Rattle.stream_run.proofs.ReadText.{opens_of}
 use Rattle.stream_run.proofs.WholeStreams.{RanSome-front, RanSome-whole}
 use Rattle.stream_run.proofs.run.run_calls.Goals as goal
@@ -33,7 +33,8 @@ pub returns-in-Done : goal.returns-in-Done
 returns-in-Done g c = λ left stores after opens.
     let script = c.args.opening.now.trace in
     let end = rw c.every.ensures at c.in-Done.ensures.ended left stores after opens in
-    let whole = c.finish.ensures c.args.report script stores end.calls end.history (c.make_calls.ensures.asked ∙ c.requires.asked) c.requires.admitted end.after_calls in
+    let whole = c.finish.ensures c.args.report (course script stores end.calls end.history end.told) (c.make_calls.ensures.asked ∙ c.requires.asked)
+    c.requires.admitted end.after_calls in
     RanSome-whole g.S.Store.lasts c.args.report script stores c.make_calls.new.stream
     (ports left (g.T.Source.faults c.args.source.now) (g.K.Sink.taken c.args.sink.now) (g.K.Sink.faults c.args.sink.now))
     (ports (g.T.Source.left c.make_calls.new.source) (g.T.Source.faults c.make_calls.new.source) (g.K.Sink.taken c.make_calls.new.sink)
