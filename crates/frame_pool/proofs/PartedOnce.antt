@@ -1,8 +1,7 @@
 -- A reservation that is split and split again, down to one size, was split into its extents of that size: the layout is the same.
 use Rattle.std.proofs.Common.{◌≡◌, ◌≢◌, ℕ, ◌+◌, ◌-◌, ◌*◌, ◌/◌, ◌^◌, ◌<◌, ◌≤◌, ◌⊎◌, inl, inr, Bool, true, false, List, length, Option, Some, None, refl, sym, ap, subst, ◌∙◌, arith}
-use Rattle.std.proofs.lemmas.Bool.{cases_eq, cases_lt, false≢true, ltb-true, ltb-false}
+use Rattle.std.proofs.lemmas.Bool.{cases_eq, cases_lt}
 use Rattle.std.proofs.lemmas.List.{ext_get_or}
-use Rattle.std.specs.Option.{IfSome}
 use Rattle.std.proofs.lemmas.Option.{none-some, same_Some}
 use Rattle.std.proofs.lemmas.Nat.{div_below}
 use Rattle.pager_model.specs.declared.reservation.Reservation.{Reservation}
@@ -13,7 +12,6 @@ use Rattle.pager_model.proofs.ExtentLemmas.{eight_pos, eight_split, part_inside,
 use Rattle.pager_model.specs.SizeSets.{SizeSet}
 use Rattle.pager_model.proofs.RecordFrames.{has_frame_bounds, has_frame_from}
 use Rattle.pager_laws.specs.Laid.{IsLaid}
-use Rattle.frame_pool.specs.Placed.{is_larger}
 use Rattle.pager_laws.proofs.PartsAt.{part_ends, same_part, kept_at-cases}
 use Rattle.pager_laws.proofs.SplitFrames.{IsSplit-parted}
 use Rattle.pager_laws.proofs.LayoutReplaced.{holder}
@@ -319,131 +317,94 @@ abbrev pub size_there : Option Reservation → ℕ
 size_there None = 0
 size_there (Some q) = q.size
 
--- what stands there is larger
-larger_some : (size : ℕ) (o : Option Reservation) → is_larger size o ≡ true → (q : Reservation) × (o ≡ Some q) × (size < q.size)
-larger_some size None is = absurd (false≢true is)
-larger_some size (Some q) is = (q, refl, ltb-true size q.size is)
-
--- From a layout the reservation at a frame is split down to a size, up to a frame of it.
-pub record IsGoing (size next end id : ℕ) (l cur : Layout) : Type 0 where
-  pub whole : Reservation
-  pub is : record_at l id ≡ Some whole
-  pub named : whole.frame ≡ id
-  pub ends : end ≡ whole.frame + 8 ^ whole.size
+-- From a layout in which a reservation stands it is split down to a size, up to a frame of it.
+pub record IsGoing (size next : ℕ) (r : Reservation) (l cur : Layout) : Type 0 where
+  pub is : record_at l r.frame ≡ Some r
   pub laid : IsLaid l
-  pub less : size < whole.size
-  pub down : IsDown size next l cur whole
+  pub less : size < r.size
+  pub down : IsDown size next l cur r
   pub index : ℕ
-  pub at : next ≡ whole.frame + index * 8 ^ size
-  pub low : next ≤ end
+  pub at : next ≡ r.frame + index * 8 ^ size
+  pub low : next ≤ r.frame + 8 ^ r.size
 
-own_is : (l : Layout) (id : ℕ) (r : Reservation) → IsLaid l → record_at l id ≡ Some r → record_at l r.frame ≡ Some r
-own_is l id r laid is = ap (record_at l) (laid.placed id r is).named ∙ is
+pub IsGoing-start : (size : ℕ) (r : Reservation) (l : Layout) → IsLaid l → record_at l r.frame ≡ Some r → size < r.size
+    → IsGoing size r.frame r l l
+IsGoing-start size r l laid is less = record {
+  is = is;
+  laid = laid;
+  less = less;
+  down = IsDown-start size l r laid is (omega arith) (Settles-same l laid);
+  index = 0;
+  at = omega arith;
+  low = omega arith;
+}
 
-pub IsGoing-start : (size end id : ℕ) (l : Layout) (r : Reservation) → IsLaid l → record_at l id ≡ Some r → size < r.size
-    → end ≡ id + 8 ^ r.size → IsGoing size id end id l l
-IsGoing-start size end id l r laid is less ends =
-    let named = (laid.placed id r is).named in
-    record {
-      whole = r;
-      is = is;
-      named = named;
-      ends = omega (arith, ends, named);
-      laid = laid;
-      less = less;
-      down = subst (λ n. IsDown size n l l r) named (IsDown-start size l r laid (own_is l id r laid is) (omega arith)
-          (Settles-same l laid));
-      index = 0;
-      at = omega (arith, named);
-      low = omega (arith, ends);
-    }
-
-module _ (size next end id : ℕ) (l cur : Layout) (going : IsGoing size next end id l cur) where
-  abbrev r : Reservation
-  r = going.whole
-
-  r_is : record_at l r.frame ≡ Some r
-  r_is = own_is l id r going.laid going.is
-
+module _ (size next : ℕ) (r : Reservation) (l cur : Layout) (going : IsGoing size next r l cur) where
   -- what stands at the frame is a part that begins there
-  part_there : next < end → (q : Reservation) → record_at cur next ≡ Some q → IsPartOf size r q
-  part_there inside q stands = going.down.parts next q (omega (arith, going.at)) (omega (arith, going.ends, inside)) stands
+  part_there : next < r.frame + 8 ^ r.size → (q : Reservation) → record_at cur next ≡ Some q → IsPartOf size r q
+  part_there inside q stands = going.down.parts next q (omega (arith, going.at)) inside stands
 
-  pub IsGoing-split : (new : Layout) → next < end → is_larger size (record_at cur next) ≡ true
-      → IfSome (record_at cur next) (λ q. new ≡ parted (q.size - 1) q cur) → IsGoing size next end id l new
-  IsGoing-split new inside larger split =
-      let found = larger_some size (record_at cur next) larger in
-      let q = found.0 in
-      let part = part_there inside q found.1 in
-      let done : new ≡ parted (q.size - 1) q cur = subst (λ o. IfSome o (λ p. new ≡ parted (p.size - 1) p cur)) found.1 split in
-      let named : q.frame ≡ next = (going.down.settles.laid.placed next q found.1).named in
-      let at_part : record_at cur (part_at q.size r part.index).frame ≡ Some (part_at q.size r part.index) =
-      ap (λ (p : Reservation). record_at cur p.frame) part.is ∙ ap (record_at cur) named ∙ found.1 ∙ ap Some (sym part.is) in
-      let begins : next ≤ (part_at q.size r part.index).frame = omega (arith, ap (λ (p : Reservation). p.frame) part.is, named) in
-      let down = IsDown-split size l r going.laid r_is next cur going.down q.size part.index (q.size - 1) at_part part.below part.high
-      (omega (arith, found.2)) (omega arith) begins in
-      let down_new : IsDown size next l new r = subst (λ m. IsDown size next l m r) (sym done)
-      (subst (λ p. IsDown size next l (parted (q.size - 1) p cur) r) part.is down) in
-      record {
-        whole = r;
-        is = going.is;
-        named = going.named;
-        ends = going.ends;
-        laid = going.laid;
-        less = going.less;
-        down = down_new;
-        index = going.index;
-        at = going.at;
-        low = going.low;
-      }
-
-  pub IsGoing-skip : next < end → is_larger size (record_at cur next) ≡ false → IsGoing size (next + 8 ^ size) end id l cur
+  pub IsGoing-skip : next < r.frame + 8 ^ r.size → ((q : Reservation) → record_at cur next ≡ Some q → q.size ≤ size)
+      → IsGoing size (next + 8 ^ size) r l cur
   IsGoing-skip inside small =
-      let fits = next_ends size l r going.laid r_is going.index (omega (arith, going.less)) (omega (arith, inside, going.at, going.ends)) in
-      let ends : next + 8 ^ size ≤ r.frame + 8 ^ r.size = omega (arith, fits, going.at) in
+      let fits = next_ends size l r going.laid going.is going.index (omega (arith, going.less)) (omega (arith, inside, going.at)) in
       record {
-        whole = r;
         is = going.is;
-        named = going.named;
-        ends = going.ends;
         laid = going.laid;
         less = going.less;
-        down = IsDown-next size l r going.laid r_is next cur going.down going.index going.at ends (λ q stands.
-            let part = part_there inside q stands in
-            let most = ltb-false size q.size (sym (ap (is_larger size) stands) ∙ small) in
-            omega (arith, part.low, most));
+        down = IsDown-next size l r going.laid going.is next cur going.down going.index going.at (omega (arith, fits, going.at))
+            (λ q stands. let part = part_there inside q stands in omega (arith, part.low, small q stands));
         index = going.index + 1;
         at = omega (arith, going.at);
-        low = omega (arith, ends, going.ends);
+        low = omega (arith, fits, going.at);
       }
 
-  pub going_done : end ≤ next → IfSome (record_at l id) (λ p. cur ≡ parted size p l)
+  pub going_done : r.frame + 8 ^ r.size ≤ next → cur ≡ parted size r l
   going_done past =
-      let all : next ≡ r.frame + 8 ^ r.size = omega (arith, past, going.low, going.ends) in
+      let all : next ≡ r.frame + 8 ^ r.size = omega (arith, past, going.low) in
       let down = subst (λ n. IsDown size n l cur r) all going.down in
-      subst (λ o. IfSome o (λ p. cur ≡ parted size p l)) (sym going.is)
-      (down_parted size l cur r going.laid r_is (omega (arith, going.less)) down)
+      down_parted size l cur r going.laid going.is (omega (arith, going.less)) down
 
-  -- how far it is from the end
-  pub split_nearer : (new : Layout) → next < end → is_larger size (record_at cur next) ≡ true
-      → IfSome (record_at cur next) (λ q. new ≡ parted (q.size - 1) q cur)
-      → size_there (record_at new next) < size_there (record_at cur next)
-  split_nearer new inside larger split =
-      let found = larger_some size (record_at cur next) larger in
-      let q = found.0 in
-      let done : new ≡ parted (q.size - 1) q cur = subst (λ o. IfSome o (λ p. new ≡ parted (p.size - 1) p cur)) found.1 split in
-      let named : q.frame ≡ next = (going.down.settles.laid.placed next q found.1).named in
-      let sound = going.down.settles.laid in
-      let split_is = IsSplit-parted (q.size - 1) cur q sound.records_long (placed_own cur next q sound found.1) (omega arith) in
-      let first : (part_at (q.size - 1) q 0).frame ≡ next = omega (arith, named) in
-      let there : record_at new next ≡ kept_at (q.size - 1) (is_used cur.used) q 0 = ap (λ m. record_at m next) done
-      ∙ ap (record_at (parted (q.size - 1) q cur)) (sym first) ∙ split_is.parts 0 (eight_pos (q.size - (q.size - 1))) in
-      let size_now : size_there (record_at cur next) ≡ q.size = ap size_there found.1 in
-      elim (kept_at-cases (q.size - 1) (is_used cur.used) q 0) [
-        | inl none ↦ let now : size_there (record_at new next) ≡ 0 = ap size_there (there ∙ none.0) in omega (arith, now, size_now, found.2)
-        | inr kept ↦ let now : size_there (record_at new next) ≡ q.size - 1 = ap size_there (there ∙ kept.0) in
-            omega (arith, now, size_now, found.2)
-      ]
+  -- and stands at its own frame
+  pub stands_there : (q : Reservation) → record_at cur next ≡ Some q → record_at cur q.frame ≡ Some q
+  stands_there q is = ap (record_at cur) (going.down.settles.laid.placed next q is).named ∙ is
+
+  -- a larger one is split
+  module _ (q : Reservation) (is : record_at cur next ≡ Some q) (larger : size < q.size) (inside : next < r.frame + 8 ^ r.size) where
+    pub IsGoing-split : IsGoing size next r l (parted (q.size - 1) q cur)
+    IsGoing-split =
+        let part = part_there inside q is in
+        let named : q.frame ≡ next = (going.down.settles.laid.placed next q is).named in
+        let at_part : record_at cur (part_at q.size r part.index).frame ≡ Some (part_at q.size r part.index) =
+        ap (λ (p : Reservation). record_at cur p.frame) part.is ∙ stands_there q is ∙ ap Some (sym part.is) in
+        let begins : next ≤ (part_at q.size r part.index).frame = omega (arith, ap (λ (p : Reservation). p.frame) part.is, named) in
+        let down = IsDown-split size l r going.laid going.is next cur going.down q.size part.index (q.size - 1) at_part part.below part.high
+        (omega (arith, larger)) (omega arith) begins in
+        record {
+          is = going.is;
+          laid = going.laid;
+          less = going.less;
+          down = subst (λ p. IsDown size next l (parted (q.size - 1) p cur) r) part.is down;
+          index = going.index;
+          at = going.at;
+          low = going.low;
+        }
+
+    -- so what begins there is smaller then
+    pub split_nearer : size_there (record_at (parted (q.size - 1) q cur) next) < q.size
+    split_nearer =
+        let named : q.frame ≡ next = (going.down.settles.laid.placed next q is).named in
+        let sound = going.down.settles.laid in
+        let split_is = IsSplit-parted (q.size - 1) cur q sound.records_long (placed_own cur next q sound is) (omega arith) in
+        let first : (part_at (q.size - 1) q 0).frame ≡ next = omega (arith, named) in
+        let there : record_at (parted (q.size - 1) q cur) next ≡ kept_at (q.size - 1) (is_used cur.used) q 0 =
+        ap (record_at (parted (q.size - 1) q cur)) (sym first) ∙ split_is.parts 0 (eight_pos (q.size - (q.size - 1))) in
+        elim (kept_at-cases (q.size - 1) (is_used cur.used) q 0) [
+          | inl none ↦ let now : size_there (record_at (parted (q.size - 1) q cur) next) ≡ 0 = ap size_there (there ∙ none.0) in
+              omega (arith, now, larger)
+          | inr kept ↦ let now : size_there (record_at (parted (q.size - 1) q cur) next) ≡ q.size - 1 = ap size_there (there ∙ kept.0) in
+              omega (arith, now, larger)
+        ]
 
 -- at most size 3 stands anywhere
 pub size_there-small : (l : Layout) (id : ℕ) → IsLaid l → size_there (record_at l id) ≤ 3

@@ -1,13 +1,13 @@
 -- What finding an extent of free frames for a reservation gives, and what taking it out leaves.
 use Rattle.std.proofs.Common.{◌≡◌, ℕ, zero, suc, ◌+◌, ◌-◌, ◌^◌, ◌<◌, ◌≤◌, true, false, cond, length, Option, Some, None, option_map, refl, sym, ap, subst, ◌∙◌, arith}
-use Rattle.std.specs.Option.{option_or, option_and_then, option_map_or, is_some, IsSome, IsSomeAnd}
+use Rattle.std.specs.Option.{option_or, option_and_then, option_map_or, is_some, IfSome}
 use Rattle.std.proofs.lemmas.Bool.{false≢true}
 use Rattle.pager_model.proofs.FreeRuns.{IsExtent-choice, choice_within, run_free-choice, run_free_exactly}
 use Rattle.pager_model.proofs.FreeRanges.{length-with_range, with_range_inside, with_range_outside, range_cases}
 use Rattle.pager_model.specs.Agreement.{has_frame}
 use Rattle.pager_model.specs.FreeBlocks.{choice}
 use Rattle.pager_model.specs.Layouts.{Layout, FreeExtent, break_layout, broken_at, to_break, chosen, extent_of, largest_extent, record_at, is_free}
-use Rattle.pager_model.specs.Records.{is_used, yield_in}
+use Rattle.pager_model.specs.Records.{is_used}
 use Rattle.pager_model.specs.SizeSets.{has_size}
 use Rattle.pager_laws.specs.Laid.{IsLaid}
 use Rattle.frame_pool.specs.Placed.{CanBreak, FindsExtent, without_extent, extent_there}
@@ -85,13 +85,16 @@ extent_of-broken size id first l new none oldest broken is =
 
 module _ (l : Layout) (size id : ℕ) (laid : IsLaid l) (oldest : to_break l size ≡ Some id) where
   -- it can be broken
-  pub CanBreak-oldest : CanBreak l id
+  pub CanBreak-oldest : IfSome (record_at l id) (CanBreak l)
   CanBreak-oldest =
       let w = oldest_from-found l size (3 - size) id laid.placed oldest in
       let some = laid.some_used id w.0 w.4 in
       let less = yield_less l.sizes (is_used l.used) w.0 w.1 some.0 some.1 some.2 w.5 in
-      subst (λ o. IsSomeAnd o (λ r. (0 < r.size) × IsSome (yield_in l.sizes (is_used l.used) r))) (sym w.4)
-      (omega (arith, less), ap is_some w.5)
+      subst (λ o. IfSome o (CanBreak l)) (sym w.4) (record {
+        stands = ap (record_at l) (laid.placed id w.0 w.4).named ∙ w.4;
+        splits = omega (arith, less);
+        yields = ap is_some w.5;
+      })
 
   -- and then there is a choice
   pub choice-oldest : is_some (choice (broken_at id l).free size) ≡ true

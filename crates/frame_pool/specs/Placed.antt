@@ -1,5 +1,5 @@
 -- What finding an extent and placing a page give.
-use Rattle.std.specs.Prelude.{ℕ, ◌≡◌, ◌+◌, ◌^◌, ◌<◌, ◌≤◌, Bool, true, false, nat_lt, if◌then◌else◌, length, slice_set, option_map, Option, Some, None, IsSome, IsSomeAnd}
+use Rattle.std.specs.Prelude.{ℕ, ◌≡◌, ◌+◌, ◌^◌, ◌<◌, ◌≤◌, true, false, if◌then◌else◌, length, slice_set, Option, Some, None, IsSome}
 use Rattle.pager_model.specs.declared.reservation.Reservation.{Reservation}
 use Rattle.pager_model.specs.Agreement.{has_frame}
 use Rattle.pager_model.specs.Extents.{IsExtent}
@@ -9,13 +9,11 @@ use Rattle.pager_model.specs.SizeSets.{has_size}
 use Rattle.pager_model.specs.Records.{is_used, yield_in}
 use Rattle.reservations.specs.Kept.{CoversPage}
 
--- the first frame of a reservation
-abbrev pub first_of : Option Reservation → Option ℕ
-first_of r = option_map (λ (q : Reservation). q.frame) r
-
--- a reservation of more than one frame begins at the frame, and isn't full
-abbrev pub CanBreak : Layout → ℕ → Type 0
-CanBreak l id = IsSomeAnd (record_at l id) (λ r. (0 < r.size) × IsSome (yield_in l.sizes (is_used l.used) r))
+-- the reservation stands in the layout, has more than one frame, and isn't full
+pub record CanBreak (l : Layout) (r : Reservation) : Type 0 where
+  pub stands : record_at l r.frame ≡ Some r
+  pub splits : 0 < r.size
+  pub yields : IsSome (yield_in l.sizes (is_used l.used) r)
 
 -- the layout without the frames of the extent that was found in it
 abbrev pub without_extent : FreeExtent → Layout
@@ -55,11 +53,6 @@ pub record PlacesPage (old new : Layout) (places : Option Placing) (frame broken
 pub record IsPageAt (r : Reservation) (frame page : ℕ) : Type 0 where
   pub has : CoversPage r page
   pub joined : frame_for page r ≡ frame
-
--- it is a reservation of more than this size
-abbrev pub is_larger : ℕ → Option Reservation → Bool
-is_larger size None = false
-is_larger size (Some r) = nat_lt size r.size
 
 -- the extent of a size, where there is the size
 abbrev pub extent_there : ℕ → Layout → Option FreeExtent

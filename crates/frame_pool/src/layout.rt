@@ -1,5 +1,4 @@
 ghost use Rattle.std.specs.Prelude.{◌≡◌, ℕ, Bool, ◌+◌, ◌-◌, ◌%◌, ◌<◌, ◌≤◌, Some, true, false, length, slice_index_or, count_by, IfOk, IfSome, IfNone, IsSomeAnd, None, is_some};
-ghost use Rattle.std.specs.Option.{option_and_then};
 ghost use Rattle.pager_model.specs.Agreement.{has_frame};
 ghost use Rattle.pager_model.specs.Layouts.{start_layout, frame_for, frame_in, parted, parted_free, split_layout, broken_at, to_break, record_at};
 ghost use Rattle.pager_model.specs.Layouts.{carve_layout, narrow_layout, vacate_layout, put_back};
@@ -9,7 +8,7 @@ ghost use Rattle.pager_model.specs.Records.{is_used, part_size, same_size, goes_
 ghost use Rattle.pager_model.specs.RecordPlaces.{IsPlaced};
 ghost use Rattle.reservations.specs.Parts.{told_parts};
 ghost use Rattle.pager_laws.specs.Laid.{IsIn, IsLaid};
-ghost use Rattle.frame_pool.specs.Placed.{CanBreak, extent_there, is_larger, FindsExtent, PlacesPage};
+ghost use Rattle.frame_pool.specs.Placed.{CanBreak, extent_there, FindsExtent, PlacesPage};
 ghost use Rattle.pager_model.specs.Bounds.{most_frames, space_pages, most_spaces};
 
 use crate::free::{give, take};
@@ -217,35 +216,44 @@ impl Layout {
 
     /// Breaks the reservation that begins at the frame `id`.
     fn break_at(&mut self, id: u32)
-        requires { CanBreak self.old id }
+        requires { IfSome (record_at self.old id) (CanBreak self.old) }
         ensures { self.new ≡ broken_at id self.old }
     {
-        let mut part = Some(id);
-        while let Some(next) = part {
-            part = self.split_to_break(next);
+        let mut part = self.reserved.get(id);
+        while let Some(whole) = part {
+            part = self.split_to_break(&whole);
         }
     }
 
-    /// Splits the reservation that begins at the frame `id`, and answers the first frame of the part at which its breaking goes
-    /// on.
-    fn split_to_break(&mut self, id: u32) -> Option<u32>
-        requires { CanBreak self.old id }
-        ensures split { IfSome (record_at self.old id) (λ r. self.new ≡ split_layout r self.old) }
-        ensures next { IfSome (record_at self.old id)
-            (λ r. option_and_then (record_at self.new) result ≡ goes_on_at self.old.sizes (is_used self.old.used) r) }
+    /// Splits the reservation, and answers the part of it at which its breaking goes on.
+    fn split_to_break(&mut self, whole: &Reservation) -> Option<Reservation>
+        requires { CanBreak self.old whole.now }
+        ensures split { self.new ≡ split_layout whole.now self.old }
+        ensures next { result ≡ goes_on_at self.old.sizes (is_used self.old.used) whole.now }
         ensures breaks { IfSome result (CanBreak self.new) }
     {
-        let whole = self.reserved.get(id).unwrap();
-        let yields = self.reserved.yields(id);
-        let size = self.part_size(&whole);
-        self.split_down(id);
+        let yields = self.reserved.yields(whole);
+        let size = self.split_down(whole);
         if size.level() == 0 {
             return None;
         }
         if is_size(&yields, size) {
             return None;
         }
-        self.reserved.lowest_as_wide(&whole, size, yields)
+        self.reserved.lowest_as_wide(whole, size, yields)
+    }
+
+    /// Splits the reservation into its extents of the next smaller size: those with a used place are reservations, and the frames of
+    /// the others are free. Answers this size.
+    fn split_down(&mut self, whole: &Reservation) -> Size
+        requires stands { record_at self.old whole.now.frame ≡ Some whole.now }
+        requires splits { 0 < whole.now.size }
+        ensures split { self.new ≡ split_layout whole.now self.old }
+        ensures size { result ≡ part_size self.old.sizes whole.now }
+    {
+        let size = self.part_size(whole);
+        self.split_to(whole, size);
+        size
     }
 
     /// The size of the parts into which a reservation is split.
@@ -256,58 +264,37 @@ impl Layout {
         self.reserved.sizes().within(whole.size.smaller())
     }
 
-    /// Splits the reservation that begins at the frame `id` into its extents of the next smaller size: those with a used place are
-    /// reservations, and the frames of the others are free.
-    fn split_down(&mut self, id: u32)
-        requires { IsSomeAnd (record_at self.old id) (λ r. 0 < r.size) }
-        ensures { IfSome (record_at self.old id) (λ r. self.new ≡ split_layout r self.old) }
+    /// Splits the reservation into its extents of a smaller size, by eight parts at a time.
+    fn split_to(&mut self, whole: &Reservation, size: Size)
+        requires stands { record_at self.old whole.now.frame ≡ Some whole.now }
+        requires smaller { size < whole.now.size }
+        ensures { self.new ≡ parted size whole.now self.old }
     {
-        let whole = self.reserved.get(id).unwrap();
-        let size = self.part_size(&whole);
-        self.split_to(id, size);
-    }
-
-    /// Splits the reservation that begins at the frame `id` into its extents of a smaller size, by eight parts at a time.
-    fn split_to(&mut self, id: u32, size: Size)
-        requires { IsSomeAnd (record_at self.old id) (λ r. size < r.size) }
-        ensures { IfSome (record_at self.old id) (λ r. self.new ≡ parted size r self.old) }
-    {
-        let whole = self.reserved.get(id).unwrap();
         // Where no size between them is left out, its eight parts are of this size.
         if whole.size.level() == size.level() + 1 {
-            self.split(id);
+            self.split(whole);
             return;
         }
-        let end = id + whole.size.pages();
-        let mut next = id;
+        // Named so that the proof sees that the reservation ends within the frames.
+        let _ = &self.free;
+        let end = whole.frame + whole.size.pages();
+        let mut next = whole.frame;
         while next < end {
-            if self.is_larger(next, size) {
-                self.split(next);
-            } else {
-                next += size.pages();
+            match self.reserved.get(next) {
+                Some(part) if part.size.level() > size.level() => self.split(&part),
+                _ => next += size.pages(),
             }
         }
     }
 
-    /// Whether a reservation of more than this size begins at the frame.
-    fn is_larger(&self, frame: u32, size: Size) -> bool
-        ensures { result ≡ is_larger size (record_at self.now frame) }
+    /// Splits the reservation into its eight parts: those with a used place are reservations, and the frames of the others are free.
+    fn split(&mut self, whole: &Reservation)
+        requires stands { record_at self.old whole.now.frame ≡ Some whole.now }
+        requires splits { 0 < whole.now.size }
+        ensures { self.new ≡ parted (whole.now.size - 1) whole.now self.old }
     {
-        match self.reserved.get(frame) {
-            Some(reservation) => reservation.size.level() > size.level(),
-            None => false,
-        }
-    }
-
-    /// Splits the reservation that begins at the frame `id` into its eight parts: those with a used place are reservations, and
-    /// the frames of the others are free.
-    fn split(&mut self, id: u32)
-        requires { IsSomeAnd (record_at self.old id) (λ r. 0 < r.size) }
-        ensures { IfSome (record_at self.old id) (λ r. self.new ≡ parted (r.size - 1) r self.old) }
-    {
-        let whole = self.reserved.get(id).unwrap();
-        let parts = self.reserved.split(id);
-        give_parts(&mut self.free, &whole, &parts);
+        let parts = self.reserved.split(whole);
+        give_parts(&mut self.free, whole, &parts);
     }
 
     /// The used frame is a used place no more, and where its reservation has no other used place, all its frames are free.
@@ -338,7 +325,7 @@ impl Layout {
     {
         let mut part = self.reservation_of(frame).unwrap();
         while part.size.level() > 0 {
-            self.split_down(part.frame);
+            self.split_down(&part);
             part = self.reservation_of(frame).unwrap();
         }
     }

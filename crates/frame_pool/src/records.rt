@@ -1,7 +1,7 @@
-ghost use Rattle.std.specs.Prelude.{◌≡◌, Some, true, IsSome, IfSome};
+ghost use Rattle.std.specs.Prelude.{◌≡◌, ◌<◌, ◌≤◌, Some, true, IsSome, IfSome};
 ghost use Rattle.pager_model.specs.Agreement.{has_frame};
 ghost use Rattle.pager_model.specs.Extents.{IsExtent};
-ghost use Rattle.pager_model.specs.Records.{is_used, yield_in};
+ghost use Rattle.pager_model.specs.Records.{is_used, yield_in, part_at, part_count};
 ghost use Rattle.reservations.specs.Kept.{reservation_at};
 ghost use Rattle.frame_pool.specs.Placed.{IsPageAt};
 
@@ -24,4 +24,20 @@ pub(crate) fn page_at(reservation: &Reservation, frame: u32) -> u32
     ensures { IsPageAt reservation.now frame result }
 {
     reservation.first + (frame - reservation.frame)
+}
+
+/// The `i`-th of the reservation's parts of a size.
+pub(crate) fn part_at(whole: &Reservation, size: Size, i: u32) -> Reservation
+    requires smaller { size ≤ whole.now.size }
+    requires frames { IsExtent whole.now.size whole.now.frame }
+    requires pages { IsExtent whole.now.size whole.now.first }
+    requires one { i < part_count size whole.now }
+    ensures { result ≡ part_at size whole.now i }
+{
+    let mut part = *whole;
+    let before = i * size.pages();
+    part.first += before;
+    part.frame += before;
+    part.size = size;
+    part
 }

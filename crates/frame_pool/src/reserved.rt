@@ -8,13 +8,13 @@ ghost use Rattle.pager_model.specs.RecordPlaces.{IsPlaced};
 ghost use Rattle.pager_laws.specs.Laid.{IsLaid};
 ghost use Rattle.reservations.specs.Kept.{CoversPage};
 ghost use Rattle.reservations.specs.Parts.{told_parts};
-ghost use Rattle.frame_pool.specs.Placed.{first_of, with_reservation};
+ghost use Rattle.frame_pool.specs.Placed.{with_reservation};
 ghost use Rattle.frame_pool.specs.ReservedChanges.{Vacates, none_reserved, with_free};
 ghost use Rattle.pager_model.specs.Bounds.{most_frames, space_pages, most_spaces};
 
 use crate::lists::{delist, enlist, enlist_parts, relist};
 use crate::mapped;
-use crate::records::{page_at, yields_in};
+use crate::records::{page_at, part_at, yields_in};
 use pager_model::{Extent, MOST_SPACES, NoMemory, Reservation, Size, Sizes, Want};
 use population_map::PopulationMap;
 use reservation_lists::Lists;
@@ -191,32 +191,32 @@ impl Reserved {
         self.lists.first_oldest(size)
     }
 
-    /// The yield of the reservation that begins at the frame `id`.
-    pub(crate) fn yields(&self, id: u32) -> Option<Size>
-        requires { IsSome (record_at self.now id) }
-        ensures { IfSome (record_at self.now id) (λ r. result ≡ yield_in self.now.sizes (is_used self.now.used) r) }
+    /// The yield of the reservation.
+    pub(crate) fn yields(&self, whole: &Reservation) -> Option<Size>
+        requires { record_at self.now whole.now.frame ≡ Some whole.now }
+        ensures { result ≡ yield_in self.now.sizes (is_used self.now.used) whole.now }
     {
-        yields_in(&self.reservations, self.sizes, id)
+        yields_in(&self.reservations, self.sizes, whole.frame)
     }
 
-    /// The first frame of the lowest of the parts of a size of a reservation that has this yield, where each is a reservation.
+    /// The lowest of the parts of a size of a reservation that has this yield, where each is a reservation.
     pub(crate) fn lowest_as_wide(
         &self,
         whole: &Reservation,
         size: Size,
         yields: Option<Size>,
-    ) -> Option<u32>
+    ) -> Option<Reservation>
         requires splits { size < whole.now.size }
-        requires aligned { IsExtent whole.now.size whole.now.frame }
+        requires frames { IsExtent whole.now.size whole.now.frame }
+        requires pages { IsExtent whole.now.size whole.now.first }
         requires parts { (i : ℕ) → i < part_count size whole.now → record_at self.now (part_at size whole.now i).frame ≡ Some (part_at size whole.now i) }
         requires yields { yields ≡ yield_in self.now.sizes (is_used self.now.used) whole.now }
-        ensures { result ≡ first_of (option_map (part_at size whole.now) (lowest_as_wide self.now.sizes size (is_used self.now.used) whole.now)) }
+        ensures { result ≡ option_map (part_at size whole.now) (lowest_as_wide self.now.sizes size (is_used self.now.used) whole.now) }
     {
-        let pages = size.pages();
-        for i in 0..whole.size.pages() / pages {
-            let first = whole.frame + i * pages;
-            if self.yields(first) == yields {
-                return Some(first);
+        for i in 0..whole.size.pages() / size.pages() {
+            let part = part_at(whole, size, i);
+            if self.yields(&part) == yields {
+                return Some(part);
             }
         }
         None
@@ -276,19 +276,19 @@ impl Reserved {
         None
     }
 
-    /// Splits the reservation that begins at the frame `id` into its eight parts: those with a used place are reservations, and the
-    /// frames of the others are in none.
-    pub(crate) fn split(&mut self, id: u32) -> [Part; 8]
-        requires { IsSomeAnd (record_at self.old id) (λ r. 0 < r.size) }
-        ensures parts { IfSome (record_at self.old id) (λ r. result ≡ told_parts (is_used self.old.used) r) }
-        ensures split { IfSome (record_at self.old id)
-            (λ r. self.new ≡ record self.old { records = parted_records (r.size - 1) (is_used self.old.used) r self.old.records }) }
+    /// Splits the reservation into its eight parts: those with a used place are reservations, and the frames of the others are in none.
+    pub(crate) fn split(&mut self, whole: &Reservation) -> [Part; 8]
+        requires stands { record_at self.old whole.now.frame ≡ Some whole.now }
+        requires splits { 0 < whole.now.size }
+        ensures parts { result ≡ told_parts (is_used self.old.used) whole.now }
+        ensures split { self.new ≡ record self.old {
+          records = parted_records (whole.now.size - 1) (is_used self.old.used) whole.now self.old.records;
+        } }
     {
-        let whole = self.reservations.get(id).unwrap();
-        self.lists.remove(id);
-        let parts = self.reservations.split(id);
-        enlist_parts(&mut self.lists, &self.reservations, self.sizes, &whole);
-        mapped::split(&mut self.map, &whole, &parts);
+        self.lists.remove(whole.frame);
+        let parts = self.reservations.split(whole.frame);
+        enlist_parts(&mut self.lists, &self.reservations, self.sizes, whole);
+        mapped::split(&mut self.map, whole, &parts);
         parts
     }
 }

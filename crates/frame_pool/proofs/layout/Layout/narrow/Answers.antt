@@ -1,5 +1,5 @@
-use Rattle.std.proofs.Common.{◌≡◌, ◌∙◌, ◌<◌, refl, sym, ap, arith}
-use Rattle.pager_model.specs.Layouts.{split_layout, narrows_to, narrow_layout, split_on, record_at}
+use Rattle.std.proofs.Common.{◌≡◌, ◌∙◌, refl, sym, ap, arith}
+use Rattle.pager_model.specs.Layouts.{narrows_to, narrow_layout, split_on, record_at}
 use Rattle.pager_model.proofs.Options.{IfSome-from}
 use Rattle.frame_pool.proofs.LayoutInOrder.{narrow_step, only_frame, reservation_is, same_reservation}
 use Rattle.pager_laws.proofs.LayoutBreak.{Settles-split}
@@ -14,36 +14,30 @@ loop-part-init c =
     let found = rw c.unwrap-part.ensures at c.reservation_of.ensures.found in
     record { laid = c.reservation_of.ensures.laid; stands = found.0; has = found.1; used = c.requires; narrows = refl }
 
-pub split_down-requires : goal.split_down-requires
-split_down-requires c = rw c.loop-part.invariant.stands (omega (arith, c.loop-part-test.true, c.level.ensures.level))
+pub split_down-requires-clause-splits : goal.split_down-requires-clause-splits
+split_down-requires-clause-splits c = omega (arith, c.loop-part-test.true, c.level.ensures.level)
 
 pub unwrap-part-requires-in-loop-part : goal.unwrap-part-requires-in-loop-part
 unwrap-part-requires-in-loop-part c =
-    let was = c.loop-part.invariant in
-    let split : c.split_down.new.self ≡ split_layout c.loop-part.part c.loop-part.self = rw was.stands at c.split_down.ensures in
     reservation_is c.split_down.new.self c.args.frame c.reservation_of-in-loop-part.result c.reservation_of-in-loop-part.ensures.laid
-    (rw split was.used) c.reservation_of-in-loop-part.ensures.none
+    (rw c.split_down.ensures.split c.loop-part.invariant.used) c.reservation_of-in-loop-part.ensures.none
 
 pub loop-part-smaller : goal.loop-part-smaller
 loop-part-smaller c =
     let was = c.loop-part.invariant in
     let r = c.loop-part.part in
-    let splits : 0 < r.size = omega (arith, c.loop-part-test.true, c.level.ensures.level) in
-    let split : c.split_down.new.self ≡ split_layout r c.loop-part.self = rw was.stands at c.split_down.ensures in
-    let found = rw (c.unwrap-part-in-loop-part.ensures, split) at c.reservation_of-in-loop-part.ensures.found in
-    (narrow_step c.loop-part.self c.args.frame r c.unwrap-part-in-loop-part.result was.laid was.stands was.has was.used splits found.0 found.1).0
+    let found = rw (c.unwrap-part-in-loop-part.ensures, c.split_down.ensures.split) at c.reservation_of-in-loop-part.ensures.found in
+    (narrow_step c.loop-part.self c.args.frame r c.unwrap-part-in-loop-part.result was.laid was.stands was.has was.used
+    (omega (arith, c.loop-part-test.true, c.level.ensures.level)) found.0 found.1).0
 
 pub loop-part-preserved : goal.loop-part-preserved
 loop-part-preserved c =
     let was = c.loop-part.invariant in
     let r = c.loop-part.part in
-    let frame = c.args.frame in
-    let q = c.unwrap-part-in-loop-part.result in
-    let splits : 0 < r.size = omega (arith, c.loop-part-test.true, c.level.ensures.level) in
-    let split : c.split_down.new.self ≡ split_layout r c.loop-part.self = rw was.stands at c.split_down.ensures in
-    let found = rw (c.unwrap-part-in-loop-part.ensures, split) at c.reservation_of-in-loop-part.ensures.found in
-    let step = narrow_step c.loop-part.self frame r q was.laid was.stands was.has was.used splits found.0 found.1 in
-    rw split (record {
+    let found = rw (c.unwrap-part-in-loop-part.ensures, c.split_down.ensures.split) at c.reservation_of-in-loop-part.ensures.found in
+    let step = narrow_step c.loop-part.self c.args.frame r c.unwrap-part-in-loop-part.result was.laid was.stands was.has was.used
+    (omega (arith, c.loop-part-test.true, c.level.ensures.level)) found.0 found.1 in
+    rw c.split_down.ensures.split (record {
       laid = (Settles-split c.loop-part.self r.frame r was.laid was.stands).laid;
       stands = found.0;
       has = found.1;

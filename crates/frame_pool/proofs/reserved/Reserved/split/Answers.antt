@@ -1,4 +1,4 @@
-use Rattle.std.proofs.Common.{◌≡◌, ◌∙◌, ◌<◌, ◌-◌, Some, false, refl, sym, ap, arith}
+use Rattle.std.proofs.Common.{◌≡◌, ◌∙◌, ◌-◌, Some, false, refl, sym, ap, arith}
 use Rattle.std.proofs.lemmas.List.{length-replicate}
 use Rattle.pager_model.specs.Layouts.{parted, record_at}
 use Rattle.pager_model.specs.Records.{is_used, parted_records, split_records}
@@ -15,30 +15,27 @@ use Rattle.frame_pool.proofs.reserved.Reserved.split.Goals as goal
 use Rattle.frame_pool.proofs.reserved.Reserved.split.Goals.{After-split-parts, After-enlist_parts}
 
 -- the reservation stood
-stood : (c : After-split-parts) → record_at (reserved_in c.self.inside) c.args.id ≡ Some c.unwrap-whole.result
-stood c = sym c.get.ensures.record ∙ c.unwrap-whole.ensures
+stood : (c : After-split-parts) → record_at (reserved_in c.self.inside) c.args.whole.now.frame ≡ Some c.args.whole.now
+stood c = rw (← c.self.view_is) at c.requires.stands
 
 -- and was split into its eight parts
 split : (c : After-split-parts)
     → c.split-parts.new.self.records ≡ split_records
-    (is_used c.self.inside.reservations.used) c.unwrap-whole.result c.self.inside.reservations.records
+    (is_used c.self.inside.reservations.used) c.args.whole.now c.self.inside.reservations.records
 split c = rw (stood c) at c.split-parts.ensures.records
 
 eight : (c : After-split-parts)
-    → c.split-parts.new.self.records ≡ parted_records (c.unwrap-whole.result.size - 1)
-    (is_used c.self.inside.reservations.used) c.unwrap-whole.result c.self.inside.reservations.records
-eight c =
-    let some = rw (← c.self.view_is) at c.requires in
-    let splits : 0 < c.unwrap-whole.result.size = rw (stood c) at some in
-    split c ∙ sym (parted_records-eight
-    (is_used c.self.inside.reservations.used) c.unwrap-whole.result c.self.inside.reservations.records splits)
+    → c.split-parts.new.self.records ≡ parted_records (c.args.whole.now.size - 1)
+    (is_used c.self.inside.reservations.used) c.args.whole.now c.self.inside.reservations.records
+eight c = split c ∙ sym (parted_records-eight
+    (is_used c.self.inside.reservations.used) c.args.whole.now c.self.inside.reservations.records c.requires.splits)
 
 pub remove-requires : goal.remove-requires
 remove-requires c =
-    let stands = sym c.get.ensures.record ∙ c.unwrap-whole.ensures in
+    let stands = rw (← c.self.view_is) at c.requires.stands in
     record {
       known = known_to_lists
-          (reserved_in c.self.inside) c.args.id c.unwrap-whole.result c.self.invariant.laid stands c.self.inside.lists c.self.inside.map c.self.invariant;
+          (reserved_in c.self.inside) _ c.args.whole.now c.self.invariant.laid stands c.self.inside.lists c.self.inside.map c.self.invariant;
     }
 
 pub enlist_parts-requires-clause-split : goal.enlist_parts-requires-clause-split
@@ -46,16 +43,16 @@ enlist_parts-requires-clause-split c =
     let w = (goal.at.enlist_parts-requires-clause-split c).After-split-parts in
     let was = c.self.invariant in
     rw c.remove.ensures
-    (WasSplit-from (reserved_in c.self.inside) c.args.id c.unwrap-whole.result was.laid (stood w) c.self.inside.lists c.split-parts.new.self
+    (WasSplit-from (reserved_in c.self.inside) c.args.whole.now.frame c.args.whole.now was.laid (stood w) c.self.inside.lists c.split-parts.new.self
     (sym was.known ∙ sym was.laid.records_long) was.listed (split w) c.split-parts.ensures.used)
 
 -- and told of them
-told : (c : After-split-parts) → c.split-parts.result ≡ told_parts (is_used c.self.inside.reservations.used) c.unwrap-whole.result
+told : (c : After-split-parts) → c.split-parts.result ≡ told_parts (is_used c.self.inside.reservations.used) c.args.whole.now
 told c = rw (stood c) at c.split-parts.ensures.parts
 
 was_split : (c : After-split-parts)
-    → WasSplitFrom c.self.inside.map c.split-parts.new.self.records c.split-parts.result c.unwrap-whole.result
-was_split c = WasSplitFrom-left (reserved_in c.self.inside) c.args.id c.unwrap-whole.result c.self.invariant.laid
+    → WasSplitFrom c.self.inside.map c.split-parts.new.self.records c.split-parts.result c.args.whole.now
+was_split c = WasSplitFrom-left (reserved_in c.self.inside) c.args.whole.now.frame c.args.whole.now c.self.invariant.laid
     (stood c) c.self.inside.map c.split-parts.new.self.records c.split-parts.result c.self.invariant.mapped (split c) (told c)
 
 pub split-requires-clause-split : goal.split-requires-clause-split
@@ -70,9 +67,9 @@ invariant_of-self c =
     let w = (goal.at.invariant_of-self c).After-split-parts in
     let l = reserved_in c.self.inside in
     let was = c.self.invariant in
-    let r = c.unwrap-whole.result in
+    let r = c.args.whole.now in
     let same = room (goal.at.invariant_of-self c).After-enlist_parts in
-    let settles = Settles-parted (r.size - 1) l c.args.id r was.laid (stood w) (omega arith) in
+    let settles = Settles-parted (r.size - 1) l r.frame r was.laid (stood w) (omega arith) in
     rw (eight w, c.split-parts.ensures.used) (record {
       known = length-replicate c.enlist_parts.new.lists.frames false;
       few = omega (arith, same, was.few);
@@ -84,4 +81,4 @@ invariant_of-self c =
 pub returns-clause-split : goal.returns-clause-split
 returns-clause-split c =
     let w = (goal.at.returns-clause-split c).After-split-parts in
-    rw (room (goal.at.returns-clause-split c).After-enlist_parts, ← c.self.view_is, stood w, eight w, c.split-parts.ensures.used) refl
+    rw (room (goal.at.returns-clause-split c).After-enlist_parts, ← c.self.view_is, eight w, c.split-parts.ensures.used) refl
