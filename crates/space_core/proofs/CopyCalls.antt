@@ -2,6 +2,7 @@
 use Rattle.std.proofs.Common.{◌≡◌, ◌≢◌, ℕ, Bool, true, false, ◌&&◌, ◌==◌, if◌then◌else◌, not, List, Option, Some, None, is_some, option_map, ◌<◌, refl, sym, ap, ◌∙◌, subst}
 use Rattle.std.proofs.lemmas.Bool.{cond-true, not-true, false≢true}
 use Rattle.std.proofs.lemmas.Option.{none-some, same_Some}
+use Rattle.pager_model.specs.Bounds.{space_pages}
 use Rattle.pager_model.specs.declared.call.Call.{Call}
 use Rattle.pager_model.specs.declared.call.Call.TheVariants.{Sync, Evict}
 use Rattle.pager_model.specs.declared.entry.What.TheVariants.{Answer}
@@ -272,7 +273,7 @@ pub record PagesOut (old new : Kept) (page : ℕ) : Type 0 where
   pub still : Still old new
 
 -- the page's copy is saved, and the page gives its frame up next
-pub begins_evicting : (old mid new : Kept) (page : ℕ) (written : Bool) → IsResting old → page < 1048576
+pub begins_evicting : (old mid new : Kept) (page : ℕ) (written : Bool) → IsResting old → page < space_pages
     → is_unwired (region_at old.regions page) ≡ true → frame_at old page ≢ None → Saves old mid page written → PagesOut mid new page
     → BeginsEvicting old new (Evict old.number page) page
 begins_evicting old mid new page written resting in_space unwired resident saves outs =

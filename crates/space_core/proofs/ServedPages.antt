@@ -3,6 +3,7 @@ use Rattle.std.proofs.Common.{◌≡◌, ◌≢◌, ℕ, ◌+◌, ◌<◌, ◌�
 use Rattle.std.proofs.lemmas.Bool.{cases_Bool, cases_eq, and_parts, and_right, cond-true, cond-false, true≢false, eq-eqb, ne_eqb}
 use Rattle.std.proofs.lemmas.Bool.Decides.{nat_tests}
 use Rattle.std.proofs.lemmas.Option.{none-some, same_Some}
+use Rattle.pager_model.specs.Bounds.{space_pages}
 use Rattle.pager_model.specs.declared.call.Call.{Call}
 use Rattle.pager_model.specs.declared.call.Call.TheVariants.{Load, Store}
 use Rattle.pager_model.specs.declared.entry.Want.{Want}
@@ -216,7 +217,7 @@ IsKeptAt kept scan = IsKept kept.regions kept.table kept.pending kept.clearing s
 
 -- where no range is being cleared, any page may get a frame
 pub placed_kept : (old : Kept) (u : Table) (page scan : ℕ) (m : Mapping) → IsKeptAt old scan → Maps page (Some m) old.table u
-    → page < 1048576
+    → page < space_pages
     → old.clearing ≡ None → m.dirty ≡ false → IsMapped old.regions old.table page m
     → IsKeptAt (record old { table = u; pending = Some page }) scan
 placed_kept old u page scan m k moves in_space none unwritten is =

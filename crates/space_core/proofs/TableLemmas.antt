@@ -3,6 +3,7 @@
 use Rattle.std.proofs.Common.{◌≡◌, ◌≢◌, ℕ, ◌<◌, ◌≤◌, true, false, ◌==◌, ◌&&◌, if◌then◌else◌, List, Bool, Option, Some, None, length, replicate, slice_index_or, slice_set, option_map, refl, sym, ap, ap₂, inl, inr, ◌∙◌, arith, subst, IfSome, IfNone}
 use Rattle.std.specs.Option.{option_and_then, IfSome, IfNone}
 use Rattle.std.proofs.lemmas.Bool.{cases_eq, cond-true, cond-false, eq-eqb, ne_eqb}
+use Rattle.pager_model.specs.Bounds.{most_frames}
 use Rattle.pager_model.specs.Regions.{in_range}
 use Rattle.std.proofs.lemmas.List.{get_or-set_other, get_or-set_same, length-set, length-replicate}
 use Rattle.std.proofs.lemmas.Option.{none-some, same_Some}
@@ -517,7 +518,7 @@ module _ (t : Table) (frames : ℕ) (nothing : HasNothing t frames) where
         none_own = λ p. own_in-is t p ∙ nothing.own p;
       }
 
-  pub fresh_paged : frames ≤ 32768 → IsPaged t
+  pub fresh_paged : frames ≤ most_frames → IsPaged t
   fresh_paged few =
       record {
         count = nothing.count ∙ sym place_count;

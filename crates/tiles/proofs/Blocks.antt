@@ -2,6 +2,7 @@
 use Rattle.std.proofs.Common.{◌≡◌, ◌≢◌, ℕ, zero, suc, ◌+◌, ◌-◌, ◌*◌, ◌/◌, ◌%◌, ◌^◌, ◌<◌, ◌≤◌, Bool, true, false, eqb, ltb, if◌then◌else◌, ◌&&◌, nat_le, nat_lt, Option, Some, None, option_map, refl, sym, ap, inl, inr, ◌∙◌, arith}
 use Rattle.std.proofs.lemmas.Bool.{and_from, cases_eq, cases_lt, eq-eqb, le-leb, lt-ltb, ne_eqb}
 use Rattle.std.proofs.lemmas.Bool.Decides.{nat_tests}
+use Rattle.pager_model.specs.Bounds.{space_pages}
 use Rattle.pager_model.specs.declared.page_range.PageRange.{PageRange}
 use Rattle.pager_model.specs.declared.region.Rights.{Rights}
 use Rattle.pager_model.specs.declared.tile.Mapping.{Mapping}
@@ -310,12 +311,12 @@ count_eight z old new from i whole =
 -- the moves of a block are all
 count_block : (z : SizeSet) (old new : ℕ → Option Mapping) (block : ℕ) → block < 2048 → OutsideSame block old new
     → count (is_promoted_in z old new) (block * 512) 512 ≡ promotions_in z old new
-count_block z old new block known outside = at 1048576 refl
+count_block z old new block known outside = at space_pages refl
   where
     none : (q : ℕ) → q / 512 ≢ block → is_promoted_in z old new q ≡ false
     none q apart = none_grown z old new q (omega (arith, local_by z old new q (λ p joined. outside p (λ e. apart (sym joined ∙ e)))))
 
-    at : (many : ℕ) → many ≡ 1048576 → count (is_promoted_in z old new) (block * 512) 512 ≡ promotions_in z old new
+    at : (many : ℕ) → many ≡ space_pages → count (is_promoted_in z old new) (block * 512) 512 ≡ promotions_in z old new
     at many e =
         let f = is_promoted_in z old new in
         let rest = many - (block * 512 + 512) in
@@ -384,9 +385,9 @@ one_most true = omega arith
 one_most false = omega arith
 
 -- a count of the pages of a range
-pub count_in_range : (f : ℕ → Bool) (first len : ℕ) → first + len ≤ 1048576
+pub count_in_range : (f : ℕ → Bool) (first len : ℕ) → first + len ≤ space_pages
     → count_pages (λ p. in_range first len p && f p) ≡ count f first len
-count_in_range f first len known = at 1048576 refl
+count_in_range f first len known = at space_pages refl
   where
     g : ℕ → Bool
     g p = in_range first len p && f p
@@ -400,7 +401,7 @@ count_in_range f first len known = at 1048576 refl
     past : (p : ℕ) → first + len ≤ p → (in_range first len p && f p) ≡ false
     past p high = let t : in_range first len p ≡ false = grind (arith, nat_tests) in ap (λ b. b && f p) t
 
-    at : (many : ℕ) → many ≡ 1048576 → count_pages (λ p. in_range first len p && f p) ≡ count f first len
+    at : (many : ℕ) → many ≡ space_pages → count_pages (λ p. in_range first len p && f p) ≡ count f first len
     at many e =
         let h : ℕ → Bool = λ p. in_range first len p && f p in
         let rest = many - (first + len) in

@@ -2,6 +2,7 @@
 use Rattle.std.proofs.Common.{◌≡◌, ℕ, zero, suc, ◌-◌, ◌/◌, ◌^◌, ◌<◌, ◌≤◌, cond, eqb, length, List, [], ◌∷◌, Option, Some, None, inl, inr, refl, sym, ap, ◌∙◌, arith}
 use Rattle.std.specs.List.{slice_index}
 use Rattle.std.proofs.lemmas.Bool.{cases_eq, eq-eqb, ne_eqb}
+use Rattle.pager_model.specs.Bounds.{space_pages}
 use Rattle.pager_model.specs.declared.extent.Extent.{Extent}
 use Rattle.pager_model.specs.declared.tile.Mapping.{Mapping}
 use Rattle.pager_model.specs.Extents.{IsExtent}
@@ -20,7 +21,7 @@ Given m extent entries = (page : ℕ) → page / 8 ^ extent.size ≡ extent.firs
 -- An entry is there: each page of its extent has it.
 pub record IsThere (m : Arena Mapping) (entry : TableEntry) : Type 0 where
   pub extent : IsExtent entry.extent.size entry.extent.first
-  pub in_space : entry.extent.first < 1048576
+  pub in_space : entry.extent.first < space_pages
   pub given : Given m entry.extent (λ _. Some entry)
 
 pub is_there : (m : Arena Mapping) (entry : TableEntry) → IsKept m → entry_at m entry.extent.first ≡ Some entry → IsThere m entry
@@ -78,7 +79,7 @@ pub none_counts : (m : Arena Mapping) → ((page : ℕ) → entry_at m page ≡ 
 none_counts m none = record { four = refl; each = λ size low. zeros size low ∙ sym (count_none m size none) }
 
 pub put_counts : (old new : Arena Mapping) (entry : TableEntry) (counts after : List ℕ) → IsExtent entry.extent.size entry.extent.first
-    → entry.extent.first < 1048576 → Given old entry.extent (λ _. None) → Maps entry.extent (λ _. Some entry) old new
+    → entry.extent.first < space_pages → Given old entry.extent (λ _. None) → Maps entry.extent (λ _. Some entry) old new
     → AreCounts counts old → Grows entry.extent.size 1 counts after → AreCounts after new
 put_counts old new entry counts after is within none maps before grows = record {
   four = grows.same_length ∙ before.four;
@@ -94,7 +95,7 @@ put_counts old new entry counts after is within none maps before grows = record 
 }
 
 pub replace_counts : (old new : Arena Mapping) (entry before : TableEntry) (counts : List ℕ) → IsExtent entry.extent.size entry.extent.first
-    → entry.extent.first < 1048576 → before.extent ≡ entry.extent → Given old entry.extent (λ _. Some before)
+    → entry.extent.first < space_pages → before.extent ≡ entry.extent → Given old entry.extent (λ _. Some before)
     → Maps entry.extent (λ _. Some entry) old new
     → AreCounts counts old → AreCounts counts new
 replace_counts old new entry before counts is within e there maps are = record {
@@ -142,7 +143,7 @@ split_counts old new entry counts between after large there maps before shrinks 
 }
 
 pub join_counts : (old new : Arena Mapping) (entry : TableEntry) (counts between after : List ℕ) → 0 < entry.extent.size
-    → IsExtent entry.extent.size entry.extent.first → entry.extent.first < 1048576
+    → IsExtent entry.extent.size entry.extent.first → entry.extent.first < space_pages
     → Given old entry.extent (λ page. Some (part_of entry page))
     → Maps entry.extent (λ _. Some entry) old new → AreCounts counts old → Grows (entry.extent.size - 1) 8 between counts
     → Grows entry.extent.size 1 between after → AreCounts after new
@@ -175,7 +176,7 @@ one_there m entry counts there are =
     )
 
 pub eight_there : (m : Arena Mapping) (entry : TableEntry) (counts : List ℕ) → 0 < entry.extent.size
-    → IsExtent entry.extent.size entry.extent.first → entry.extent.first < 1048576
+    → IsExtent entry.extent.size entry.extent.first → entry.extent.first < space_pages
     → Given m entry.extent (λ page. Some (part_of entry page)) → AreCounts counts m
     → 8 ≤ slice_index counts (entry.extent.size - 1)
 eight_there m entry counts large is within there are =
@@ -188,11 +189,11 @@ eight_there m entry counts large is within there are =
       ap (λ b. cond {A = ℕ} b 8 0) (eq-eqb size size refl),
     )
 
-pub few : (m : Arena Mapping) (counts : List ℕ) (size : ℕ) → size ≤ 3 → AreCounts counts m → slice_index counts size ≤ 1048576
+pub few : (m : Arena Mapping) (counts : List ℕ) (size : ℕ) → size ≤ 3 → AreCounts counts m → slice_index counts size ≤ space_pages
 few m counts size low are = omega (arith, are.each size low, count_most m size)
 
 pub few_between : (m : Arena Mapping) (counts between : List ℕ) (part entries size : ℕ) → size ≤ 3 → AreCounts counts m
-    → Grows part entries between counts → slice_index between size ≤ 1048576
+    → Grows part entries between counts → slice_index between size ≤ space_pages
 few_between m counts between part entries size low are shrinks = omega (arith, few m counts size low are, shrinks.each size)
 
 pub are_four : (counts : List ℕ) (a b c d : ℕ) → length counts ≡ 4 → slice_index counts 0 ≡ a → slice_index counts 1 ≡ b

@@ -2,6 +2,7 @@
 use Rattle.std.proofs.Common.{◌≡◌, ◌≢◌, ℕ, zero, suc, ◌+◌, ◌<◌, ◌≤◌, Bool, false, cond, eqb, ◌&&◌, inl, inr, refl, sym, ap, ◌∙◌, arith}
 use Rattle.std.specs.List.{range_with_len, count_by}
 use Rattle.std.proofs.lemmas.Bool.{cases_eq, eq-eqb, ne_eqb}
+use Rattle.pager_model.specs.Bounds.{space_pages}
 use Rattle.pager_model.specs.Tiles.{count_pages}
 use Rattle.pager_model.proofs.CountLemmas as general
 use Rattle.pager_model.proofs.CountLemmas.{weight, count-agree}
@@ -23,7 +24,7 @@ unfolding count
 count-suc f from many = general.count-suc f from many
 
 -- the pages of a space
-pub count_pages-is : (f : ℕ → Bool) (many : ℕ) → many ≡ 1048576 → count_pages f ≡ count f 0 many
+pub count_pages-is : (f : ℕ → Bool) (many : ℕ) → many ≡ space_pages → count_pages f ≡ count f 0 many
 unfolding count_pages count
 count_pages-is f many e = ap (λ n. count_by f (range_with_len 0 n)) (sym e)
 
@@ -88,22 +89,22 @@ count-at a flag from (suc many) low high = elim (cases_eq from a) [
     other : (n : ℕ) → n ≢ a → (eqb n a && flag) ≡ false
     other n apart = ap (λ b. b && flag) (ne_eqb n a apart)
 
-pub count_pages_at : (a : ℕ) (flag : Bool) → a < 1048576 → count_pages (λ q. eqb q a && flag) ≡ cond flag 1 0
-count_pages_at a flag within = at 1048576 refl
+pub count_pages_at : (a : ℕ) (flag : Bool) → a < space_pages → count_pages (λ q. eqb q a && flag) ≡ cond flag 1 0
+count_pages_at a flag within = at space_pages refl
   where
-    at : (many : ℕ) → many ≡ 1048576 → count_pages (λ q. eqb q a && flag) ≡ cond flag 1 0
+    at : (many : ℕ) → many ≡ space_pages → count_pages (λ q. eqb q a && flag) ≡ cond flag 1 0
     at many e = count_pages-is (λ q. eqb q a && flag) many e ∙ count-at a flag 0 many (omega arith) (omega arith)
 
 pub count_pages_none : count_pages (λ q. false) ≡ 0
-count_pages_none = at 1048576 refl
+count_pages_none = at space_pages refl
   where
-    at : (many : ℕ) → many ≡ 1048576 → count_pages (λ q. false) ≡ 0
+    at : (many : ℕ) → many ≡ space_pages → count_pages (λ q. false) ≡ 0
     at many e = count_pages-is (λ q. false) many e ∙ count-none (λ q. false) 0 many (λ n low high. refl)
 
-pub count_pages_most : (f : ℕ → Bool) → count_pages f ≤ 1048576
-count_pages_most f = at 1048576 refl
+pub count_pages_most : (f : ℕ → Bool) → count_pages f ≤ space_pages
+count_pages_most f = at space_pages refl
   where
-    at : (many : ℕ) → many ≡ 1048576 → count_pages f ≤ 1048576
+    at : (many : ℕ) → many ≡ space_pages → count_pages f ≤ space_pages
     at many e = omega (arith, count_pages-is f many e, count-most f 0 many)
 
 pub count-sum : (f g h : ℕ → Bool) (from many : ℕ) → ((n : ℕ) → from ≤ n → n < from + many → weight (f n) ≡ weight (g n) + weight (h n))

@@ -4,6 +4,7 @@ use Rattle.std.specs.Int.{div_ceil}
 use Rattle.std.proofs.Math.Nat.{add-mul, mul-add, mul-div_cancel, mul-mod_left, mul_assoc, suc-mul}
 use Rattle.std.proofs.lemmas.Bool.{and_parts, cases_Bool, cases_eq, eq-eqb, eqb-true, ne_eqb, true≢false}
 use Rattle.std.proofs.lemmas.Bool.Decides.{nat_tests}
+use Rattle.pager_model.specs.Bounds.{space_pages}
 use Rattle.pager_model.specs.declared.tile.Mapping.{Mapping}
 use Rattle.pager_model.specs.SizeSets.{SizeSet, all_sizes, size_within}
 use Rattle.pager_model.specs.Tiles.{begins_at, count_pages, size_at, tile_count_in, tile_in, tile_size_in, tiles_of_size}
@@ -157,7 +158,7 @@ module _ (z : SizeSet) (pages : ℕ → Option Mapping) (level : ℕ) (low : lev
         mul-add many (count firsts 0 blocks) (weight (firsts blocks)),
       )
 
-  space_parts : (all : ℕ) → all ≡ 1048576 → count_pages part ≡ many * count firsts 0 (all / width)
+  space_parts : (all : ℕ) → all ≡ space_pages → count_pages part ≡ many * count firsts 0 (all / width)
   space_parts all e =
       omega (
         arith,
@@ -166,7 +167,7 @@ module _ (z : SizeSet) (pages : ℕ → Option Mapping) (level : ℕ) (low : lev
         blocks_parts (all / width),
       )
     where
-      whole_extents : (k n : ℕ) → k ≤ 3 → n ≡ 1048576 → n / 8 ^ k * 8 ^ k ≡ n
+      whole_extents : (k n : ℕ) → k ≤ 3 → n ≡ space_pages → n / 8 ^ k * 8 ^ k ≡ n
       whole_extents zero n low e = omega arith
       whole_extents (suc zero) n low e = omega arith
       whole_extents (suc (suc zero)) n low e = omega arith
@@ -176,9 +177,9 @@ module _ (z : SizeSet) (pages : ℕ → Option Mapping) (level : ℕ) (low : lev
 -- the tiles of one size have so many parts
 parts_counted : (z : SizeSet) (pages : ℕ → Option Mapping) (level : ℕ) → level ≤ 3
     → count_pages (begins_part z pages level) ≡ 8 ^ (level - size_within z level) * tiles_of_size pages level
-parts_counted z pages level low = at 1048576 refl
+parts_counted z pages level low = at space_pages refl
   where
-    at : (all : ℕ) → all ≡ 1048576 → count_pages (begins_part z pages level) ≡ 8 ^ (level - size_within z level) * tiles_of_size pages level
+    at : (all : ℕ) → all ≡ space_pages → count_pages (begins_part z pages level) ≡ 8 ^ (level - size_within z level) * tiles_of_size pages level
     at all e =
         let many = 8 ^ (level - size_within z level) in
         let wholes = count (firsts all_sizes pages level low) 0 (all / 8 ^ level) in
@@ -198,13 +199,13 @@ module _ (z : SizeSet) (pages : ℕ → Option Mapping) (size level : ℕ) where
 
   step : counted_below z pages size (level + 1) ≡ counted_below z pages size level + count_pages
       (λ page. is_first page && eqb (size_at pages page) level)
-  step = at 1048576 refl
+  step = at space_pages refl
     where
       each : (b : Bool) (s : ℕ) → weight (b && ltb s (level + 1)) ≡ weight (b && ltb s level) + weight (b && eqb s level)
       each true s = grind (arith, nat_tests)
       each false s = refl
 
-      at : (all : ℕ) → all ≡ 1048576 → counted_below z pages size (level + 1) ≡ counted_below z pages size level + count_pages
+      at : (all : ℕ) → all ≡ space_pages → counted_below z pages size (level + 1) ≡ counted_below z pages size level + count_pages
           (λ page. is_first page && eqb (size_at pages page) level)
       at all e =
           omega (
@@ -284,7 +285,7 @@ module _ (z : SizeSet) (pages : ℕ → Option Mapping) (size : ℕ) where
       all true s low = grind (arith, nat_tests)
       all false s low = refl
 
-  pub counted_few : (below : ℕ) → counted_below z pages size below ≤ 1048576
+  pub counted_few : (below : ℕ) → counted_below z pages size below ≤ space_pages
   counted_few below = count_pages_most (begins_below z pages size below)
 
 -- ---- the counts as lists

@@ -2,6 +2,7 @@
 use Rattle.std.proofs.Common.{◌≡◌, ◌≢◌, ℕ, zero, suc, ◌+◌, ◌-◌, ◌*◌, ◌/◌, ◌%◌, ◌^◌, ◌<◌, ◌≤◌, Bool, true, false, ◌||◌, ◌==◌, eqb, List, [], Option, Some, None, is_some, inl, inr, refl, sym, ap, subst, ◌∙◌, arith}
 use Rattle.std.specs.List.{range_with_len, count_by, slice_get}
 use Rattle.std.proofs.lemmas.Bool.{cases_eq, eq-eqb, eqb-true, ne_eqb, or_left, or_right}
+use Rattle.pager_model.specs.Bounds.{space_pages}
 use Rattle.pager_model.specs.declared.extent.Extent.{Extent}
 use Rattle.pager_model.specs.declared.tile.Mapping.{Mapping}
 use Rattle.pager_model.specs.Extents.{IsExtent, extent_start}
@@ -239,7 +240,7 @@ given_row t u entry kept extent alone changes p = elim (cases_eq (p / 8 ^ entry.
 ]
 
 pub put_kept : (t u : Arena Mapping) (entry : TableEntry) → IsKept t → IsExtent entry.extent.size entry.extent.first
-    → entry.extent.first < 1048576
+    → entry.extent.first < space_pages
     → ((p : ℕ) → p / 8 ^ entry.extent.size ≡ entry.extent.first / 8 ^ entry.extent.size → entry_at t p ≡ None)
     → pages_in t + 8 ^ entry.extent.size ≤ frames_in t → ChangesOnly t u entry.extent.size entry.extent.first (Some entry.mapping)
     → SplitsAreRowsBelow u → IsKept u × Maps entry.extent (λ _. Some entry) t u × (pages_in u ≡ pages_in t + 8 ^ entry.extent.size)

@@ -142,7 +142,7 @@ begun_other m extent part size is parts other =
 counted : Arena Mapping → ℕ → ℕ → ℕ
 counted m size pages = count_by (begins_entry m size) (range_with_len 0 pages)
 
-entry_count-is : (m : Arena Mapping) (size pages : ℕ) → pages ≡ 1048576 → entry_count m size ≡ counted m size pages
+entry_count-is : (m : Arena Mapping) (size pages : ℕ) → pages ≡ space_pages → entry_count m size ≡ counted m size pages
 unfolding counted count_pages
 entry_count-is m size pages e = ap (λ n. count_by (begins_entry m size) (range_with_len 0 n)) (sym e)
 
@@ -157,11 +157,11 @@ counted_change old new extent given size pages is within maps =
 
 -- the count of a size changes as that of the extent does
 pub count_change : (old new : Arena Mapping) (extent : Extent) (given : ℕ → Option TableEntry) (size : ℕ) → IsExtent extent.size extent.first
-    → extent.first < 1048576 → Maps extent given old new
+    → extent.first < space_pages → Maps extent given old new
     → entry_count new size + begun_in old extent size ≡ entry_count old size + begun_in new extent size
-count_change old new extent given size is inside maps = over 1048576 refl
+count_change old new extent given size is inside maps = over space_pages refl
   where
-    over : (pages : ℕ) → pages ≡ 1048576 → entry_count new size + begun_in old extent size ≡ entry_count old size + begun_in new extent size
+    over : (pages : ℕ) → pages ≡ space_pages → entry_count new size + begun_in old extent size ≡ entry_count old size + begun_in new extent size
     over pages e =
         omega (
           arith,
@@ -185,11 +185,11 @@ counted_within m extent size pages within =
     )
 
 -- an extent has no more entries of a size than there are
-pub count_within : (m : Arena Mapping) (extent : Extent) (size : ℕ) → IsExtent extent.size extent.first → extent.first < 1048576
+pub count_within : (m : Arena Mapping) (extent : Extent) (size : ℕ) → IsExtent extent.size extent.first → extent.first < space_pages
     → begun_in m extent size ≤ entry_count m size
-count_within m extent size is inside = over 1048576 refl
+count_within m extent size is inside = over space_pages refl
   where
-    over : (pages : ℕ) → pages ≡ 1048576 → begun_in m extent size ≤ entry_count m size
+    over : (pages : ℕ) → pages ≡ space_pages → begun_in m extent size ≤ entry_count m size
     over pages e = omega (arith, entry_count-is m size pages e, counted_within m extent size pages (ends_within extent pages is inside e))
 
 counted_most : (m : Arena Mapping) (size pages : ℕ) → counted m size pages ≤ pages
@@ -197,10 +197,10 @@ unfolding counted
 counted_most m size pages = omega (arith, count_by-le-length (begins_entry m size) (range_with_len 0 pages), length-range_with_len 0 pages)
 
 -- and there are no more entries than pages
-pub count_most : (m : Arena Mapping) (size : ℕ) → entry_count m size ≤ 1048576
-count_most m size = over 1048576 refl
+pub count_most : (m : Arena Mapping) (size : ℕ) → entry_count m size ≤ space_pages
+count_most m size = over space_pages refl
   where
-    over : (pages : ℕ) → pages ≡ 1048576 → entry_count m size ≤ 1048576
+    over : (pages : ℕ) → pages ≡ space_pages → entry_count m size ≤ space_pages
     over pages e = omega (arith, e, entry_count-is m size pages e, counted_most m size pages)
 
 counted_none : (m : Arena Mapping) (size pages : ℕ) → ((page : ℕ) → entry_at m page ≡ None) → counted m size pages ≡ 0
@@ -208,9 +208,9 @@ unfolding counted
 counted_none m size pages none = count-none (begins_entry m size) 0 pages (λ page _ _. ap (is_first_of size page) (none page))
 
 pub count_none : (m : Arena Mapping) (size : ℕ) → ((page : ℕ) → entry_at m page ≡ None) → entry_count m size ≡ 0
-count_none m size none = over 1048576 refl
+count_none m size none = over space_pages refl
   where
-    over : (pages : ℕ) → pages ≡ 1048576 → entry_count m size ≡ 0
+    over : (pages : ℕ) → pages ≡ space_pages → entry_count m size ≡ 0
     over pages e = entry_count-is m size pages e ∙ counted_none m size pages none
 
 -- a page of the space that passes a test is counted

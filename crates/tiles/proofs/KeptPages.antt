@@ -6,6 +6,7 @@ use Rattle.std.proofs.lemmas.Option.{none-some, same_Some}
 use Rattle.tiles.specs.declared.entry.TableEntry.{TableEntry}
 use Rattle.tiles.specs.TableEntries.{entry_at, mapping_at as said_at, mapping_of, pages_in, tile_of_entry, entry_count, is_first_of, AreEntries, IsNextEntry, NoneMapped}
 use Rattle.tiles.proofs.Mappings.{first_is, within}
+use Rattle.pager_model.specs.Bounds.{most_frames, space_pages}
 use Rattle.pager_model.specs.declared.tile.Mapping.{Mapping}
 use Rattle.pager_model.specs.declared.tile.Tile.{Tile}
 use Rattle.pager_model.specs.Tiles.{begins_at, begins_tile, count_pages, moved_by, size_in, tile_of, tiles_of_size}
@@ -87,7 +88,7 @@ no_next r from end (Some e) none = tt
 
 -- ---- nothing is resident
 
-pub fresh_kept : (r : Resident) → ((p : ℕ) → entry_at r p ≡ None) → frames_in r ≤ 32768 → ArePages r
+pub fresh_kept : (r : Resident) → ((p : ℕ) → entry_at r p ≡ None) → frames_in r ≤ most_frames → ArePages r
 fresh_kept r empty few = record {
   tiles = record {
     entries = record {
@@ -155,10 +156,10 @@ module _ (r : Resident) (kept : ArePages r) (page : ℕ) (given : Mapping) (abse
       sums a b c framed mapped other = omega (arith, ap (λ x. weight (x || c)) framed, ap weight mapped, ap (λ x. weight (x && true)) other)
 
   -- there is room for it
-  pub room_for_one : page < 1048576 → pages_in r < frames_in r
-  room_for_one in_space = at 1048576 refl
+  pub room_for_one : page < space_pages → pages_in r < frames_in r
+  room_for_one in_space = at space_pages refl
     where
-      at : (many : ℕ) → many ≡ 1048576 → pages_in r < frames_in r
+      at : (many : ℕ) → many ≡ space_pages → pages_in r < frames_in r
       at many e =
           omega (
             arith,

@@ -3,6 +3,7 @@ use Rattle.std.proofs.Common.{◌≡◌, ℕ, zero, suc, ◌+◌, ◌-◌, ◌*�
 use Rattle.std.proofs.lemmas.Bool.{lt-ltb}
 use Rattle.tiles.specs.declared.entry.TableEntry.{TableEntry}
 use Rattle.tiles.specs.TableEntries.{entry_at}
+use Rattle.pager_model.specs.Bounds.{space_pages}
 use Rattle.pager_model.specs.declared.region.Rights.{Rights}
 use Rattle.pager_model.specs.declared.tile.Mapping.{Mapping}
 use Rattle.pager_model.proofs.CountLemmas.{weight}
@@ -27,7 +28,7 @@ cost_set begun found done one more = omega arith
 abbrev pub has_page : (ℕ → Option Mapping) → ℕ → Bool
 has_page pages page = is_some (pages page)
 
-pub resident_is : (pages : ℕ → Option Mapping) (first len : ℕ) → first + len ≤ 1048576
+pub resident_is : (pages : ℕ → Option Mapping) (first len : ℕ) → first + len ≤ space_pages
     → resident_in pages first len ≡ count (has_page pages) first len
 resident_is pages first len known = count_in_range (has_page pages) first len known
 
@@ -65,7 +66,7 @@ count-part f from many first len low high =
     )
 
 -- a part of a range has no more of them
-pub resident_part : (pages : ℕ → Option Mapping) (from many first len : ℕ) → from ≤ first → first + len ≤ from + many → from + many ≤ 1048576
+pub resident_part : (pages : ℕ → Option Mapping) (from many first len : ℕ) → from ≤ first → first + len ≤ from + many → from + many ≤ space_pages
     → resident_in pages first len ≤ resident_in pages from many
 resident_part pages from many first len low high known =
     omega (

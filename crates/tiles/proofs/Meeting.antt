@@ -3,6 +3,7 @@ use Rattle.std.proofs.Common.{◌≡◌, ℕ, ◌+◌, ◌-◌, ◌*◌, ◌/◌
 use Rattle.std.specs.Cmp.{both_ways}
 use Rattle.std.proofs.lemmas.Bool.{cases_Bool, cases_eq, cases_lt, and_parts, and_from, eqb-true, eq-eqb, ne_eqb, ltb-true, lt-ltb, true≢false}
 use Rattle.std.proofs.lemmas.Bool.Decides.{nat_tests}
+use Rattle.pager_model.specs.Bounds.{space_pages}
 use Rattle.pager_model.specs.declared.tile.Mapping.{Mapping}
 use Rattle.pager_model.specs.Extents.{extent_start}
 use Rattle.pager_model.specs.Regions.{in_range}
@@ -185,11 +186,11 @@ module _ (z : SizeSet) (pages : ℕ → Option Mapping) (first len : ℕ) (some 
       swapped false false c none = omega (arith, ap weight none)
 
   -- the tiles that meet the range are those that begin in it, and the one that crosses its first page
-  tiles_some : first + len ≤ 1048576
+  tiles_some : first + len ≤ space_pages
       → large_tiles_meeting_in z first len pages ≡ large_tiles_begun_in z first len pages + weight (begins_before_in z pages first)
-  tiles_some known = at 1048576 refl
+  tiles_some known = at space_pages refl
     where
-      at : (many : ℕ) → many ≡ 1048576 → large_tiles_meeting_in z first len pages ≡ large_tiles_begun_in z first len pages + weight
+      at : (many : ℕ) → many ≡ space_pages → large_tiles_meeting_in z first len pages ≡ large_tiles_begun_in z first len pages + weight
           (begins_before_in z pages first)
       at many e =
           omega (
@@ -203,7 +204,7 @@ module _ (z : SizeSet) (pages : ℕ → Option Mapping) (first len : ℕ) (some 
                 (λ q low high. each q),
           )
 
-pub tiles_meeting : (z : SizeSet) (pages : ℕ → Option Mapping) (first len : ℕ) → first + len ≤ 1048576
+pub tiles_meeting : (z : SizeSet) (pages : ℕ → Option Mapping) (first len : ℕ) → first + len ≤ space_pages
     → large_tiles_meeting_in z first len pages ≡ large_tiles_begun_in z first len pages + weight
     (nat_lt 0 len && begins_before_in z pages first)
 tiles_meeting z pages first len known = elim (cases_lt 0 len) [

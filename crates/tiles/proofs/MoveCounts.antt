@@ -3,6 +3,7 @@ use Rattle.std.proofs.Common.{◌≡◌, ℕ, ◌+◌, ◌/◌, ◌≤◌, ◌<�
 use Rattle.std.proofs.lemmas.Bool.{ne_eqb}
 use Rattle.std.proofs.lemmas.Bool.Decides.{nat_tests}
 use Rattle.std.proofs.lemmas.Option.{none-some}
+use Rattle.pager_model.specs.Bounds.{space_pages}
 use Rattle.pager_model.specs.declared.tile.Mapping.{Mapping}
 use Rattle.pager_model.specs.declared.tile.Tile.{Tile}
 use Rattle.pager_model.specs.SizeSets.{SizeSet}
@@ -27,7 +28,7 @@ others_same r s page given maps p apart = maps.at p ∙ ap (λ (b : Bool). if b 
 -- ---- one page
 
 module _ (z : SizeSet) (old new : ℕ → Option Mapping) where
-  module _ (page : ℕ) (others : OthersSame page old new) (in_space : page < 1048576) where
+  module _ (page : ℕ) (others : OthersSame page old new) (in_space : page < space_pages) where
     abbrev before : ℕ
     before = size_by z old page
 
@@ -97,7 +98,7 @@ apart_back old mid new apart block = elim (apart block) [
 -- their moves add up
 promotions_add : (z : SizeSet) (old mid new : ℕ → Option Mapping) → LieApart old mid new
     → promotions_in z old new ≡ promotions_in z old mid + promotions_in z mid new
-promotions_add z old mid new apart = at 1048576 refl
+promotions_add z old mid new apart = at space_pages refl
   where
     each : (q : ℕ) → weight (is_promoted_in z old new q) ≡ weight (is_promoted_in z old mid q) + weight (is_promoted_in z mid new q)
     each q = elim (apart (q / 512)) [
@@ -113,7 +114,7 @@ promotions_add z old mid new apart = at 1048576 refl
           omega (arith, ap weight one, ap weight (none_grown z mid new q (omega (arith, same))))
     ]
 
-    at : (many : ℕ) → many ≡ 1048576 → promotions_in z old new ≡ promotions_in z old mid + promotions_in z mid new
+    at : (many : ℕ) → many ≡ space_pages → promotions_in z old new ≡ promotions_in z old mid + promotions_in z mid new
     at many e =
         omega (
           arith,
@@ -140,8 +141,8 @@ moves_more z old mid new so_far more all apart moved moves promoted demoted in_r
 }
 
 pub moves_fit : (z : SizeSet) (old mid new : ℕ → Option Mapping) (so_far more : Moves) → LieApart old mid new
-    → AreMovesIn z old mid so_far → AreMovesIn z mid new more → (so_far.promotions + more.promotions ≤ 1048576)
-    × (so_far.demotions + more.demotions ≤ 1048576)
+    → AreMovesIn z old mid so_far → AreMovesIn z mid new more → (so_far.promotions + more.promotions ≤ space_pages)
+    × (so_far.demotions + more.demotions ≤ space_pages)
 moves_fit z old mid new so_far more apart moved moves = (
   omega (
     arith,

@@ -4,6 +4,7 @@ use Rattle.std.specs.List.{list_any}
 use Rattle.std.specs.Option.{IfSome}
 use Rattle.std.proofs.lemmas.Bool.{cases_Bool, cond-true, cond-false, false_from_ne_true, true≢false}
 use Rattle.std.proofs.lemmas.Option.{none-some, same_Some}
+use Rattle.pager_model.specs.Bounds.{space_pages}
 use Rattle.pager_model.specs.declared.tile.Mapping.{Mapping}
 use Rattle.pager_model.specs.declared.tile.Tile.{Tile}
 use Rattle.pager_model.specs.SizeSets.{size_within}
@@ -116,7 +117,7 @@ came_of old new page before after tiles others had has list = elim (same_or_othe
       (came_pieces old new page others (λ e. other (had ∙ e ∙ sym has)))
 ]
 
-pub changes_of : (r s : Resident) (page : ℕ) (given : Option Mapping) (change : TileChange) → page < 1048576 → Maps page given r s
+pub changes_of : (r s : Resident) (page : ℕ) (given : Option Mapping) (change : TileChange) → page < space_pages → Maps page given r s
     → IsTileChange page r s change
     → AreChanges r s (record { page = page; before = change.before; after = change.after })
 changes_of r s page given change in_space maps changed =

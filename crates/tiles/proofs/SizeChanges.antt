@@ -2,6 +2,7 @@
 use Rattle.std.proofs.Common.{◌≡◌, ◌≢◌, ℕ, ◌*◌, ◌/◌, ◌%◌, ◌^◌, ◌<◌, ◌≤◌, Bool, true, false, ◌&&◌, eqb, ltb, cond, Option, refl, sym, ap, inl, inr, ◌∙◌, arith}
 use Rattle.std.proofs.lemmas.Bool.{cases_eq, cases_lt}
 use Rattle.std.proofs.lemmas.Bool.Decides.{nat_tests}
+use Rattle.pager_model.specs.Bounds.{space_pages}
 use Rattle.pager_model.specs.declared.tile.Mapping.{Mapping}
 use Rattle.pager_model.specs.Extents.{extent_start}
 use Rattle.pager_model.specs.SizeSets.{SizeSet}
@@ -112,12 +113,12 @@ module _ (z : SizeSet) (old new : ℕ → Option Mapping) (page : ℕ) (others :
       swapped false false x y e f = cc
 
 -- so it makes one promotion where the page's tile is larger than it was, and else none
-pub promotions_one : (z : SizeSet) (old new : ℕ → Option Mapping) (page : ℕ) → OthersSame page old new → page < 1048576
+pub promotions_one : (z : SizeSet) (old new : ℕ → Option Mapping) (page : ℕ) → OthersSame page old new → page < space_pages
     → promotions_in z old new ≡ cond (ltb (size_by z old page) (size_by z new page)) 1 0
 promotions_one z old new page others in_space =
     let s = size_by z new page in
     let starts = starts_below s page (by_small z new page) in
-    let first : extent_start s page < 1048576 = omega (arith, starts.first) in
+    let first : extent_start s page < space_pages = omega (arith, starts.first) in
     let tests : is_promoted_in z old new ≡ (λ q. eqb q (extent_start s page) && ltb (size_by z old page) s) =
     λ i q. promoted_one z old new page others q i in
     ap count_pages tests ∙ count_pages_at (extent_start s page) (ltb (size_by z old page) s) first

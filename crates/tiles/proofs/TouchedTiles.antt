@@ -3,6 +3,7 @@ use Rattle.std.proofs.Common.{◌≡◌, ◌≢◌, ℕ, ◌-◌, ◌*◌, ◌/�
 use Rattle.std.proofs.Math.Nat.{mul-mod_left}
 use Rattle.std.proofs.lemmas.Bool.{true≢false}
 use Rattle.std.proofs.lemmas.Bool.Decides.{nat_tests}
+use Rattle.pager_model.specs.Bounds.{space_pages}
 use Rattle.pager_model.specs.declared.page_range.PageRange.{PageRange}
 use Rattle.pager_model.specs.declared.tile.Mapping.{Mapping}
 use Rattle.pager_model.specs.Extents.{extent_start}
@@ -80,7 +81,7 @@ module _ (z : SizeSet) (old new : ℕ → Option Mapping) where
       ap (is_that_tile t) (tile_in_same z old new q (outside q apart)
       (local_by z old new q (λ p joined. outside p (λ e. apart (sym joined ∙ e))))) ∙ tile
 
-pub extent_in_space : (size page : ℕ) → size ≤ 3 → page < 1048576 → IsInSpace (extent_range size page)
+pub extent_in_space : (size page : ℕ) → size ≤ 3 → page < space_pages → IsInSpace (extent_range size page)
 extent_in_space size page low in_space =
     let starts = starts_below size page low in
     let within = extent_within size (extent_start size page) 2048 low (mul-mod_left (page / 8 ^ size) (8 ^ size))

@@ -1,5 +1,6 @@
 use Rattle.std.proofs.Common.{◌≡◌, ◌≢◌, ◌<◌, ◌∙◌, ap, sym, refl, true, None, Some, Err, rules}
 use Rattle.std.proofs.lemmas.Bool.{true≢false}
+use Rattle.pager_model.specs.Bounds.{space_pages}
 use Rattle.pager_model.specs.declared.call.Call.TheVariants.{Evict}
 use Rattle.pager_model.specs.declared.reply.Reply.TheVariants.{Denied, Unmapped}
 use Rattle.pager_model.specs.Flat.{evict_reply}
@@ -39,7 +40,7 @@ pub returns-in-Ok-clause-begins : goal.returns-in-Ok-clause-begins
 returns-in-Ok-clause-begins g c =
     let unwired : is_unwired (region_at c.args.self.now.regions c.args.page) ≡ true = rw (← c.self.view_is) (search (rules, unwired_at)) in
     let resident : frame_at c.args.self.now c.args.page ≢ None = rw (← c.self.view_is) (search rules) in
-    let in_space : c.args.page < 1048576 = search rules in
+    let in_space : c.args.page < space_pages = search rules in
     λ processor. begins_evicting c.args.self.now c.save.new.self _ c.args.page _ c.requires.resting in_space unwired resident c.in-Ok.ensures.saved
     (rw (← c.self-2.view_is) (record {
       same = same_regions _ _ refl refl refl refl (λ p. refl);

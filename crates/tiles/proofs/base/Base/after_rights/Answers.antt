@@ -8,6 +8,7 @@ use Rattle.tiles.proofs.MoveCounts.{LieApart, moves_same, moves_more, moves_fit}
 use Rattle.tiles.proofs.base.Base.after_rights.Goals as goal
 use Rattle.tiles.proofs.base.Base.after_rights.Goals.{After-after_rights_in_block}
 use Rattle.tiles.proofs.base.Base.after_rights.Given.{Over}
+use Rattle.pager_model.specs.Bounds.{space_pages}
 
 pub loop-block-init : goal.loop-block-init
 loop-block-init g c =
@@ -37,8 +38,8 @@ apart g c =
 
 -- so there are no more moves than pages
 fit : (g : Over) (c : After-after_rights_in_block g)
-    → (c.loop-block.moves.promotions + c.after_rights_in_block.result.promotions ≤ 1048576)
-    × (c.loop-block.moves.demotions + c.after_rights_in_block.result.demotions ≤ 1048576)
+    → (c.loop-block.moves.promotions + c.after_rights_in_block.result.promotions ≤ space_pages)
+    × (c.loop-block.moves.demotions + c.after_rights_in_block.result.demotions ≤ space_pages)
 fit g c =
     moves_fit c.args.sizes (mapping_at c.args.self.now) (mapping_at c.loop-block.self) (mapping_at c.after_rights_in_block.new.self)
     c.loop-block.moves c.after_rights_in_block.result (apart g c) c.loop-block.invariant.moves c.after_rights_in_block.ensures.moves

@@ -8,6 +8,7 @@ use Rattle.tiles.proofs.CountChanges.{Given, eight_there, few_between, join_coun
 use Rattle.tiles.proofs.mixed.Mixed.join.Goals as goal
 use Rattle.tiles.proofs.mixed.Mixed.join.Goals.{After-self, After-join}
 use Rattle.tiles.proofs.mixed.Mixed.join.Given.{Over}
+use Rattle.pager_model.specs.Bounds.{space_pages}
 
 -- the parts, in what is kept
 parts : (g : Over) (c : After-self g) → AreParts c.args.whole.now c.self.inside.tree
@@ -21,7 +22,7 @@ join-requires-clause-parts g c =
 there : (g : Over) (c : After-self g) → Given c.self.inside.tree c.args.whole.now.extent (λ page. Some (part_of c.args.whole.now page))
 there g c page at = (parts g c).at page (eq-eqb _ _ at)
 
-first : (g : Over) (c : After-self g) → c.args.whole.now.extent.first < 1048576
+first : (g : Over) (c : After-self g) → c.args.whole.now.extent.first < space_pages
 first g c =
     let whole = c.args.whole.now in
     let t = c.self.inside.tree in
