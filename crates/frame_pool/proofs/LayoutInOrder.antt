@@ -2,7 +2,7 @@
 use Rattle.std.proofs.Common.{◌≡◌, ℕ, suc, ◌-◌, ◌^◌, ◌<◌, ◌≤◌, inl, inr, Bool, true, false, List, length, get_or, set, Option, Some, None, refl, sym, ap, subst, ◌∙◌, arith}
 use Rattle.std.specs.Option.{IfNone, IsSome, IsSomeAnd, option_map_or}
 use Rattle.std.proofs.lemmas.Bool.{cases_lt, cases_Bool, cond-true, cond-false, lt-ltb, le-ltb, false≢true}
-use Rattle.std.proofs.lemmas.List.{get_or-set_same, get_or-set_other, length-set, set-set}
+use Rattle.std.proofs.lemmas.List.{get_or-set_other, length-set, set-set}
 use Rattle.std.proofs.lemmas.Option.{none-some, same_Some}
 use Rattle.pager_model.specs.declared.reservation.Reservation.{Reservation}
 use Rattle.pager_model.specs.Ages.{Lists}
@@ -21,7 +21,7 @@ use Rattle.pager_model.proofs.RecordFrames.{has_frame_bounds, has_frame_from}
 use Rattle.reservations.proofs.SplitLemmas.{split_records-open}
 use Rattle.pager_laws.specs.Laid.{IsLaid}
 use Rattle.pager_laws.specs.Listed.{AreListed}
-use Rattle.frame_pool.specs.Listed.{IsInOrder, WasSplit}
+use Rattle.frame_pool.specs.Listed.{IsInOrder, MayBegin, WasSplit}
 use Rattle.frame_pool.specs.Mapped.{IsMapped}
 use Rattle.population_map.specs.Populations.{Populations}
 use Rattle.pager_laws.proofs.LayoutBreak.{record_at-part, part_with-has, part_size-most, part_size-less, Settles-split, Falls-narrows, split_on-enough}
@@ -140,25 +140,23 @@ module _ (l : Layout) (id : ℕ) (r : Reservation) (laid : IsLaid l) (is : recor
       (sym renews.used) (rest_listed kept.lists renews.frame renews.becomes renews.has listed)
 
   -- It goes back into the lists as another one may stand in its place.
-  pub IsInOrder-again : (o : Option Reservation) (new : Layout) (kept after : KeptLists) (map mapped : Populations) → IsInOrder l kept map
-      → Renews l id r o new → length new.free ≡ after.frames → after.frames ≡ kept.frames
-      → ((records : List (Option Reservation)) → get_or records id None ≡ None → id < length records
-      → AreListed l.sizes (without_frame id kept.lists) new.used records
-      → AreListed l.sizes after.lists new.used (set records id (record_at new id)))
+  pub IsInOrder-again : (q : Reservation) (new : Layout) (kept after : KeptLists) (map mapped : Populations) → IsInOrder l kept map
+      → Renews l id r (Some q) new → length new.free ≡ after.frames → after.frames ≡ kept.frames
+      → ((records : List (Option Reservation)) → MayBegin l.sizes (without_frame id kept.lists) new.used records id
+      → AreListed l.sizes after.lists new.used (set records id (Some q)))
       → IsMapped mapped new.records → IsInOrder new after mapped
-  IsInOrder-again o new kept after map mapped order renews long room enlists is_mapped =
+  IsInOrder-again q new kept after map mapped order renews long room enlists is_mapped =
       let known = get_or_within l.records id r is in
-      let rest = rest_renewed o new kept order.listed renews in
-      let stands : record_at new id ≡ o = ap (λ rs. get_or rs id None) renews.records ∙ get_or-set_same l.records id o None known in
-      let again : set (set l.records id None) id (record_at new id) ≡ new.records =
-      set-set l.records id None (record_at new id) ∙ ap (set l.records id) stands ∙ sym renews.records in
+      let rest = rest_renewed (Some q) new kept order.listed renews in
+      let again : set (set l.records id None) id (Some q) ≡ new.records =
+      set-set l.records id None (Some q) ∙ sym renews.records in
       record {
         known = long;
         few = omega (arith, room, order.few);
         laid = renews.laid;
         listed = subst (λ z. AreListed z after.lists new.used new.records) (sym renews.sizes)
-            (subst (AreListed l.sizes after.lists new.used) again (enlists (set l.records id None) none_there
-            (omega (arith, known, length-set l.records id None)) rest));
+            (subst (AreListed l.sizes after.lists new.used) again (enlists (set l.records id None)
+            (record { none = none_there; known = omega (arith, known, length-set l.records id None); listed = rest })));
         mapped = is_mapped;
       }
 

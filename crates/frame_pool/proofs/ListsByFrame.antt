@@ -5,7 +5,7 @@ use Rattle.std.proofs.lemmas.Bool.{cases_Bool, cond-true}
 use Rattle.std.proofs.lemmas.Option.{none-some}
 use Rattle.std.proofs.lemmas.List.{get_or-set_same, set-set, set-get_or}
 use Rattle.pager_model.specs.declared.reservation.Reservation.{Reservation}
-use Rattle.pager_model.specs.Ages.{Lists, Member, list_at, with_list, with_member}
+use Rattle.pager_model.specs.Ages.{Lists, list_at, with_list, with_member}
 use Rattle.pager_model.specs.Headline.{member_of}
 use Rattle.pager_model.specs.Records.{Records, is_used, yield_in, part_of, is_part_empty, kept_part}
 use Rattle.pager_model.specs.SizeSets.{SizeSet}
@@ -17,7 +17,7 @@ use Rattle.pager_model.proofs.RecordFrames.{has_frame_from}
 use Rattle.reservations.proofs.FrameIds.{none_begins}
 use Rattle.reservations.proofs.SplitLemmas.{split_up_to, split_up_to-more, kept_cases, ArePlaced-part}
 use Rattle.pager_laws.specs.Listed.{AreListed}
-use Rattle.frame_pool.specs.Listed.{WasSplit}
+use Rattle.frame_pool.specs.Listed.{MayBegin, WasSplit}
 use Rattle.pager_laws.proofs.AgeLists.{AreListed-with, AreListed-full}
 use Rattle.pager_laws.proofs.SplitFrames.{some_used_in}
 use Rattle.frame_pool.proofs.UnlistedFrames.{is_listed-none, yield_in-alone}
@@ -27,41 +27,26 @@ pub found_record_and : (o : Option Reservation) (P : Reservation → Type 0) →
 found_record_and None P some = absurd some
 found_record_and (Some r) P some = (r, refl, some)
 
--- the member of the reservation that begins at the frame
-abbrev pub member_at : Reservation → ℕ → Member
-member_at r id = record { stamp = r.stamp; frame = id }
-
-pub member_at-named : (r : Reservation) (id : ℕ) → r.frame ≡ id → member_of r ≡ member_at r id
-member_at-named r id named = ap (member_at r) named
-
 -- where nothing stands, noting that nothing does changes nothing
 pub set-none : (records : List (Option Reservation)) (id : ℕ) → get_or records id None ≡ None → set records id None ≡ records
 set-none records id none = ap (set records id) (sym none) ∙ set-get_or records id None
 
--- the lists are those of these records, of which none begins at the frame
-pub record MayBegin (z : SizeSet) (lists : Lists) (used : List Bool) (records : List (Option Reservation)) (id : ℕ) : Type 0 where
-  pub none : get_or records id None ≡ None
-  pub known : id < length records
-  pub listed : AreListed z lists used records
+-- a reservation comes in at its frame, at which none began
+module _ (z : SizeSet) (lists : Lists) (used : List Bool) (records : List (Option Reservation)) (r : Reservation)
+    (may : MayBegin z lists used records r.frame) where
+  there : get_or (set records r.frame (Some r)) r.frame None ≡ Some r
+  there = get_or-set_same records r.frame (Some r) None may.known
 
--- a reservation comes in at a frame at which none began
-module _ (z : SizeSet) (lists : Lists) (used : List Bool) (records : List (Option Reservation)) (id : ℕ) (r : Reservation)
-    (may : MayBegin z lists used records id) where
-  there : get_or (set records id (Some r)) id None ≡ Some r
-  there = get_or-set_same records id (Some r) None may.known
+  without : AreListed z lists used (set (set records r.frame (Some r)) r.frame None)
+  without = subst (AreListed z lists used) (sym (set-set records r.frame (Some r) None ∙ set-none records r.frame may.none)) may.listed
 
-  without : AreListed z lists used (set (set records id (Some r)) id None)
-  without = subst (AreListed z lists used) (sym (set-set records id (Some r) None ∙ set-none records id may.none)) may.listed
+  pub AreListed-enlisted : (k : ℕ) → yield_in z (is_used used) r ≡ Some k → k < 3
+      → AreListed z (with_list lists k (with_member (member_of r) (list_at lists k))) used (set records r.frame (Some r))
+  AreListed-enlisted k yields small = AreListed-with z lists used (set records r.frame (Some r)) r.frame k r without there yields small
 
-  pub AreListed-enlisted : (k : ℕ) → r.frame ≡ id → yield_in z (is_used used) r ≡ Some k → k < 3
-      → AreListed z (with_list lists k (with_member (member_at r id) (list_at lists k))) used (set records id (Some r))
-  AreListed-enlisted k named yields small =
-      subst (λ m. AreListed z (with_list lists k (with_member m (list_at lists k))) used (set records id (Some r)))
-      (member_at-named r id named)
-      (AreListed-with z lists used (set records id (Some r)) id k r without there yields small)
-
-  pub AreListed-not_enlisted : ((k : ℕ) → yield_in z (is_used used) r ≡ Some k → 3 ≤ k) → AreListed z lists used (set records id (Some r))
-  AreListed-not_enlisted full = AreListed-full z lists used (set records id (Some r)) id r without there full
+  pub AreListed-not_enlisted : ((k : ℕ) → yield_in z (is_used used) r ≡ Some k → 3 ≤ k)
+      → AreListed z lists used (set records r.frame (Some r))
+  AreListed-not_enlisted full = AreListed-full z lists used (set records r.frame (Some r)) r.frame r without there full
 
 -- What a split left: the sizes and the lists that it began with, the records after it, and the reservation that they were split from.
 pub record SplitFrom : Type 0 where
@@ -111,7 +96,7 @@ module _ (s : SplitFrom) (n : ℕ) (lists : KeptLists) (splits : 0 < s.whole.siz
   part_found = ap (λ l. get_or l first None) has.was.split ∙ split_at used s.whole has.was.records splits has.was.placed 8 n small
       (omega arith)
 
-  pub none_before : get_or before first None ≡ None
+  none_before : get_or before first None ≡ None
   none_before =
       let ends = part_of_eight n s.whole.size splits small in
       let in_whole = has_frame_from first s.whole (omega arith) (omega (arith, ends, eight_pos (s.whole.size - 1))) in
@@ -119,7 +104,7 @@ module _ (s : SplitFrom) (n : ℕ) (lists : KeptLists) (splits : 0 < s.whole.siz
       (λ i lt same. omega (arith, parts_apart used s.whole has.was.records splits has.was.placed n i same))
       ∙ none_begins has.was.records first has.was.others_placed (has.was.vacant first first in_whole)
 
-  pub known_before : first < length before
+  known_before : first < length before
   known_before = omega (
     arith,
     part_known used s.whole has.was.records splits has.was.placed n small,
@@ -134,19 +119,30 @@ module _ (s : SplitFrom) (n : ℕ) (lists : KeptLists) (splits : 0 < s.whole.siz
       is_listed-none s.sizes lists.lists s.after.used before first has.listed
       (ArePlaced-parts has.was.records s.after.used s.whole n splits has.was.placed has.was.others_placed (omega arith)) none_before
 
+  may_begin : MayBegin s.sizes lists.lists s.after.used before first
+  may_begin = record { none = none_before; known = known_before; listed = has.listed }
+
   -- it goes in where it is a reservation
-  pub HasParts-more : (new : KeptLists) → AreListed s.sizes new.lists s.after.used (set before first (get_or s.after.records first None))
-      → new.frames ≡ lists.frames → HasParts s (n + 1) new
-  HasParts-more new listed room = record {
+  pub HasParts-more : (new : KeptLists) (r : Reservation) → r.frame ≡ first → get_or s.after.records first None ≡ Some r
+      → ((records : List (Option Reservation)) → MayBegin s.sizes lists.lists s.after.used records r.frame
+      → AreListed s.sizes new.lists s.after.used (set records r.frame (Some r))) → new.frames ≡ lists.frames → HasParts s (n + 1) new
+  HasParts-more new r begins stands enlists room = record {
     was = has.was;
     room = room ∙ has.room;
-    listed = subst (AreListed s.sizes new.lists s.after.used) (ap (set before first) part_found
-        ∙ sym (split_up_to-more n used s.whole has.was.records)) listed;
+    listed = subst (AreListed s.sizes new.lists s.after.used)
+        (ap (set before first) (sym stands ∙ part_found) ∙ sym (split_up_to-more n used s.whole has.was.records))
+        (subst (λ id. MayBegin s.sizes lists.lists s.after.used before id → AreListed s.sizes new.lists s.after.used (set before id (Some r)))
+        begins (enlists before) may_begin);
   }
 
   pub HasParts-skip : get_or s.after.records first None ≡ None → HasParts s (n + 1) lists
-  HasParts-skip none = HasParts-more lists (subst (AreListed s.sizes lists.lists s.after.used)
-      (sym (ap (set before first) none ∙ set-none before first none_before)) has.listed) refl
+  HasParts-skip none = record {
+    was = has.was;
+    room = has.room;
+    listed = subst (AreListed s.sizes lists.lists s.after.used)
+        (sym (ap (set before first) (sym part_found ∙ none) ∙ set-none before first none_before)
+        ∙ sym (split_up_to-more n used s.whole has.was.records)) has.listed;
+  }
 
 -- The parts of a reservation of eight frames are of one frame each, and those that are reservations are full: lists that had none of them
 -- are theirs.
@@ -168,20 +164,14 @@ module _ (s : SplitFrom) (was : WasSplit s.sizes s.start s.after s.whole) (eight
   has_alone (suc n) le =
       let has = has_alone n (omega arith) in
       let splits : 0 < s.whole.size = omega (arith, eight) in
-      let first = (part_of s.whole n).frame in
-      let before = split_up_to n (is_used s.after.used) s.whole has.was.records in
       let found = part_found s n s.start splits (omega arith) has in
       subst (λ k. HasParts s k s.start) (add-one n) (elim (kept_cases (is_used s.after.used) s.whole n) [
         | inl empty ↦ HasParts-skip s n s.start splits (omega arith) has (found ∙ empty.0)
-        | inr whole ↦ HasParts-more s n s.start splits (omega arith) has s.start
-            (subst (λ o. AreListed s.sizes s.start.lists s.after.used (set before first o)) (sym (found ∙ whole))
-            (AreListed-not_enlisted s.sizes s.start.lists s.after.used before first (part_of s.whole n)
-            (record {
-              none = none_before s n s.start splits (omega arith) has;
-              known = known_before s n s.start splits (omega arith) has;
-              listed = has.listed;
-            })
-            (λ k yields. absurd (none-some k (sym (full_alone n whole) ∙ yields))))) refl
+        | inr whole ↦
+            let part = part_of s.whole n in
+            HasParts-more s n s.start splits (omega arith) has s.start part refl (found ∙ whole)
+            (λ records may. AreListed-not_enlisted s.sizes s.start.lists s.after.used records part may
+            (λ k yields. absurd (none-some k (sym (full_alone n whole) ∙ yields)))) refl
       ])
 
   pub AreListed-alone : AreListed s.sizes s.start.lists s.after.used s.after.records

@@ -1,6 +1,7 @@
 -- The lists by age, as they are kept beside a layout.
-use Rattle.std.specs.Prelude.{ℕ, ◌≡◌, ◌≤◌, true, false, List, Option, Some, None, length, slice_index_or}
+use Rattle.std.specs.Prelude.{ℕ, ◌≡◌, ◌<◌, ◌≤◌, Bool, true, false, List, Option, Some, None, length, slice_index_or}
 use Rattle.pager_model.specs.declared.reservation.Reservation.{Reservation}
+use Rattle.pager_model.specs.Ages.{Lists}
 use Rattle.pager_model.specs.Layouts.{Layout}
 use Rattle.pager_model.specs.Agreement.{has_frame}
 use Rattle.pager_model.specs.Records.{Records, is_used, split_records}
@@ -20,6 +21,12 @@ pub record IsInOrder (l : Layout) (kept : KeptLists) (map : Populations) : Type 
   pub laid : IsLaid l
   pub listed : AreListed l.sizes kept.lists l.used l.records
   pub mapped : IsMapped map l.records
+
+-- the lists are those of these records, of which none begins at the frame
+pub record MayBegin (z : SizeSet) (lists : Lists) (used : List Bool) (records : List (Option Reservation)) (id : ℕ) : Type 0 where
+  pub none : slice_index_or records id None ≡ None
+  pub known : id < length records
+  pub listed : AreListed z lists used records
 
 -- From records in which the reservation was none any more, and whose lists these are, the reservation was split.
 pub record WasSplit (z : SizeSet) (lists : KeptLists) (after : Records) (whole : Reservation) : Type 0 where

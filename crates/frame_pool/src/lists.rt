@@ -1,49 +1,57 @@
-ghost use Rattle.std.specs.Prelude.{◌≡◌, ◌<◌, false, List, Option, length, slice_set, slice_index_or, None, IsSomeAnd};
+ghost use Rattle.std.specs.Prelude.{◌≡◌, ◌<◌, false, List, Option, slice_set, Some};
 ghost use Rattle.pager_model.specs.declared.reservation.Reservation.{Reservation};
 ghost use Rattle.reservation_lists.specs.Kept.{is_listed, without_frame};
 ghost use Rattle.reservations.specs.Kept.{reservation_at};
 ghost use Rattle.pager_laws.specs.Listed.{AreListed};
-ghost use Rattle.frame_pool.specs.Listed.{WasSplit};
+ghost use Rattle.frame_pool.specs.Listed.{MayBegin, WasSplit};
 
 use crate::records::yields_in;
 use pager_model::{Reservation, Sizes};
 use reservation_lists::Lists;
 use reservations::Reservations;
 
-/// Puts the reservation that begins at the frame `id` into its list, where it isn't full.
-pub(crate) fn enlist(lists: &mut Lists, reservations: &Reservations, sizes: Sizes, id: u32)
-    requires there { IsSomeAnd (reservation_at reservations.now id) (λ r. r.frame ≡ id) }
-    requires known { id < lists.old.frames }
-    requires unlisted { is_listed id lists.old.lists ≡ false }
-    ensures listed { (records : List (Option Reservation)) → slice_index_or records id None ≡ None → id < length records
-        → AreListed sizes lists.old.lists reservations.now.used records
-        → AreListed sizes lists.new.lists reservations.now.used (slice_set records id (reservation_at reservations.now id)) }
+/// Puts the reservation into its list, where it isn't full.
+pub(crate) fn enlist(
+    lists: &mut Lists,
+    reservations: &Reservations,
+    sizes: Sizes,
+    reservation: &Reservation,
+)
+    requires there { reservation_at reservations.now reservation.now.frame ≡ Some reservation.now }
+    requires known { reservation.now.frame < lists.old.frames }
+    requires unlisted { is_listed reservation.now.frame lists.old.lists ≡ false }
+    ensures listed { (records : List (Option Reservation))
+        → MayBegin sizes lists.old.lists reservations.now.used records reservation.now.frame
+        → AreListed sizes lists.new.lists reservations.now.used (slice_set records reservation.now.frame (Some reservation.now)) }
     ensures room { lists.new.frames ≡ lists.old.frames }
 {
-    if let Some(size) = yields_in(reservations, sizes, id) {
+    if let Some(size) = yields_in(reservations, sizes, reservation) {
         if size.level() < 3 {
-            let reservation = reservations.get(id).unwrap();
-            lists.insert(size, reservation.stamp, id);
+            lists.insert(size, reservation.stamp, reservation.frame);
         }
     }
 }
 
-/// Puts the reservation that begins at the frame `id` into its list, where it isn't full, and takes it out of the one that it stood in:
-/// its used places or its stamp changed.
-pub(crate) fn relist(lists: &mut Lists, reservations: &Reservations, sizes: Sizes, id: u32)
-    requires there { IsSomeAnd (reservation_at reservations.now id) (λ r. r.frame ≡ id) }
-    requires known { id < lists.old.frames }
-    ensures listed { (records : List (Option Reservation)) → slice_index_or records id None ≡ None → id < length records
-        → AreListed sizes (without_frame id lists.old.lists) reservations.now.used records
-        → AreListed sizes lists.new.lists reservations.now.used (slice_set records id (reservation_at reservations.now id)) }
+/// Puts the reservation into its list, where it isn't full, and takes it out of the one that it stood in: its used places or its
+/// stamp changed.
+pub(crate) fn relist(
+    lists: &mut Lists,
+    reservations: &Reservations,
+    sizes: Sizes,
+    reservation: &Reservation,
+)
+    requires there { reservation_at reservations.now reservation.now.frame ≡ Some reservation.now }
+    requires known { reservation.now.frame < lists.old.frames }
+    ensures listed { (records : List (Option Reservation))
+        → MayBegin sizes (without_frame reservation.now.frame lists.old.lists) reservations.now.used records reservation.now.frame
+        → AreListed sizes lists.new.lists reservations.now.used (slice_set records reservation.now.frame (Some reservation.now)) }
     ensures room { lists.new.frames ≡ lists.old.frames }
 {
-    match yields_in(reservations, sizes, id) {
+    match yields_in(reservations, sizes, reservation) {
         Some(size) if size.level() < 3 => {
-            let reservation = reservations.get(id).unwrap();
-            lists.move_to(size, reservation.stamp, id);
+            lists.move_to(size, reservation.stamp, reservation.frame);
         }
-        _ => lists.remove(id),
+        _ => lists.remove(reservation.frame),
     }
 }
 
@@ -79,8 +87,8 @@ pub(crate) fn enlist_parts(
     let pages = whole.size.pages() / 8;
     for i in 0..8 {
         let first = whole.frame + i * pages;
-        if reservations.get(first).is_some() {
-            enlist(lists, reservations, sizes, first);
+        if let Some(part) = reservations.get(first) {
+            enlist(lists, reservations, sizes, &part);
         }
     }
 }

@@ -1,12 +1,11 @@
 //! The reservations in the map of their pages, and what the map answers of them. A counted call counts its steps on a blank of its own,
 //! from 0.
 
-ghost use Rattle.std.specs.Prelude.{◌≡◌, ℕ, ◌/◌, ◌^◌, ◌<◌, ◌≤◌, true, List, Option, Some, None, IsSome, MatchOption, slice_get, slice_set, option_map};
+ghost use Rattle.std.specs.Prelude.{◌≡◌, ℕ, ◌/◌, ◌^◌, ◌<◌, ◌≤◌, true, List, Option, Some, None, MatchOption, slice_get, slice_index_or, slice_set, option_map};
 ghost use Rattle.std.specs.Bool.{OnTrue, OnFalse};
 ghost use Rattle.pager_model.specs.declared.reservation.Reservation.{Reservation};
 ghost use Rattle.pager_model.specs.Extents.{IsExtent};
 ghost use Rattle.population_map.specs.Populations.{page_at, id_of, is_placed, space_count, IsInNone};
-ghost use Rattle.reservations.specs.Kept.{reservation_at};
 ghost use Rattle.reservations.specs.declared.part.Part.{Part};
 ghost use Rattle.frame_pool.specs.Mapped.{IsMapped, MayEnter, WasSplitFrom};
 ghost use Rattle.pager_model.specs.Bounds.{space_pages};
@@ -14,7 +13,7 @@ ghost use Rattle.pager_model.specs.Bounds.{space_pages};
 use crate::records::page_at;
 use pager_model::{Extent, Reservation, Steps};
 use population_map::PopulationMap;
-use reservations::{Part, Reservations};
+use reservations::Part;
 use std::sync::ledger::{Blank, Ledger};
 
 /// The pages of a reservation.
@@ -36,14 +35,16 @@ pub(crate) fn insert(map: &mut PopulationMap, reservation: &Reservation)
     map.insert(reservation.space, pages_of(reservation), reservation.frame);
 }
 
-/// Takes the pages of the reservation that begins at the frame `id` out.
-pub(crate) fn remove(map: &mut PopulationMap, reservations: &Reservations, id: u32)
-    requires there { IsSome (reservation_at reservations.now id) }
-    requires mapped { IsMapped map.old reservations.now.records }
-    ensures { IsMapped map.new (slice_set reservations.now.records id None) }
+/// Takes the pages of a reservation out.
+pub(crate) fn remove(map: &mut PopulationMap, reservation: &Reservation)
+    requires pages { IsExtent reservation.now.size reservation.now.first }
+    requires stands { (records : List (Option Reservation)) × IsMapped map.old records
+        × (slice_index_or records reservation.now.frame None ≡ Some reservation.now) }
+    ensures { (records : List (Option Reservation)) → IsMapped map.old records
+        → slice_index_or records reservation.now.frame None ≡ Some reservation.now
+        → IsMapped map.new (slice_set records reservation.now.frame None) }
 {
-    let reservation = reservations.get(id).unwrap();
-    map.remove(reservation.space, pages_of(&reservation));
+    map.remove(reservation.space, pages_of(reservation));
 }
 
 /// Places the eight parts that a reservation was split into in its stead, and takes those out that are empty, and so no reservations.

@@ -1,4 +1,4 @@
-ghost use Rattle.std.specs.Prelude.{◌≡◌, ◌<◌, ◌≤◌, Some, true, IsSome, IfSome};
+ghost use Rattle.std.specs.Prelude.{◌≡◌, ◌<◌, ◌≤◌, Some, true};
 ghost use Rattle.pager_model.specs.Agreement.{has_frame};
 ghost use Rattle.pager_model.specs.Extents.{IsExtent};
 ghost use Rattle.pager_model.specs.Records.{is_used, yield_in, part_at, part_count};
@@ -8,12 +8,16 @@ ghost use Rattle.frame_pool.specs.Placed.{IsPageAt};
 use pager_model::{Reservation, Size, Sizes};
 use reservations::Reservations;
 
-/// The yield, by these sizes, of the reservation that begins at the frame `id`.
-pub(crate) fn yields_in(reservations: &Reservations, sizes: Sizes, id: u32) -> Option<Size>
-    requires { IsSome (reservation_at reservations.now id) }
-    ensures { IfSome (reservation_at reservations.now id) (λ r. result ≡ yield_in sizes (is_used reservations.now.used) r) }
+/// The yield of the reservation by these sizes.
+pub(crate) fn yields_in(
+    reservations: &Reservations,
+    sizes: Sizes,
+    reservation: &Reservation,
+) -> Option<Size>
+    requires { reservation_at reservations.now reservation.now.frame ≡ Some reservation.now }
+    ensures { result ≡ yield_in sizes (is_used reservations.now.used) reservation.now }
 {
-    let widest = reservations.yields(id)?;
+    let widest = reservations.yields(reservation.frame)?;
     Some(sizes.within(widest))
 }
 

@@ -192,11 +192,11 @@ impl Reserved {
     }
 
     /// The yield of the reservation.
-    pub(crate) fn yields(&self, whole: &Reservation) -> Option<Size>
-        requires { record_at self.now whole.now.frame ≡ Some whole.now }
-        ensures { result ≡ yield_in self.now.sizes (is_used self.now.used) whole.now }
+    pub(crate) fn yields(&self, reservation: &Reservation) -> Option<Size>
+        requires { record_at self.now reservation.now.frame ≡ Some reservation.now }
+        ensures { result ≡ yield_in self.now.sizes (is_used self.now.used) reservation.now }
     {
-        yields_in(&self.reservations, self.sizes, whole.frame)
+        yields_in(&self.reservations, self.sizes, reservation)
     }
 
     /// The lowest of the parts of a size of a reservation that has this yield, where each is a reservation.
@@ -209,7 +209,8 @@ impl Reserved {
         requires splits { size < whole.now.size }
         requires frames { IsExtent whole.now.size whole.now.frame }
         requires pages { IsExtent whole.now.size whole.now.first }
-        requires parts { (i : ℕ) → i < part_count size whole.now → record_at self.now (part_at size whole.now i).frame ≡ Some (part_at size whole.now i) }
+        requires parts { (i : ℕ) → i < part_count size whole.now
+            → record_at self.now (part_at size whole.now i).frame ≡ Some (part_at size whole.now i) }
         requires yields { yields ≡ yield_in self.now.sizes (is_used self.now.used) whole.now }
         ensures { result ≡ option_map (part_at size whole.now) (lowest_as_wide self.now.sizes size (is_used self.now.used) whole.now) }
     {
@@ -234,11 +235,15 @@ impl Reserved {
         ensures put { self.new ≡ with_reservation reservation page self.old }
         ensures frame { result ≡ frame_for page reservation }
     {
-        let id = reservation.frame;
         let frame = frame_for(&reservation, page);
         self.reservations.add(reservation, page);
         mapped::insert(&mut self.map, &reservation);
-        enlist(&mut self.lists, &self.reservations, self.sizes, id);
+        enlist(
+            &mut self.lists,
+            &self.reservations,
+            self.sizes,
+            &reservation,
+        );
         frame
     }
 
@@ -250,9 +255,12 @@ impl Reserved {
         ensures populated { self.new ≡ (populated stamp page self.old reservation.now).layout }
         ensures frame { result ≡ frame_for page reservation.now }
     {
-        let id = reservation.frame;
-        self.reservations.populate(id, page, stamp);
-        relist(&mut self.lists, &self.reservations, self.sizes, id);
+        self.reservations.populate(reservation.frame, page, stamp);
+        let renewed = Reservation {
+            stamp,
+            ..*reservation
+        };
+        relist(&mut self.lists, &self.reservations, self.sizes, &renewed);
         frame_for(reservation, page)
     }
 
@@ -265,14 +273,19 @@ impl Reserved {
         let id = reservation.frame;
         delist(&mut self.lists, &reservation);
         if self.reservations.vacate(id, page_at(&reservation, frame)) {
-            mapped::remove(&mut self.map, &self.reservations, id);
+            mapped::remove(&mut self.map, &reservation);
             self.reservations.dissolve(id);
             return Some(Extent {
                 size: reservation.size,
                 first: id,
             });
         }
-        enlist(&mut self.lists, &self.reservations, self.sizes, id);
+        enlist(
+            &mut self.lists,
+            &self.reservations,
+            self.sizes,
+            &reservation,
+        );
         None
     }
 

@@ -30,7 +30,7 @@ invariant_of-self c =
     let m = c.relist.new.lists.frames in
     let room : m ≡ inside.lists.frames = c.relist.ensures.room in
     let after : ℕ → Records → Layout = λ n st. record { sizes = l.sizes; free = replicate n false; records = st.records; used = st.used } in
-    IsInOrder-again l r.frame r c.self.invariant.laid is (Some (stamped r c.args.stamp)) (after m c.populate.new.self)
+    IsInOrder-again l r.frame r c.self.invariant.laid is (stamped r c.args.stamp) (after m c.populate.new.self)
     inside.lists c.relist.new.lists inside.map inside.map c.self.invariant (record {
       frame = frame_for page r;
       has = place_has r page c.requires.has;

@@ -1,12 +1,10 @@
-use Rattle.std.proofs.Common.{◌≡◌, ◌∙◌, ◌<◌, Option, Some, None, true, false, List, length, get_or, set, sym, arith}
+use Rattle.std.proofs.Common.{◌∙◌, ◌<◌, true, false, length, sym, arith}
 use Rattle.std.proofs.lemmas.Bool.{false≢true}
-use Rattle.std.proofs.lemmas.List.{get_or-set_same, length-replicate}
-use Rattle.pager_model.specs.declared.reservation.Reservation.{Reservation}
+use Rattle.std.proofs.lemmas.List.{length-replicate}
 use Rattle.pager_model.specs.Layouts.{frame_for}
 use Rattle.pager_model.proofs.ExtentLemmas.{eight_pos}
 use Rattle.pager_model.proofs.RecordFrames.{has_frame_from}
 use Rattle.reservations.proofs.FrameIds.{none_begins}
-use Rattle.pager_laws.specs.Listed.{AreListed}
 use Rattle.frame_pool.specs.ReservedState.{reserved_in}
 use Rattle.frame_pool.proofs.LayoutInOrder.{AreListed-used, place_has}
 use Rattle.frame_pool.proofs.LayoutMapped.{MayEnter-added}
@@ -54,16 +52,12 @@ invariant_of-self c =
     let listed = AreListed-used l.sizes inside.lists.lists l.used l.records place true was.listed
     (λ id has. false≢true (sym (apart place id (place_has r c.args.page c.requires.has)) ∙ has)) in
     let known : r.frame < length l.records = omega (arith, placed.within, eight_pos r.size) in
-    let enlists : (rs : List (Option Reservation)) → get_or rs r.frame None ≡ None → r.frame < length rs
-    → AreListed l.sizes inside.lists.lists (set l.used place true) rs
-    → AreListed l.sizes c.enlist.new.lists.lists (set l.used place true)
-    (set rs r.frame (get_or (set l.records r.frame (Some r)) r.frame None)) =
-    rw c.add.ensures at c.enlist.ensures.listed in
+    let enlists = rw c.add.ensures at c.enlist.ensures.listed in
     rw c.add.ensures (record {
       known = length-replicate c.enlist.new.lists.frames false;
       few = omega (arith, c.enlist.ensures.room, was.few);
       laid = IsLaid-with l r c.args.page c.enlist.new.lists.frames was.laid (was.known ∙ sym c.enlist.ensures.room) sound.0 sound.1;
-      listed = rw (get_or-set_same l.records r.frame (Some r) None known) at (enlists l.records none known listed);
+      listed = enlists l.records (record { none = none; known = known; listed = listed });
       mapped = c.insert.ensures l.records was.mapped
           (MayEnter-added l r c.args.page was.laid placed c.requires.few c.requires.within apart laid);
     })

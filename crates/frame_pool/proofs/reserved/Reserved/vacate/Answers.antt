@@ -1,4 +1,4 @@
-use Rattle.std.proofs.Common.{◌≡◌, ◌∙◌, ℕ, Some, None, true, false, replicate, refl, sym, ap, subst}
+use Rattle.std.proofs.Common.{◌≡◌, ◌∙◌, ℕ, Some, None, true, false, replicate, set, refl, sym, ap, subst}
 use Rattle.std.proofs.lemmas.List.{length-replicate, set-get_or}
 use Rattle.std.specs.Option.{IsSomeAnd}
 use Rattle.pager_model.specs.Agreement.{has_frame}
@@ -55,10 +55,10 @@ delist-requires c =
           c.self.inside.lists c.self.inside.map c.self.invariant;
     }
 
-pub remove-requires-clause-mapped : goal.remove-requires-clause-mapped
-remove-requires-clause-mapped c =
-    subst (λ (st : Records). IsMapped c.self.inside.map st.records) (sym
-    (unused (goal.at.remove-requires-clause-mapped c).After-vacate)) c.self.invariant.mapped
+pub remove-requires-clause-pages : goal.remove-requires-clause-pages
+remove-requires-clause-pages c =
+    let w = (goal.at.remove-requires-clause-pages c).After-vacate in
+    (c.self.invariant.laid.placed c.unwrap-reservation.result.frame c.unwrap-reservation.result (owner w).0).pages_aligned
 
 pub enlist-requires-clause-unlisted : goal.enlist-requires-clause-unlisted
 enlist-requires-clause-unlisted c = rw c.delist.ensures (is_listed-without c.unwrap-reservation.result.frame c.self.inside.lists.lists)
@@ -83,7 +83,8 @@ invariant_of-self c =
       records = ap (λ (st : Records). st.records) gone;
     })
     (length-replicate inside.lists.frames false)
-    (subst (λ (st : Records). IsMapped c.remove.new.map st.records) (sym c.dissolve.ensures) c.remove.ensures))
+    (subst (λ (st : Records). IsMapped c.remove.new.map st.records) (sym gone)
+    (c.remove.ensures l.records c.self.invariant.mapped (owner w).0)))
 
 pub returns-then-vacate : goal.returns-then-vacate
 returns-then-vacate c =
@@ -115,7 +116,7 @@ invariant_of-self-2 c =
     let after = vacated l c.args.frame r false c.vacate.new.self (tells w ∙ c.if-vacate.false) (unused w) in
     let left : ℕ → Layout =
     λ n. record { sizes = l.sizes; free = replicate n false; records = c.vacate.new.self.records; used = c.vacate.new.self.used } in
-    IsInOrder-again l r.frame r c.self.invariant.laid (owner w).0 (record_at l r.frame) (left m) inside.lists c.enlist.new.lists
+    IsInOrder-again l r.frame r c.self.invariant.laid (owner w).0 r (left m) inside.lists c.enlist.new.lists
     inside.map inside.map c.self.invariant (record {
       frame = c.args.frame;
       has = (owner w).1;
@@ -124,7 +125,8 @@ invariant_of-self-2 c =
           (subst IsLaid (sym after) (laid_without w));
       sizes = refl;
       used = ap (λ (st : Records). st.used) (unused w);
-      records = ap (λ (st : Records). st.records) (unused w) ∙ sym (set-get_or inside.reservations.records r.frame None);
+      records = ap (λ (st : Records). st.records) (unused w) ∙ sym (set-get_or l.records r.frame None)
+          ∙ ap (set l.records r.frame) (owner w).0;
     })
     (length-replicate m false)
     (room (goal.at.invariant_of-self-2 c).After-enlist) (rw c.delist.ensures at c.enlist.ensures.listed)
