@@ -15,7 +15,7 @@ use Rattle.pager_model.specs.declared.reservation.Reservation.{Reservation}
 use Rattle.pager_model.specs.declared.reservation.Used.{Used}
 use Rattle.pager_model.specs.Agreement.{has_frame}
 use Rattle.pager_model.specs.FrameStates.{FrameState, start_frames, layout_of, used_at, held_by, claim_in, frame_of, HasNothing, taking, Taking, take_frame, counted, layout_given, held_given, given, give_page, given_in, with_claim, claimed, pin_range, lowest_claimed, dropped_in, is_evictable}
-use Rattle.pager_model.specs.Layouts.{Layout, start_layout, frame_in, placing, put_back, record_at}
+use Rattle.pager_model.specs.Layouts.{Layout, start_layout, placing, put_back, record_at}
 use Rattle.pager_model.specs.Records.{is_used}
 use Rattle.pager_model.proofs.Lists.{get_or-alike}
 use Rattle.pager_model.proofs.Options.{none_from_is_some}
@@ -135,12 +135,6 @@ IsPool-pinned frames l claimers st space first len wired pool may =
     IsPool-after frames l claimers st frames l (counted after) pool
     (IsSound-counted _ _ after (IsSound-pinned _ _ st space first len wired pool.sound may))
     (pool.same_used ∙ sym still) refl (AreHere-same frames st.used after.used pool.here still) (omega (arith, pool.few_broken))
-
--- what is a page's place is noted
-pub place_noted : (frames : List (Option Framed)) (l : Layout) (claimers : ℕ) (st : FrameState) → IsPool frames l claimers st
-    → (space page frame : ℕ) → frame_in l space page ≡ Some frame → is_some (used_at st frame) ≡ true
-place_noted frames l claimers st pool space page frame is =
-    sym (is_used-layout_of st frame) ∙ sym (ap (λ used. is_used used frame) pool.same_used) ∙ (frame_in-found l space page frame is).used
 
 -- a processor that holds a frame is one of those that there are
 pub held_known : (st : FrameState) (c : ℕ) → IsSome (held_by st c) → c < length st.held

@@ -1,6 +1,5 @@
-use Rattle.std.proofs.Common.{sym, ap, ◌∙◌, arith}
+use Rattle.std.proofs.Common.{sym, ◌∙◌, arith}
 use Rattle.std.proofs.lemmas.Option.{none-some, same_Some}
-use Rattle.reservation_lists.specs.Kept.{KeptLists}
 use Rattle.frame_pool.proofs.ListsByFrame.{AreListed-enlisted, AreListed-not_enlisted}
 use Rattle.frame_pool.proofs.lists.enlist.Goals as goal
 
@@ -18,6 +17,3 @@ pub returns-in_default-clause-listed : goal.returns-in_default-clause-listed
 returns-in_default-clause-listed c = λ records may.
     AreListed-not_enlisted c.args.sizes c.args.lists.now.lists c.args.reservations.now.used records c.args.reservation.now may
     (λ k yields. absurd (none-some k (sym c.in_default.is ∙ c.yields_in.ensures ∙ yields)))
-
-pub returns-then-level-lt3-clause-room : goal.returns-then-level-lt3-clause-room
-returns-then-level-lt3-clause-room c = ap (λ (k : KeptLists). k.frames) c.insert.ensures

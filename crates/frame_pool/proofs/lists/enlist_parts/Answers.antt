@@ -1,8 +1,8 @@
-use Rattle.std.proofs.Common.{◌≡◌, ◌+◌, ◌-◌, ◌*◌, ◌/◌, Some, arith, ap, sym, subst, ◌∙◌}
+use Rattle.std.proofs.Common.{◌≡◌, ◌+◌, ◌-◌, ◌*◌, ◌/◌, Some, arith, ap, sym, ◌∙◌}
 use Rattle.pager_model.specs.declared.reservation.Reservation.{Reservation}
 use Rattle.pager_model.specs.Records.{part_of}
 use Rattle.pager_model.proofs.ExtentLemmas.{eight_pos, part_of_eight, aligned_end}
-use Rattle.frame_pool.proofs.ListsByFrame.{HasParts, HasParts-none, HasParts-all, HasParts-more, HasParts-skip, part_in_room, part_unlisted, split_from, AreListed-alone}
+use Rattle.frame_pool.proofs.ListsByFrame.{HasParts-more, HasParts-skip, part_unlisted, split_from, AreListed-alone}
 use Rattle.frame_pool.proofs.PartRecords.{eighth}
 use Rattle.frame_pool.proofs.lists.enlist_parts.Goals as goal
 use Rattle.frame_pool.proofs.lists.enlist_parts.Goals.{After-get, in-Some, in_default}
@@ -10,9 +10,6 @@ use Rattle.frame_pool.proofs.lists.enlist_parts.Goals.{After-get, in-Some, in_de
 pub returns-then-level-eq1-clause-listed : goal.returns-then-level-eq1-clause-listed
 returns-then-level-eq1-clause-listed c =
     AreListed-alone (split_from c.args.sizes c.args.lists.now c.args.reservations.now c.args.whole.now) c.requires.split (omega arith)
-
-pub loop-i-init : goal.loop-i-init
-loop-i-init c = HasParts-none (split_from c.args.sizes c.args.lists.now c.args.reservations.now c.args.whole.now) c.requires.split
 
 pub overflow_add-first : goal.overflow_add-first
 overflow_add-first c =
@@ -31,12 +28,6 @@ at_part c = ap (λ n. c.args.whole.now.frame + c.loop-i.i * n)
 -- and the part that is found begins there
 begins : (c : After-get) (part : Reservation) → c.get.result ≡ Some part → part.frame ≡ (part_of c.args.whole.now c.loop-i.i).frame
 begins c part is = (rw is at c.get.ensures.placed).named ∙ at_part c
-
-pub enlist-requires-clause-known : goal.enlist-requires-clause-known
-enlist-requires-clause-known c =
-    let s = split_from c.args.sizes c.args.lists.now c.args.reservations.now c.args.whole.now in
-    rw (begins (goal.at.enlist-requires-clause-known c).After-get c.in-Some.part c.in-Some.is)
-    (part_in_room s c.loop-i.i c.loop-i.lists c.requires.splits c.loop-i-test.true c.loop-i.invariant)
 
 pub enlist-requires-clause-unlisted : goal.enlist-requires-clause-unlisted
 enlist-requires-clause-unlisted c =
@@ -59,9 +50,3 @@ loop-i-preserved c =
           (rw at at (sym c.get.ensures.record ∙ t.in-Some.is)) t.enlist.ensures.listed t.enlist.ensures.room)
       | in_default t ↦ rw t.lists-is (HasParts-skip s i lists splits small has (rw at at (sym c.get.ensures.record ∙ t.in_default.is)))
     ]
-
-pub returns-clause-listed : goal.returns-clause-listed
-returns-clause-listed c =
-    let s = split_from c.args.sizes c.args.lists.now c.args.reservations.now c.args.whole.now in
-    let done : c.loop-i.i ≡ 8 = omega arith in
-    HasParts-all s c.loop-i.lists (subst (λ n. HasParts s n c.loop-i.lists) done c.loop-i.invariant)

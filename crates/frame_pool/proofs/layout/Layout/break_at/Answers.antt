@@ -1,11 +1,6 @@
 use Rattle.std.proofs.Common.{sym, ap, ◌∙◌}
-use Rattle.frame_pool.proofs.BreakSteps.{broken_on, broken_step, size_falls}
+use Rattle.frame_pool.proofs.BreakSteps.{broken_on, broken_step}
 use Rattle.frame_pool.proofs.layout.Layout.break_at.Goals as goal
-
-pub loop-part-smaller : goal.loop-part-smaller
-loop-part-smaller c =
-    let can = rw c.in-Some.is at c.loop-part.invariant.can in
-    rw (c.in-Some.is, c.split_to_break-part.ensures.next) (size_falls c.loop-part.self c.in-Some.whole can.splits)
 
 pub loop-part-preserved : goal.loop-part-preserved
 loop-part-preserved c =

@@ -1,26 +1,9 @@
-use Rattle.std.proofs.Common.{◌≡◌, ◌∙◌, refl, sym, ap, arith}
+use Rattle.std.proofs.Common.{◌≡◌, ◌∙◌, sym, ap, arith}
 use Rattle.pager_model.specs.Layouts.{narrows_to, narrow_layout, split_on, record_at}
 use Rattle.pager_model.proofs.Options.{IfSome-from}
-use Rattle.frame_pool.proofs.LayoutInOrder.{narrow_step, only_frame, reservation_is, same_reservation}
+use Rattle.frame_pool.proofs.LayoutInOrder.{narrow_step, same_reservation}
 use Rattle.pager_laws.proofs.LayoutBreak.{Settles-split}
 use Rattle.frame_pool.proofs.layout.Layout.narrow.Goals as goal
-
-pub unwrap-part-requires : goal.unwrap-part-requires
-unwrap-part-requires c =
-    reservation_is c.args.self.now c.args.frame c.reservation_of.result c.reservation_of.ensures.laid c.requires c.reservation_of.ensures.none
-
-pub loop-part-init : goal.loop-part-init
-loop-part-init c =
-    let found = rw c.unwrap-part.ensures at c.reservation_of.ensures.found in
-    record { laid = c.reservation_of.ensures.laid; stands = found.0; has = found.1; used = c.requires; narrows = refl }
-
-pub split_down-requires-clause-splits : goal.split_down-requires-clause-splits
-split_down-requires-clause-splits c = omega (arith, c.loop-part-test.true, c.level.ensures.level)
-
-pub unwrap-part-requires-in-loop-part : goal.unwrap-part-requires-in-loop-part
-unwrap-part-requires-in-loop-part c =
-    reservation_is c.split_down.new.self c.args.frame c.reservation_of-in-loop-part.result c.reservation_of-in-loop-part.ensures.laid
-    (rw c.split_down.ensures.split c.loop-part.invariant.used) c.reservation_of-in-loop-part.ensures.none
 
 pub loop-part-smaller : goal.loop-part-smaller
 loop-part-smaller c =
@@ -59,11 +42,3 @@ returns-clause-narrowed c =
     λ id. IfSome-from (record_at l id) _ (λ r is has.
     sym stops ∙ was.narrows ∙ ap (λ q. narrow_layout frame q l)
     (same_reservation l first.frame first c.reservation_of.ensures.laid found.0 frame id r found.1 is has))
-
-pub returns-clause-alone : goal.returns-clause-alone
-returns-clause-alone c =
-    let was = c.loop-part.invariant in
-    let part = c.loop-part.part in
-    let one : part.size ≡ 0 = omega (arith, c.loop-part-test.false, c.level.ensures.level) in
-    let here = only_frame part c.args.frame one was.has in
-    rw (here, was.stands) one

@@ -2,7 +2,7 @@ use Rattle.std.proofs.Common.{◌≡◌, ◌<◌, Some, false, sym, ap, subst, �
 use Rattle.pager_model.specs.Layouts.{Layout, record_at}
 use Rattle.pager_model.specs.Records.{is_used, part_at, part_size, yield_in, same_size, goes_on_at}
 use Rattle.pager_laws.specs.Laid.{IsLaid}
-use Rattle.frame_pool.proofs.BreakSteps.{Fills, Fills-from, part_stands, goes_on-lowest, CanBreak-goes_on, stops_there, stops_small}
+use Rattle.frame_pool.proofs.BreakSteps.{Fills, Fills-from, part_stands, goes_on-lowest, CanBreak-goes_on, stops_there}
 use Rattle.pager_laws.proofs.LayoutBreak.{part_size-less}
 use Rattle.pager_laws.proofs.PartYields.{same_size_from}
 use Rattle.frame_pool.proofs.layout.Layout.split_to_break.Goals as goal
@@ -31,11 +31,6 @@ returns-then-is_size-clause-next c =
     ∙ same_size_from c.yields-yields.result c.split_down-size.result (sym c.is_size.ensures ∙ c.if-is_size.true)
     ∙ ap Some c.split_down-size.ensures.size in
     sym (stops_there l.sizes (is_used l.used) c.args.whole.now is)
-
-pub returns-then-level-eq0-clause-next : goal.returns-then-level-eq0-clause-next
-returns-then-level-eq0-clause-next c =
-    sym (stops_small c.args.self.now.sizes (is_used c.args.self.now.used) c.args.whole.now
-    (omega (arith, c.split_down-size.ensures.size, c.level.ensures.level, c.if-level-eq0.true)))
 
 pub lowest_as_wide-requires-clause-splits : goal.lowest_as_wide-requires-clause-splits
 lowest_as_wide-requires-clause-splits c = rw c.split_down-size.ensures.size

@@ -1,5 +1,4 @@
-use Rattle.std.proofs.Common.{◌≡◌, ℕ, ◌/◌, ◌^◌, Bool, Option, inl, inr, sym, ap, ◌∙◌, option_map, arith}
-use Rattle.std.proofs.lemmas.Bool.{cases_eq}
+use Rattle.std.proofs.Common.{◌≡◌, ℕ, ◌/◌, ◌^◌, Bool, Option, sym, ap, ◌∙◌, option_map, arith}
 use Rattle.pager_model.specs.declared.reservation.Reservation.{Reservation}
 use Rattle.pager_model.specs.Layouts.{Layout}
 use Rattle.pager_model.specs.Records.{is_used, part_at, part_count, yield_in, same_size}
@@ -46,12 +45,6 @@ returns-then-eq c =
     (omega (arith, c.loop-i-test.true, counted (goal.at.returns-then-eq c).After-pages-2))
     (tells (goal.at.returns-then-eq c).After-eq ∙ c.if-eq.true) in
     rw c.part_at-part.ensures (ap (option_map (part_at c.args.size r)) (sym found))
-
-pub loop-i-preserved : goal.loop-i-preserved
-loop-i-preserved c =
-    let test = as_wide c.args.self.now c.args.size c.args.whole.now in
-    let other = tells (goal.at.loop-i-preserved c).After-eq ∙ c.if-eq.false in
-    λ k below. elim (cases_eq k c.loop-i.i) [ inl here ↦ ap test here ∙ other | inr before ↦ c.loop-i.invariant k (omega arith) ]
 
 pub returns : goal.returns
 returns c =

@@ -7,14 +7,8 @@ use Rattle.pager_laws.specs.Laid.{IsLaid}
 use Rattle.frame_pool.specs.Mapped.{IsMapped}
 use Rattle.frame_pool.specs.ReservedState.{reserved_in}
 use Rattle.frame_pool.proofs.MappedRecords.{IsMapped-alike}
-use Rattle.frame_pool.proofs.LayoutInOrder.{IsLaid-populated, IsInOrder-again, known_to_lists, place_has}
+use Rattle.frame_pool.proofs.LayoutInOrder.{IsLaid-populated, IsInOrder-again, place_has}
 use Rattle.frame_pool.proofs.reserved.Reserved.populate.Goals as goal
-
-pub relist-requires-clause-known : goal.relist-requires-clause-known
-relist-requires-clause-known c =
-    let there = rw (← c.self.view_is) at c.requires.there in
-    known_to_lists (reserved_in c.self.inside) _ c.args.reservation.now c.self.invariant.laid there
-    c.self.inside.lists c.self.inside.map c.self.invariant
 
 pub invariant_of-self : goal.invariant_of-self
 invariant_of-self c =

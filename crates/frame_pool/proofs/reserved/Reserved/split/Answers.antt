@@ -1,4 +1,4 @@
-use Rattle.std.proofs.Common.{◌≡◌, ◌∙◌, ◌-◌, Some, false, refl, sym, ap, arith}
+use Rattle.std.proofs.Common.{◌≡◌, ◌∙◌, ◌-◌, Some, false, sym, ap, arith}
 use Rattle.std.proofs.lemmas.List.{length-replicate}
 use Rattle.pager_model.specs.Layouts.{parted, record_at}
 use Rattle.pager_model.specs.Records.{is_used, parted_records, split_records}
@@ -6,7 +6,7 @@ use Rattle.reservation_lists.specs.Kept.{KeptLists}
 use Rattle.reservations.specs.Parts.{told_parts}
 use Rattle.frame_pool.specs.Mapped.{WasSplitFrom}
 use Rattle.frame_pool.specs.ReservedState.{reserved_in}
-use Rattle.frame_pool.proofs.LayoutInOrder.{WasSplit-from, known_to_lists}
+use Rattle.frame_pool.proofs.LayoutInOrder.{WasSplit-from}
 use Rattle.frame_pool.proofs.LayoutMapped.{WasSplitFrom-left}
 use Rattle.frame_pool.proofs.ReservedLayouts.{IsLaid-none_free}
 use Rattle.pager_laws.proofs.LayoutSplit.{Settles-parted}
@@ -29,14 +29,6 @@ eight : (c : After-split-parts)
     (is_used c.self.inside.reservations.used) c.args.whole.now c.self.inside.reservations.records
 eight c = split c ∙ sym (parted_records-eight
     (is_used c.self.inside.reservations.used) c.args.whole.now c.self.inside.reservations.records c.requires.splits)
-
-pub remove-requires : goal.remove-requires
-remove-requires c =
-    let stands = rw (← c.self.view_is) at c.requires.stands in
-    record {
-      known = known_to_lists
-          (reserved_in c.self.inside) _ c.args.whole.now c.self.invariant.laid stands c.self.inside.lists c.self.inside.map c.self.invariant;
-    }
 
 pub enlist_parts-requires-clause-split : goal.enlist_parts-requires-clause-split
 enlist_parts-requires-clause-split c =
@@ -77,8 +69,3 @@ invariant_of-self c =
       listed = rw (eight w, c.split-parts.ensures.used) at c.enlist_parts.ensures.listed;
       mapped = rw (eight w) at (c.split.ensures _ (was_split w));
     })
-
-pub returns-clause-split : goal.returns-clause-split
-returns-clause-split c =
-    let w = (goal.at.returns-clause-split c).After-split-parts in
-    rw (room (goal.at.returns-clause-split c).After-enlist_parts, ← c.self.view_is, eight w, c.split-parts.ensures.used) refl

@@ -11,7 +11,7 @@ use Rattle.pager_laws.specs.Laid.{IsLaid}
 use Rattle.frame_pool.specs.Mapped.{IsMapped}
 use Rattle.frame_pool.specs.ReservedChanges.{without_place}
 use Rattle.frame_pool.specs.ReservedState.{reserved_in}
-use Rattle.frame_pool.proofs.LayoutInOrder.{IsInOrder-again, IsInOrder-gone, known_to_lists, unlisted_alone}
+use Rattle.frame_pool.proofs.LayoutInOrder.{IsInOrder-again, IsInOrder-gone, unlisted_alone}
 use Rattle.frame_pool.proofs.ReservedLayouts.{IsLaid-without_place, vacated}
 use Rattle.frame_pool.proofs.reserved.Reserved.vacate.Goals as goal
 use Rattle.frame_pool.proofs.reserved.Reserved.vacate.Goals.{After-vacate, After-enlist}
@@ -44,16 +44,12 @@ page_at-requires-clause-pages c =
     let found = rw (c.unwrap-reservation.ensures, ← c.self.view_is) at c.reservation_of.ensures.found in
     (c.self.invariant.laid.placed r.frame r found.0).pages_aligned
 
-pub delist-requires : goal.delist-requires
-delist-requires c =
+pub delist-requires-clause-alone : goal.delist-requires-clause-alone
+delist-requires-clause-alone c =
     let found = rw (c.unwrap-reservation.ensures, ← c.self.view_is) at c.reservation_of.ensures.found in
     let r = c.unwrap-reservation.result in
-    let l = reserved_in c.self.inside in
-    record {
-      known = known_to_lists l _ r c.self.invariant.laid found.0 c.self.inside.lists c.self.inside.map c.self.invariant;
-      alone = λ one. unlisted_alone l r.frame c.self.invariant.laid (subst (λ o. IsSomeAnd o (λ q. q.size ≡ 0)) (sym found.0) one)
-          c.self.inside.lists c.self.inside.map c.self.invariant;
-    }
+    λ one. unlisted_alone (reserved_in c.self.inside) r.frame c.self.invariant.laid
+    (subst (λ o. IsSomeAnd o (λ q. q.size ≡ 0)) (sym found.0) one) c.self.inside.lists c.self.inside.map c.self.invariant
 
 pub remove-requires-clause-pages : goal.remove-requires-clause-pages
 remove-requires-clause-pages c =
@@ -86,22 +82,6 @@ invariant_of-self c =
     (subst (λ (st : Records). IsMapped c.remove.new.map st.records) (sym gone)
     (c.remove.ensures l.records c.self.invariant.mapped (owner w).0)))
 
-pub returns-then-vacate : goal.returns-then-vacate
-returns-then-vacate c =
-    let w = (goal.at.returns-then-vacate c).After-vacate in
-    let r = c.unwrap-reservation.result in
-    let gone = c.dissolve.ensures ∙ ap (λ st. with_record st r.frame None) (unused w) in
-    let last = tells w ∙ c.if-vacate.true in
-    rw (c.delist.ensures, ← c.self.view_is)
-    (record {
-      whole = r;
-      stood = (owner w).0;
-      had = (owner w).1;
-      left = vacated
-          (reserved_in c.self.inside) c.args.frame r true c.dissolve.new.self last gone;
-      frames = (last, refl);
-    })
-
 -- the lists are of as many frames then
 room : (c : After-enlist) → c.enlist.new.lists.frames ≡ c.self.inside.lists.frames
 room c = c.enlist.ensures.room ∙ ap (λ (k : KeptLists). k.frames) c.delist.ensures
@@ -131,18 +111,3 @@ invariant_of-self-2 c =
     (length-replicate m false)
     (room (goal.at.invariant_of-self-2 c).After-enlist) (rw c.delist.ensures at c.enlist.ensures.listed)
     (subst (λ (st : Records). IsMapped inside.map st.records) (sym (unused w)) c.self.invariant.mapped)
-
-pub returns : goal.returns
-returns c =
-    let w = (goal.at.returns c).After-vacate in
-    let r = c.unwrap-reservation.result in
-    let keeps = tells w ∙ c.if-vacate.false in
-    rw (room (goal.at.returns c).After-enlist, ← c.self.view_is)
-    (record {
-      whole = r;
-      stood = (owner w).0;
-      had = (owner w).1;
-      left = vacated
-          (reserved_in c.self.inside) c.args.frame r false c.vacate.new.self keeps (unused w);
-      frames = keeps;
-    })
