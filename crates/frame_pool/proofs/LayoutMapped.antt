@@ -4,6 +4,7 @@ use Rattle.std.proofs.lemmas.Bool.{cases_Bool, cases_eq}
 use Rattle.std.proofs.lemmas.List.{get_or-set_same, get_or-set_other, length-set, set-set, set-get_or}
 use Rattle.std.proofs.lemmas.List.Sums.{sum_by-set}
 use Rattle.std.proofs.lemmas.Option.{none-some}
+use Rattle.pager_model.specs.Bounds.{space_pages}
 use Rattle.pager_model.specs.declared.reservation.Reservation.{Reservation}
 use Rattle.pager_model.specs.Agreement.{has_frame}
 use Rattle.pager_model.specs.FrameStates.{places_in}
@@ -27,7 +28,7 @@ use Rattle.pager_laws.proofs.LayoutRelease.{not_in_rest}
 
 -- a reservation of frames that are in none, with which the layout is sound
 pub MayEnter-added : (l : Layout) (r : Reservation) (page : ℕ) → IsLaid l → IsPlaced (length l.records) r.frame r → r.space < 16
-    → r.first < 1048576 → ((frame id : ℕ) → has_frame frame (Some r) ≡ true → has_frame frame (record_at l id) ≡ false)
+    → r.first < space_pages → ((frame id : ℕ) → has_frame frame (Some r) ≡ true → has_frame frame (record_at l id) ≡ false)
     → IsLaid (with_reservation r page l) → MayEnter l.records r
 MayEnter-added l r page laid placed few within apart after =
     let known : r.frame < length l.records = omega (arith, placed.within, eight_pos r.size) in
@@ -55,7 +56,7 @@ MayEnter-added l r page laid placed few within apart after =
 
 -- a reservation of the layout that was taken out
 module _ (l : Layout) (id : ℕ) (r : Reservation) (laid : IsLaid l) (is : record_at l id ≡ Some r) where
-  MayEnter-again : (r.space < 16) × (r.first < 1048576) → MayEnter (set l.records id None) r
+  MayEnter-again : (r.space < 16) × (r.first < space_pages) → MayEnter (set l.records id None) r
   MayEnter-again pages =
       let placed = laid.placed id r is in
       let long = length-set l.records id None in

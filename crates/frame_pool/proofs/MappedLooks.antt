@@ -4,6 +4,7 @@ use Rattle.std.specs.List.{list_any}
 use Rattle.std.proofs.lemmas.Bool.{or_cases, and_parts, and_from, eq-eqb, eqb-true, lt-ltb, ltb-true, false≢true, false_from_ne_true}
 use Rattle.std.proofs.lemmas.List.Folds.{list_any_at}
 use Rattle.std.proofs.lemmas.Option.{none-some}
+use Rattle.pager_model.specs.Bounds.{space_pages}
 use Rattle.pager_model.specs.declared.extent.Extent.{Extent}
 use Rattle.pager_model.specs.declared.reservation.Reservation.{Reservation}
 use Rattle.pager_model.specs.Extents.{IsExtent}
@@ -21,7 +22,7 @@ use Rattle.pager_laws.proofs.PagePlaces.{CoversPageOf-covers, covers-CoversPageO
 
 -- of one page
 module _ (m : Populations) (records : List (Option Reservation)) (space page : ℕ) (mapped : IsMapped m records) (known : space < 16)
-    (low : page < 1048576) where
+    (low : page < space_pages) where
   pub covering-looked : (size id : ℕ) → OneCovers records → size ≤ 3 → id_of m size (page_at space page) ≡ Some id
       → get_or records id None ≡ covering space page records
   covering-looked size id one small is =
@@ -99,7 +100,7 @@ covering-apart records space e apart page low high = at (covering space page rec
 -- it is an extent, and begins in the space
 pub record IsOfSpace (e : Extent) : Type 0 where
   pub aligned : IsExtent e.size e.first
-  pub within : e.first < 1048576
+  pub within : e.first < space_pages
 
 module _ (m : Populations) (records : List (Option Reservation)) (space : ℕ) (e : Extent) (mapped : IsMapped m records) (known : space < 16)
     (pages : IsOfSpace e) where

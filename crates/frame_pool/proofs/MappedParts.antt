@@ -4,6 +4,7 @@ use Rattle.std.proofs.lemmas.Bool.{cases_Bool, cases_eq, cond-true, cond-false, 
 use Rattle.std.proofs.lemmas.List.{get_or-set_same, get_or-set_other, length-set, set-get_or, ext_get_or}
 use Rattle.std.proofs.lemmas.List.Sums.{sum_by-set}
 use Rattle.std.proofs.lemmas.Option.{none-some, same_Some}
+use Rattle.pager_model.specs.Bounds.{space_pages}
 use Rattle.pager_model.specs.declared.reservation.Reservation.{Reservation}
 use Rattle.pager_model.specs.Agreement.{has_frame}
 use Rattle.pager_model.specs.Extents.{IsExtent}
@@ -160,7 +161,7 @@ module _ (r : Reservation) (records : List (Option Reservation)) (splits : 0 < r
     id_part : (k s p : ℕ) → suc k ≡ r.size → covers s p r ≡ true → id_of n k (page_at s p) ≡ Some (first (page_at s p / 8 ^ k % 8))
     id_part k s p next has = places.parts k (page_at s p) next (in_it s p has) ∙ told (page_at s p / 8 ^ k % 8) (omega arith)
 
-    id_else : (k s p : ℕ) → k ≤ 3 → p < 1048576 → (k ≡ r.size ⊎ suc k ≡ r.size → covers s p r ≡ true → ⊥)
+    id_else : (k s p : ℕ) → k ≤ 3 → p < space_pages → (k ≡ r.size ⊎ suc k ≡ r.size → covers s p r ≡ true → ⊥)
         → id_of n k (page_at s p) ≡ id_of m k (page_at s p)
     id_else k s p small low else =
         places.others k (page_at s p) small
@@ -183,7 +184,7 @@ module _ (r : Reservation) (records : List (Option Reservation)) (splits : 0 < r
           high = omega (arith, bounds.1, start, width);
         })
 
-    id_to : (s p k j : ℕ) → s < 16 → p < 1048576 → k ≤ 3 → id_of n k (page_at s p) ≡ Some j → HasAt k s p (get_or all j None)
+    id_to : (s p k j : ℕ) → s < 16 → p < space_pages → k ≤ 3 → id_of n k (page_at s p) ≡ Some j → HasAt k s p (get_or all j None)
     id_to s p k j known low small is = elim (where_at k s p) [
       | inl whole ↦ absurd (none-some j (sym (id_whole k s p whole.0 whole.1) ∙ is))
       | inr rest ↦ elim rest [
@@ -208,7 +209,7 @@ module _ (r : Reservation) (records : List (Option Reservation)) (splits : 0 < r
       ]
     ]
 
-    id_from : (s p k j : ℕ) → s < 16 → p < 1048576 → k ≤ 3 → HasAt k s p (get_or all j None) → id_of n k (page_at s p) ≡ Some j
+    id_from : (s p k j : ℕ) → s < 16 → p < space_pages → k ≤ 3 → HasAt k s p (get_or all j None) → id_of n k (page_at s p) ≡ Some j
     id_from s p k j known low small has = elim (which 8 j) [
       | inl part ↦
           let i = part.0 in
@@ -227,13 +228,13 @@ module _ (r : Reservation) (records : List (Option Reservation)) (splits : 0 < r
           ∙ (mapped.exact s p k j known low small).1 (subst (HasAt k s p) (sym (there j (not_first j none))) before)
     ]
 
-    pages_of_parts : (id : ℕ) (q : Reservation) → get_or all id None ≡ Some q → (q.space < 16) × (q.first < 1048576)
+    pages_of_parts : (id : ℕ) (q : Reservation) → get_or all id None ≡ Some q → (q.space < 16) × (q.first < space_pages)
     pages_of_parts id q is = elim (which 8 id) [
       | inl part ↦
           let same = same_Some (part_of r part.0) q (sym (at_part part.0 part.1) ∙ ap (λ j. get_or all j None) (sym part.2) ∙ is) in
           let end = end_in_space r.size r.first may.placed.pages_aligned may.within in
           let ends = part_of_eight part.0 r.size splits part.1 in
-          subst (λ (t : Reservation). (t.space < 16) × (t.first < 1048576)) same
+          subst (λ (t : Reservation). (t.space < 16) × (t.first < space_pages)) same
           (may.known, omega (arith, end, ends, eight_pos (r.size - 1)))
       | inr none ↦ mapped.pages id q (there id (not_first id none) ∙ sym (at_other id none) ∙ is)
     ]

@@ -4,6 +4,7 @@ use Rattle.std.proofs.lemmas.Bool.{cases_Bool, cases_eq, false≢true}
 use Rattle.std.proofs.lemmas.List.{get_or-set_same, get_or-set_other, length-replicate, length-set}
 use Rattle.std.proofs.lemmas.List.Sums.{sum_by-set}
 use Rattle.std.proofs.lemmas.Option.{none-some, same_Some}
+use Rattle.pager_model.specs.Bounds.{space_pages}
 use Rattle.pager_model.specs.declared.reservation.Reservation.{Reservation}
 use Rattle.pager_model.specs.Extents.{IsExtent}
 use Rattle.pager_model.specs.FrameStates.{places_in}
@@ -33,12 +34,12 @@ its_own r k s p = elim (cases_eq k r.size) [
 ]
 
 -- ids after the extent of a reservation changed alone
-module _ (m n : Populations) (r : Reservation) (pages : IsExtent r.size r.first) (low : r.first < 1048576) (o : Option ℕ)
+module _ (m n : Populations) (r : Reservation) (pages : IsExtent r.size r.first) (low : r.first < space_pages) (o : Option ℕ)
     (places : PlacesOnly m n r.size (page_at r.space r.first) o) where
   id_here : (k s p : ℕ) → k ≡ r.size → covers s p r ≡ true → id_of n k (page_at s p) ≡ o
   id_here k s p same has = ap (λ j. id_of n j (page_at s p)) same ∙ places.changed (page_at s p) (covered_in r pages low s p has)
 
-  id_else : (k s p : ℕ) → k ≤ 3 → p < 1048576 → (k ≡ r.size → covers s p r ≡ true → ⊥) → id_of n k (page_at s p) ≡ id_of m k (page_at s p)
+  id_else : (k s p : ℕ) → k ≤ 3 → p < space_pages → (k ≡ r.size → covers s p r ≡ true → ⊥) → id_of n k (page_at s p) ≡ id_of m k (page_at s p)
   id_else k s p small known else =
       places.others k (page_at s p) small
       (λ same at. else same
@@ -63,9 +64,9 @@ module _ (m : Populations) (records : List (Option Reservation)) (r : Reservatio
   there : (j : ℕ) → j ≢ r.frame → get_or with_it j None ≡ get_or records j None
   there j other = get_or-set_other records r.frame j (Some r) None other
 
-  pages_with : (id : ℕ) (q : Reservation) → get_or with_it id None ≡ Some q → (q.space < 16) × (q.first < 1048576)
+  pages_with : (id : ℕ) (q : Reservation) → get_or with_it id None ≡ Some q → (q.space < 16) × (q.first < space_pages)
   pages_with id q is = elim (cases_eq id r.frame) [
-    | inl same ↦ subst (λ (t : Reservation). (t.space < 16) × (t.first < 1048576)) (same_Some r q (sym (here id same) ∙ is))
+    | inl same ↦ subst (λ (t : Reservation). (t.space < 16) × (t.first < space_pages)) (same_Some r q (sym (here id same) ∙ is))
         (may.known, may.within)
     | inr other ↦ mapped.pages id q (sym (there id other) ∙ is)
   ]
@@ -75,7 +76,7 @@ module _ (m : Populations) (records : List (Option Reservation)) (r : Reservatio
 
   -- the exact ids: by the extent of the reservation, and by the others
   module _ (n : Populations) (places : PlacesOnly m n r.size (page_at r.space r.first) (Some r.frame)) where
-    id_to : (s p k j : ℕ) → s < 16 → p < 1048576 → k ≤ 3 → id_of n k (page_at s p) ≡ Some j → HasAt k s p (get_or with_it j None)
+    id_to : (s p k j : ℕ) → s < 16 → p < space_pages → k ≤ 3 → id_of n k (page_at s p) ≡ Some j → HasAt k s p (get_or with_it j None)
     id_to s p k j known low small is = elim (its_own r k s p) [
       | inl own ↦
           let same = same_Some r.frame j (sym (id_here m n r may.placed.pages_aligned may.within (Some r.frame) places k s p own.0 own.1)
@@ -90,7 +91,7 @@ module _ (m : Populations) (records : List (Option Reservation)) (r : Reservatio
           ]
     ]
 
-    id_from : (s p k j : ℕ) → s < 16 → p < 1048576 → k ≤ 3 → HasAt k s p (get_or with_it j None) → id_of n k (page_at s p) ≡ Some j
+    id_from : (s p k j : ℕ) → s < 16 → p < space_pages → k ≤ 3 → HasAt k s p (get_or with_it j None) → id_of n k (page_at s p) ≡ Some j
     id_from s p k j known low small has = elim (cases_eq j r.frame) [
       | inl same ↦
           let own = subst (HasAt k s p) (here j same) has in
@@ -141,7 +142,7 @@ module _ (m : Populations) (records : List (Option Reservation)) (id : ℕ) (r :
   abbrev without_it : List (Option Reservation)
   without_it = set records id None
 
-  low_of : r.first < 1048576
+  low_of : r.first < space_pages
   low_of = (mapped.pages id r is).1
 
   -- the records without it
@@ -151,14 +152,14 @@ module _ (m : Populations) (records : List (Option Reservation)) (id : ℕ) (r :
   stays : (j : ℕ) → j ≢ id → get_or without_it j None ≡ get_or records j None
   stays j other = get_or-set_other records id j None None other
 
-  pages_without : (j : ℕ) (q : Reservation) → get_or without_it j None ≡ Some q → (q.space < 16) × (q.first < 1048576)
+  pages_without : (j : ℕ) (q : Reservation) → get_or without_it j None ≡ Some q → (q.space < 16) × (q.first < space_pages)
   pages_without j q at = mapped.pages j q (unset_before records id j None (Some q) (none-some q) at).1
 
   places_without : sum_by places_in without_it + 8 ^ r.size ≡ sum_by places_in records
   places_without = omega (arith, sum_by-set places_in records id None None (get_or_within records id r is), ap places_in is)
 
   -- its extent is placed with its id
-  own_id : (k s p : ℕ) → s < 16 → p < 1048576 → k ≡ r.size → covers s p r ≡ true → id_of m k (page_at s p) ≡ Some id
+  own_id : (k s p : ℕ) → s < 16 → p < space_pages → k ≡ r.size → covers s p r ≡ true → id_of m k (page_at s p) ≡ Some id
   own_id k s p known low same has = (mapped.exact s p k id known low (omega (arith, same, pages.0))).1
       (subst (HasAt k s p) (sym is) (sym same, has))
 
@@ -173,7 +174,7 @@ module _ (m : Populations) (records : List (Option Reservation)) (id : ℕ) (r :
       ap is_some (own_id r.size r.space r.first (mapped.pages id r is).0 low_of refl first)
 
   module _ (n : Populations) (places : PlacesOnly m n r.size (page_at r.space r.first) None) where
-    left_to : (s p k j : ℕ) → s < 16 → p < 1048576 → k ≤ 3 → id_of n k (page_at s p) ≡ Some j → HasAt k s p (get_or without_it j None)
+    left_to : (s p k j : ℕ) → s < 16 → p < space_pages → k ≤ 3 → id_of n k (page_at s p) ≡ Some j → HasAt k s p (get_or without_it j None)
     left_to s p k j known low small at = elim (its_own r k s p) [
       | inl own ↦ absurd (none-some j (sym (id_here m n r pages low_of None places k s p own.0 own.1) ∙ at))
       | inr else ↦
@@ -186,7 +187,7 @@ module _ (m : Populations) (records : List (Option Reservation)) (id : ℕ) (r :
           ]
     ]
 
-    left_from : (s p k j : ℕ) → s < 16 → p < 1048576 → k ≤ 3 → HasAt k s p (get_or without_it j None) → id_of n k (page_at s p) ≡ Some j
+    left_from : (s p k j : ℕ) → s < 16 → p < space_pages → k ≤ 3 → HasAt k s p (get_or without_it j None) → id_of n k (page_at s p) ≡ Some j
     left_from s p k j known low small has = elim (cases_eq j id) [
       | inl same ↦ absurd (subst (HasAt k s p) (gone j same) has)
       | inr other ↦
@@ -231,7 +232,7 @@ IsMapped-alike m records id r q mapped is space first size = record {
         let at_new = ap (λ i. get_or (set records id (Some q)) i None) same
         ∙ get_or-set_same records id (Some q) None (get_or_within records id r is) in
         let was = mapped.pages id r is in
-        subst (λ (u : Reservation). (u.space < 16) × (u.first < 1048576)) (same_Some q t (sym at_new ∙ at))
+        subst (λ (u : Reservation). (u.space < 16) × (u.first < space_pages)) (same_Some q t (sym at_new ∙ at))
         (omega (arith, was.0, space), omega (arith, was.1, first))
     | inr other ↦ mapped.pages j t (sym (get_or-set_other records id j (Some q) None other) ∙ at)
   ];

@@ -8,6 +8,7 @@ use Rattle.std.proofs.lemmas.Bool.{cases_eq, cases_lt, false≢true}
 use Rattle.std.proofs.lemmas.List.{get_or-set_same, get_or-set_other, get_or_past, get_or_read, length-map, length-replicate, length-set, map-set}
 use Rattle.std.proofs.lemmas.List.{get_or-map as get_or_map_within}
 use Rattle.std.proofs.lemmas.List.FromFn.{get_or-map-range_with_len, length-range_with_len}
+use Rattle.pager_model.specs.Bounds.{most_frames}
 use Rattle.pager_model.specs.SizeSets.{SizeSet}
 use Rattle.pager_model.specs.Frame.{Framed, zero_frame}
 use Rattle.pager_model.specs.declared.entry.Want.{Want}
@@ -172,7 +173,7 @@ AreHere-start n = λ f known.
     ∙ ap (λ g. Some g) (get_or-map-range_with_len zero_frame 0 n f f (zero_frame 0) below (omega arith)) in
     ap number_in at ∙ ap (λ o. cond (is_some o) None (Some f)) (sym (get_or-alike n f None))
 
-pub IsPool-start : (z : SizeSet) (n processors : ℕ) → n ≤ 32768 → processors ≤ 17
+pub IsPool-start : (z : SizeSet) (n processors : ℕ) → n ≤ most_frames → processors ≤ 17
     → IsPool (all_frames n) (start_layout z n) processors (start_frames z n processors)
 IsPool-start z n processors few few_processors =
     let frames_long = length-replicate n true in

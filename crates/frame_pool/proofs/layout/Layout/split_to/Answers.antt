@@ -1,5 +1,6 @@
 use Rattle.std.proofs.Common.{◌≡◌, ◌≤◌, ◌+◌, ◌^◌, Some, length, sym, ap, subst, ◌∙◌, arith}
 use Rattle.std.proofs.lemmas.Option.{none-some, same_Some}
+use Rattle.pager_model.specs.Bounds.{most_frames}
 use Rattle.pager_model.specs.declared.reservation.Reservation.{Reservation}
 use Rattle.pager_model.specs.Layouts.{Layout, record_at}
 use Rattle.pager_model.proofs.ExtentLemmas.{eight_pos}
@@ -53,7 +54,7 @@ pub overflow_add-next : goal.overflow_add-next
 overflow_add-next c =
     let going = skips (goal.at.overflow_add-next c).After-pages-next in
     let within = (going.laid.placed c.args.whole.now.frame c.args.whole.now going.is).within in
-    let few : length c.args.self.now.free ≤ 32768 = subst (λ (m : Layout). length m.free ≤ 32768) c.self.view_is c.self.invariant.1 in
+    let few : length c.args.self.now.free ≤ most_frames = subst (λ (m : Layout). length m.free ≤ most_frames) c.self.view_is c.self.invariant.1 in
     omega (arith, going.low, c.pages-next.ensures, within, going.laid.records_long, few)
 
 pub loop-next-smaller : goal.loop-next-smaller

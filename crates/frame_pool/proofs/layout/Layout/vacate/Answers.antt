@@ -1,5 +1,6 @@
 use Rattle.std.proofs.Common.{◌≡◌, ◌∙◌, ◌≤◌, ℕ, Some, true, false, length, refl, sym, ap, subst, arith}
 use Rattle.std.specs.Option.{IfSome}
+use Rattle.pager_model.specs.Bounds.{most_frames}
 use Rattle.pager_model.specs.declared.reservation.Reservation.{Reservation}
 use Rattle.pager_model.specs.Agreement.{has_frame}
 use Rattle.pager_model.specs.Layouts.{Layout, vacate_layout, record_at}
@@ -60,7 +61,7 @@ invariant_of-self-2 c =
     let v = c.in-Some.ensures in
     let after = given l c.args.frame v.whole c.give.new.free true v.frames.0 (rw v.frames.1 at c.give.ensures) in
     let gives = Gives-vacate l v.whole.frame c.args.frame v.whole c.self.invariant.0 v.stood v.had (rw (← c.self.view_is) at c.requires) in
-    rw v.left (subst (λ (m : Layout). IsLaid m × (length m.free ≤ 32768)) (sym after)
+    rw v.left (subst (λ (m : Layout). IsLaid m × (length m.free ≤ most_frames)) (sym after)
     (gives.laid, omega (arith, gives.long, c.self.invariant.1)))
 
 pub returns : goal.returns
