@@ -163,12 +163,12 @@ impl Pool {
         ensures full { IfErr result (λ _. IsFull self.old × (self.new ≡ self.old)) }
         ensures full_is_told { IsFull self.old → IsErr result }
     {
-        // The counts tell a full pool at once, before it is tried size by size.
+        // The counts tell a full pool at once, before it is tried size by size. A pool that isn't full has a place for every page.
         if self.is_full() {
             return Err(Full);
         }
         let Some(place) = self.layout.reserve(self.entries, space, page, want) else {
-            return Err(Full);
+            unreachable!()
         };
         let Some(frame) = self.frames[place.frame as usize].take() else {
             unreachable!()
@@ -354,9 +354,9 @@ impl Pool {
         self.entries += 1;
     }
 
-    /// Whether every frame is a used place or held by a processor: then none is free, and none is a reservation's unused place.
+    /// Whether every frame is a used place or held by a processor: exactly then none is free, and none is a reservation's unused place.
     fn is_full(&self) -> bool
-        ensures { result ≡ true → IsFull self.now }
+        ensures { IsTrue result ↔ IsFull self.now }
     {
         self.layout.free_frames() == 0
             && self.used.count() + held_frames(self.held.as_slice()) == self.frames.len() as u32

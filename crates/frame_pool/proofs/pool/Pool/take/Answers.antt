@@ -1,26 +1,24 @@
-use Rattle.std.proofs.Common.{◌≡◌, ℕ, ◌<◌, length, Some, None, false, is_some, refl, sym, ap, subst, ◌∙◌, arith}
+use Rattle.std.proofs.Common.{◌≡◌, ℕ, ◌<◌, length, Some, None, false, is_some, sym, ap, subst, ◌∙◌, arith}
+use Rattle.std.proofs.lemmas.Bool.{false≢true}
 use Rattle.std.proofs.lemmas.Option.{none-some, same_Some}
 use Rattle.pager_model.specs.FrameStates.{FrameState, layout_of, used_at, take_frame, IsFull}
 use Rattle.pager_model.specs.Layouts.{placing}
 use Rattle.frame_pool.specs.PoolState.{state_of}
 use Rattle.frame_pool.specs.Pooled.{number_in}
-use Rattle.pager_laws.proofs.LayoutPlacing.{full-placing, placing-full}
+use Rattle.pager_laws.proofs.LayoutPlacing.{full-placing}
 use Rattle.frame_pool.proofs.PlacingResult.{asked}
 use Rattle.frame_pool.proofs.PoolFields.{layout_of-pool, used_long, taking_of, take_frame-placed, state_taken-is, frame_known, frame_out, frame_there, nothing_noted, IsPool-taken}
 use Rattle.frame_pool.proofs.pool.Pool.take.Goals as goal
 
-pub invariant_of-self : goal.invariant_of-self
-invariant_of-self c = rw c.in_default.ensures.none.1 c.self.invariant
-
-pub returns-in_default-clause-full : goal.returns-in_default-clause-full
-returns-in_default-clause-full c =
+pub unreachable-requires : goal.unreachable-requires
+unreachable-requires c =
     let p = c.self.inside in
     let unplaced = rw (← c.self.view_is) at c.requires.unplaced in
     let none = ap (placing p.entries c.args.space c.args.page c.args.want.now) (layout_of-pool p c.self.invariant)
     ∙ c.in_default.ensures.none.0 in
     let full = full-placing
     (layout_of (state_of p)) p.entries c.args.space c.args.page c.args.want.now c.self.invariant.sound.laid unplaced none in
-    rw (c.in_default.ensures.none.1, ← c.self.view_is) (full, refl)
+    false≢true (sym c.if-is_full.false ∙ c.is_full.ensures.1 (subst IsFull c.self.view_is full))
 
 pub index_mut-requires : goal.index_mut-requires
 index_mut-requires c =
@@ -33,8 +31,8 @@ index_mut-requires c =
       p.frames.ok.0,
     )
 
-pub unreachable-requires : goal.unreachable-requires
-unreachable-requires c =
+pub unreachable-requires-in_default-take : goal.unreachable-requires-in_default-take
+unreachable-requires-in_default-take c =
     let p = c.self.inside in
     let a = asked c.args.space c.args.page c.args.want.now in
     let unplaced = rw (← c.self.view_is) at c.requires.unplaced in
@@ -57,8 +55,8 @@ add-requires-clause-unused c =
     let unplaced = rw (← c.self.view_is) at c.requires.unplaced in
     nothing_noted c.self.inside a _ c.in-Some.place c.self.invariant unplaced c.in-Some.ensures.placed
 
-pub invariant_of-self-2 : goal.invariant_of-self-2
-invariant_of-self-2 c =
+pub invariant_of-self : goal.invariant_of-self
+invariant_of-self c =
     let a = asked c.args.space c.args.page c.args.want.now in
     let unplaced = rw (← c.self.view_is) at c.requires.unplaced in
     rw (c.take.ensures.after, c.add.ensures)
@@ -78,16 +76,6 @@ returns-clause-taken c =
       rw c.add.ensures (state_taken-is p a _ c.in-Some.place c.self.invariant unplaced placed),
       same_Some _ _ (number ∙ there) ∙ placed.same_frame,
     )
-
-pub returns-clause-full_is_told : goal.returns-clause-full_is_told
-returns-clause-full_is_told c = λ told.
-    let p = c.self.inside in
-    let unplaced = rw (← c.self.view_is) at c.requires.unplaced in
-    let full : IsFull (state_of p) = subst IsFull (sym c.self.view_is) told in
-    let none = placing-full
-    (layout_of (state_of p)) p.entries c.args.space c.args.page c.args.want.now c.self.invariant.sound.laid unplaced full in
-    absurd (none-some _ (sym none ∙ ap (placing p.entries c.args.space c.args.page c.args.want.now) (layout_of-pool p c.self.invariant)
-    ∙ c.in-Some.ensures.placed.is))
 
 pub returns-clause-unused : goal.returns-clause-unused
 returns-clause-unused c =
