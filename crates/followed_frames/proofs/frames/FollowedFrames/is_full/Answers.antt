@@ -13,4 +13,5 @@ returns-clause-full c = λ is.
 pub returns-clause-not_full : goal.returns-clause-not_full
 returns-clause-not_full c = λ is full.
     let r = c.requires.reached in
-    false≢true (sym is ∙ c.is_short.ensures ∙ ap (λ (st : FrameState). is_short st 1) c.self.view_is ∙ is_short-full r.frames r.processors c.args.self.now r.sound full)
+    false≢true (sym is ∙ c.is_short.ensures ∙ ap (λ (st : FrameState). is_short st 1) c.self.view_is
+    ∙ is_short-full r.frames r.processors c.args.self.now r.sound full)
