@@ -1,11 +1,24 @@
-/* Opens a pool with no C library: its memory is a buffer, and all that it has beside is the memset that a compiler asks of every kernel. Built for
- * Linux on x86-64 with -ffreestanding -nostdlib, where it ends with status 0 if each answer was as it should be. */
+/* Opens a pool with no C library: its memory is a buffer, and all that it has beside are the memmove and the memset that a compiler asks of every
+ * kernel. Built for Linux on x86-64 with -ffreestanding -nostdlib, where it ends with status 0 if each answer was as it should be. */
 #include "superpager.h"
 
 enum { BYTES = 8 << 20 };
 
 static superpager pool;
 static _Alignas(16) unsigned char buffer[BYTES];
+
+void *memmove(void *to, const void *from, size_t bytes) {
+    volatile unsigned char *there = to;
+    const unsigned char *here = from;
+
+    if (there < here)
+        for (size_t i = 0; i < bytes; i++)
+            there[i] = here[i];
+    else
+        for (size_t i = bytes; i > 0; i--)
+            there[i - 1] = here[i - 1];
+    return to;
+}
 
 void *memset(void *at, int byte, size_t bytes) {
     for (volatile unsigned char *next = at; bytes > 0; bytes--)
