@@ -33,7 +33,7 @@ use Rattle.flight_core.specs.Rows.{Outcome, Going, TurnEnded, Answered, call_in,
 use Rattle.flight_core.specs.Steps.{AreAgreed, Makes, MakesEntry, MakesOnFrames, Passes, SameSpace, SameWork, after_named, answer_made, reply_said}
 use Rattle.flight_core.proofs.EntrySteps.{Fits-left}
 use Rattle.flight_core.proofs.NextFlights.{ended_by, under_cases, keeps_under}
-use Rattle.flight_core.specs.Flying.{later, IsFlying, IsSpaceIn, IsHere, HasLeft}
+use Rattle.flight_core.specs.Flying.{later, IsFlying, IsSpaceIn, IsHere, HasLeft, in_space, since}
 use Rattle.flight_core.specs.Logged.{Added, replies_in, Stepped, SteppedOnFrames}
 use Rattle.flight_core.specs.Taken.{AnswersCall}
 use Rattle.flight_core.proofs.LegalSteps.{victim_placed, frames_at-step, space_at-after}
@@ -269,7 +269,7 @@ module _ (g : Given) (h : List Entry) (before : ℕ) (was : Kept) (f : Flight) (
         }
 
     pub stepped_here : {L : Type 0} (stands : L → Given → List Entry → Type 0) (log : L) → stands log g (h ++ e ∷ [])
-        → Stepped stands g h before log true f f' was now after
+        → Stepped stands (since g h before) log true (in_space f was) (in_space f' now) after
     stepped_here stands log is =
         record {
           piece = e ∷ [];
@@ -312,7 +312,7 @@ module _ (g : Given) (h : List Entry) (before : ℕ) (was : Kept) (f : Flight) (
         }
 
     pub passed_here : {L : Type 0} (stands : L → Given → List Entry → Type 0) (log : L) (pool : FrameState) → pool ≡ frames_at g h
-        → stands log g h → Stepped stands g h before log false f f' was now pool
+        → stands log g h → Stepped stands (since g h before) log false (in_space f was) (in_space f' now) pool
     passed_here stands log pool frames is =
         record {
           piece = [];
@@ -351,7 +351,7 @@ module _ (g : Given) (h : List Entry) (before : ℕ) (f : Flight) (legal : IsLeg
   may_follow_frames = may_follow g h before f legal flying pool frames f' after e makes.entry makes.fits (none_named _) (none_named _)
 
   pub stepped_frames : {L : Type 0} (stands : L → Given → List Entry → Type 0) (log : L) → stands log g (h ++ e ∷ [])
-      → SteppedOnFrames stands g h before log f f' after
+      → SteppedOnFrames stands (since g h before) log f f' after
   stepped_frames stands log is =
       record {
         piece = e ∷ [];

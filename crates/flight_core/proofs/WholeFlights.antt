@@ -22,7 +22,7 @@ use Rattle.flight_core.specs.Rows.{Outcome, Going, TurnEnded, Answered, has_ende
 use Rattle.flight_core.specs.Steps.{SameWork, answer_made, reply_said}
 use Rattle.flight_core.proofs.NextFlights.{anywhere, keeps_under, keeps_none}
 use Rattle.flight_core.specs.Counting.{most_in_history}
-use Rattle.flight_core.specs.Flying.{IsSpaceIn, IsHere}
+use Rattle.flight_core.specs.Flying.{IsSpaceIn, IsHere, in_space, since}
 use Rattle.flight_core.specs.Logged.{Added, Stepped, SteppedOnFrames, replies_in}
 use Rattle.flight_core.specs.Whole.{AreAt, WentOn}
 use Rattle.flight_core.proofs.Lists.{all-append, slice_get-set_same, slice_get-set_other}
@@ -89,7 +89,7 @@ module _ (g : Given) (h : List Entry) (before : ℕ) (spaces : List Kept) (pool 
           }
 
       module _ {L : Type 0} (stands : L → Given → List Entry → Type 0) (log : L) (made : Bool) (f' : Flight) (now : Kept) (after : FrameState)
-          (step : Stepped stands g h before log made f f' was now after) where
+          (step : Stepped stands (since g h before) log made (in_space f was) (in_space f' now) after) where
         number_now : now.number ≡ s
         number_now = step.same_space.number ∙ at.number s was there
 
@@ -148,7 +148,7 @@ module _ (g : Given) (h : List Entry) (before : ℕ) (spaces : List Kept) (pool 
               ];
             }
 
-        pub went_in : WentOn stands g h before log f f' (set spaces s now) after
+        pub went_in : WentOn stands (since g h before) log f f' (set spaces s now) after
         went_in =
             record {
               piece = step.piece;
@@ -161,11 +161,11 @@ module _ (g : Given) (h : List Entry) (before : ℕ) (spaces : List Kept) (pool 
 
   -- Where it is made on the frames alone.
   module _ (needs : (row_of f).needs ≡ Frames) {L : Type 0} (stands : L → Given → List Entry → Type 0) (log : L) (f' : Flight)
-      (after : FrameState) (step : SteppedOnFrames stands g h before log f f' after) where
+      (after : FrameState) (step : SteppedOnFrames stands (since g h before) log f f' after) where
     keeps_was : (row_of f).keeps ≡ None
     keeps_was = keeps_none f (ap space_under needs)
 
-    pub went_on_frames : WentOn stands g h before log f f' spaces after
+    pub went_on_frames : WentOn stands (since g h before) log f f' spaces after
     went_on_frames =
         record {
           piece = step.piece;
@@ -239,7 +239,7 @@ Added-none f going =
 
 pub WentOn-none : {L : Type 0} (stands : L → Given → List Entry → Type 0) (g : Given) (h : List Entry) (before : ℕ) (log : L) (f : Flight)
     (spaces : List Kept) (pool : FrameState) → has_ended (row_of f).outcome ≡ false → stands log g h → AreAt g h before spaces pool f
-    → WentOn stands g h before log f f spaces pool
+    → WentOn stands (since g h before) log f f spaces pool
 WentOn-none stands g h before log f spaces pool going is at =
     record {
       piece = [];
@@ -252,8 +252,8 @@ WentOn-none stands g h before log f spaces pool going is at =
 
 pub WentOn-on : {L : Type 0} (stands : L → Given → List Entry → Type 0) (g : Given) (h : List Entry) (before : ℕ) (log log' : L)
     (old mid new : Flight) (spaces spaces' : List Kept) (pool pool' : FrameState) → has_ended (row_of mid).outcome ≡ false
-    → (first : WentOn stands g h before log old mid spaces pool) → WentOn stands g first.history before log' mid new spaces' pool'
-    → WentOn stands g h before log' old new spaces' pool'
+    → (first : WentOn stands (since g h before) log old mid spaces pool) → WentOn stands (since g first.history before) log' mid new spaces' pool'
+    → WentOn stands (since g h before) log' old new spaces' pool'
 WentOn-on stands g h before log log' old mid new spaces spaces' pool pool' going first second =
     record {
       piece = first.piece ++ second.piece;

@@ -28,6 +28,23 @@ pub record IsOnWay (g : Given) (own : List Entry) (before : ℕ) (f : Flight) : 
 abbrev pub IsFlying : Given → List Entry → ℕ → Flight → Type 0
 IsFlying g h before f = IsOnWay g (entries_of f.processor h) before f
 
+-- Where steps begin: a setting, the history that was made by it, and how many calls or turns the flight's processor made before those that it counts.
+pub record Past : Type 0 where
+  pub setting : Given
+  pub history : List Entry
+  pub before : ℕ
+
+abbrev pub since : Given → List Entry → ℕ → Past
+since g h before = record { setting = g; history = h; before = before }
+
+-- a flight, and a space that it is in or has left
+pub record Placed : Type 0 where
+  pub flight : Flight
+  pub kept : Kept
+
+abbrev pub in_space : Flight → Kept → Placed
+in_space f kept = record { flight = f; kept = kept }
+
 -- a space of the setting
 pub record IsSpaceIn (g : Given) (kept : Kept) : Type 0 where
   pub within : kept.number < length g.told

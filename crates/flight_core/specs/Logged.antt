@@ -11,7 +11,7 @@ use Rattle.space_core.specs.Standing.{Kept}
 use Rattle.flight_core.specs.declared.flight.Flight.{Flight}
 use Rattle.flight_core.specs.Rows.{is_between, reply_in, row_of}
 use Rattle.flight_core.specs.Steps.{SameSpace, SameWork, answer_made, reply_said}
-use Rattle.flight_core.specs.Flying.{IsFlying, IsHere, HasLeft}
+use Rattle.flight_core.specs.Flying.{IsFlying, IsHere, HasLeft, Past, Placed}
 
 -- the replies of the answers, in order
 abbrev pub replies_in : List Entry → List Reply
@@ -55,32 +55,32 @@ pub record CanStepFrames {L : Type 0} (stands : L → Given → List Entry → T
 
 -- A step in a space: the log stands for a history that is longer by the entry that was made, where one was, which names no other space, and the
 -- pool is the frames' state after it. A flight that made none keeps the space.
-pub record Stepped {L : Type 0} (stands : L → Given → List Entry → Type 0) (g : Given) (h : List Entry) (before : ℕ) (log : L) (made : Bool)
-    (old new : Flight) (was now : Kept) (pool : FrameState) : Type 0 where
+pub record Stepped {L : Type 0} (stands : L → Given → List Entry → Type 0) (past : Past) (log : L) (made : Bool) (old new : Placed)
+    (pool : FrameState) : Type 0 where
   pub piece : List Entry
   pub history : List Entry
-  pub grown : history ≡ h ++ piece
+  pub grown : history ≡ past.history ++ piece
   pub one : length piece ≡ (if made then 1 else 0)
-  pub stands_for : stands log g history
-  pub left : HasLeft g history before now new
-  pub frames : pool ≡ frames_at g history
-  pub added : Added old new piece
-  pub elsewhere : AllByRecursion (λ (e : Entry). IfSome e.space (λ s. s ≡ was.number)) piece
-  pub same_space : SameSpace was now
-  pub between : made ≡ true → is_between new.purpose new.phase ≡ true
-  pub still : made ≡ false → (row_of new).keeps ≡ Some was.number
+  pub stands_for : stands log past.setting history
+  pub left : HasLeft past.setting history past.before new.kept new.flight
+  pub frames : pool ≡ frames_at past.setting history
+  pub added : Added old.flight new.flight piece
+  pub elsewhere : AllByRecursion (λ (e : Entry). IfSome e.space (λ s. s ≡ old.kept.number)) piece
+  pub same_space : SameSpace old.kept new.kept
+  pub between : made ≡ true → is_between new.flight.purpose new.flight.phase ≡ true
+  pub still : made ≡ false → (row_of new.flight).keeps ≡ Some old.kept.number
 
 -- A step on the frames alone: the history is longer by one entry, which names no space.
-pub record SteppedOnFrames {L : Type 0} (stands : L → Given → List Entry → Type 0) (g : Given) (h : List Entry) (before : ℕ) (log : L)
-    (old new : Flight) (pool : FrameState) : Type 0 where
+pub record SteppedOnFrames {L : Type 0} (stands : L → Given → List Entry → Type 0) (past : Past) (log : L) (old new : Flight)
+    (pool : FrameState) : Type 0 where
   pub piece : List Entry
   pub history : List Entry
-  pub grown : history ≡ h ++ piece
+  pub grown : history ≡ past.history ++ piece
   pub one : length piece ≡ 1
-  pub stands_for : stands log g history
-  pub legal : IsLegal g history
-  pub flying : IsFlying g history before new
-  pub frames : pool ≡ frames_at g history
+  pub stands_for : stands log past.setting history
+  pub legal : IsLegal past.setting history
+  pub flying : IsFlying past.setting history past.before new
+  pub frames : pool ≡ frames_at past.setting history
   pub added : Added old new piece
   pub nowhere : AllByRecursion (λ (e : Entry). e.space ≡ None) piece
   pub between : is_between new.purpose new.phase ≡ true

@@ -9,7 +9,7 @@ use Rattle.flight_core.specs.declared.flight.Flight.{Flight}
 use Rattle.flight_core.specs.Flights.{IsAtRest, IsReady}
 use Rattle.flight_core.specs.Rows.{row_of}
 use Rattle.flight_core.specs.Counting.{most_in_history}
-use Rattle.flight_core.specs.Flying.{IsFlying, IsSpaceIn}
+use Rattle.flight_core.specs.Flying.{IsFlying, IsSpaceIn, Past}
 use Rattle.flight_core.specs.Logged.{Added}
 
 -- After the history the spaces and the pool are as its parts lead to, and the flight goes on; the history isn't too long.
@@ -32,11 +32,11 @@ pub record CanGoOn {L : Type 0} (stands : L → Given → List Entry → Type 0)
   pub at : AreAt setting history before spaces pool f
 
 -- some steps
-pub record WentOn {L : Type 0} (stands : L → Given → List Entry → Type 0) (g : Given) (h : List Entry) (before : ℕ) (log : L)
-    (old new : Flight) (spaces : List Kept) (pool : FrameState) : Type 0 where
+pub record WentOn {L : Type 0} (stands : L → Given → List Entry → Type 0) (past : Past) (log : L) (old new : Flight) (spaces : List Kept)
+    (pool : FrameState) : Type 0 where
   pub piece : List Entry
   pub history : List Entry
-  pub grown : history ≡ h ++ piece
-  pub stands_for : stands log g history
-  pub at : AreAt g history before spaces pool new
+  pub grown : history ≡ past.history ++ piece
+  pub stands_for : stands log past.setting history
+  pub at : AreAt past.setting history past.before spaces pool new
   pub added : Added old new piece

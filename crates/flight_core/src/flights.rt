@@ -3,6 +3,7 @@
 ghost use Rattle.std.specs.Prelude.{ℕ, ◌≡◌, ◌<◌, ◌≤◌, List, true, false};
 ghost use Rattle.pager_model.specs.declared.entry.Entry.{Entry};
 ghost use Rattle.pager_model.specs.Settings.{Given};
+ghost use Rattle.flight_core.specs.Flying.{since};
 ghost use Rattle.flight_core.specs.Lacking.{NeverLacks};
 ghost use Rattle.flight_core.specs.Rows.{has_ended, row_of};
 ghost use Rattle.flight_core.specs.Whole.{AreAt, CanGoOn, WentOn};
@@ -26,7 +27,7 @@ pub fn fly<L: Log, S: Store + Send + Drop>(
     requires takes { (e : Entry) → L.takes log.old e }
     requires room { (row_of flight.old).entries ≤ L.room log.old }
     ensures went { (g : Given) (h : List Entry) (before : ℕ) → L.stands log.old g h → AreAt g h before spaces.old.items pool.old flight.old
-        → WentOn L.stands g h before log.new flight.old flight.new spaces.new.items pool.new }
+        → WentOn L.stands (since g h before) log.new flight.old flight.new spaces.new.items pool.new }
     ensures grown { (from : L) → L.grown from log.old → L.grown from log.new }
     ensures ended { has_ended (row_of flight.new).outcome ≡ true }
     ensures lasting { S.lasts ≡ true → NeverLacks flight.old.phase flight.new.phase }
@@ -48,7 +49,7 @@ fn go_on<L: Log, S: Store + Send + Drop>(
     requires takes { (e : Entry) → L.takes log.old e }
     requires room { (row_of flight.old).entries ≤ L.room log.old }
     ensures went { (g : Given) (h : List Entry) (before : ℕ) → L.stands log.old g h → AreAt g h before spaces.old.items pool.old flight.old
-        → WentOn L.stands g h before log.new flight.old flight.new spaces.new.items pool.new }
+        → WentOn L.stands (since g h before) log.new flight.old flight.new spaces.new.items pool.new }
     ensures takes { (e : Entry) → L.takes log.new e }
     ensures grown { (from : L) → L.grown from log.old → L.grown from log.new }
     ensures room { (row_of flight.new).entries ≤ L.room log.new }

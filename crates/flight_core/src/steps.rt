@@ -7,7 +7,7 @@ ghost use Rattle.pager_model.specs.Settings.{Given};
 ghost use Rattle.flight_core.specs.declared.flight.Needs.TheVariants.{Space as Alone, Both, Frames};
 ghost use Rattle.flight_core.specs.Lacking.{NeverLacks};
 ghost use Rattle.flight_core.specs.Rows.{row_of};
-ghost use Rattle.flight_core.specs.Flying.{IsFlying, IsHere};
+ghost use Rattle.flight_core.specs.Flying.{IsFlying, IsHere, in_space, since};
 ghost use Rattle.flight_core.specs.Logged.{CanStep, CanStepBoth, CanStepFrames, Stepped, SteppedOnFrames};
 
 use crate::flight::Flight;
@@ -27,7 +27,7 @@ pub fn step_alone<L: Log, S: Store + Send + Drop>(
     requires takes { (e : Entry) → e.processor ≡ flight.old.processor → e.space ≡ Some space.old.number → e.frames ≡ false → L.takes log.old e }
     requires room { (row_of flight.old).entries ≤ L.room log.old }
     ensures stepped { (g : Given) (h : List Entry) (before : ℕ) → L.stands log.old g h → IsHere g h before space.old flight.old
-        → Stepped L.stands g h before log.new result flight.old flight.new space.old space.new (frames_at g h) }
+        → Stepped L.stands (since g h before) log.new result (in_space flight.old space.old) (in_space flight.new space.new) (frames_at g h) }
     ensures takes { (e : Entry) → L.takes log.old e → L.takes log.new e }
     ensures grown { (from : L) → L.grown from log.old → L.grown from log.new }
     ensures room { (row_of flight.new).entries ≤ L.room log.new }
@@ -57,7 +57,7 @@ pub fn step_both<L: Log, S: Store + Send + Drop>(
     requires room { (row_of flight.old).entries ≤ L.room log.old }
     requires few { pool.old.entries < 2 ^ 45 }
     ensures stepped { (g : Given) (h : List Entry) (before : ℕ) → L.stands log.old g h → IsHere g h before space.old flight.old → pool.old ≡ frames_at g h
-        → Stepped L.stands g h before log.new result flight.old flight.new space.old space.new pool.new }
+        → Stepped L.stands (since g h before) log.new result (in_space flight.old space.old) (in_space flight.new space.new) pool.new }
     ensures takes { (e : Entry) → L.takes log.old e → L.takes log.new e }
     ensures grown { (from : L) → L.grown from log.old → L.grown from log.new }
     ensures room { (row_of flight.new).entries ≤ L.room log.new }
@@ -82,7 +82,7 @@ pub fn step_frames<L: Log>(log: &mut L, pool: &mut Pool, flight: &mut Flight)
     requires room { (row_of flight.old).entries ≤ L.room log.old }
     requires few { pool.old.entries < 2 ^ 45 }
     ensures stepped { (g : Given) (h : List Entry) (before : ℕ) → L.stands log.old g h → IsLegal g h → IsFlying g h before flight.old
-        → pool.old ≡ frames_at g h → SteppedOnFrames L.stands g h before log.new flight.old flight.new pool.new }
+        → pool.old ≡ frames_at g h → SteppedOnFrames L.stands (since g h before) log.new flight.old flight.new pool.new }
     ensures takes { (e : Entry) → L.takes log.old e → L.takes log.new e }
     ensures grown { (from : L) → L.grown from log.old → L.grown from log.new }
     ensures room { (row_of flight.new).entries ≤ L.room log.new }

@@ -2,6 +2,7 @@ use Rattle.std.proofs.Common.{◌∙◌, ap, sym, subst, refl, length}
 use Rattle.std.proofs.lemmas.Option.{slice_get_read}
 use Rattle.flight_core.specs.declared.flight.Needs.TheVariants.{Space, Both}
 use Rattle.flight_core.specs.Rows.{space_under}
+use Rattle.flight_core.specs.Flying.{in_space, since}
 use Rattle.flight_core.specs.Logged.{Stepped}
 use Rattle.flight_core.proofs.WholeFlights.{few_frames, within, here, went_in, went_on_frames}
 use Rattle.flight_core.proofs.flights.go_on.Goals as goal
@@ -78,8 +79,8 @@ returns-in-Space-clause-went g c = λ s h before is at.
     (here s h before spaces c.args.pool.now c.args.flight.now at c.in-Space.space under was there) in
     went_in s h before spaces c.args.pool.now c.args.flight.now at c.in-Space.space under was there g.L.Log.stands c.step_alone.new.log c.step_alone.result
     c.step_alone.new.flight c.step_alone.new.space c.args.pool.now
-    (subst (Stepped g.L.Log.stands s h before c.step_alone.new.log c.step_alone.result c.args.flight.now c.step_alone.new.flight was c.step_alone.new.space)
-    (sym at.frames) step)
+    (subst (Stepped g.L.Log.stands (since s h before) c.step_alone.new.log c.step_alone.result (in_space c.args.flight.now was)
+    (in_space c.step_alone.new.flight c.step_alone.new.space)) (sym at.frames) step)
 
 pub returns-in-Both-clause-went : goal.returns-in-Both-clause-went
 returns-in-Both-clause-went g c = λ s h before is at.
