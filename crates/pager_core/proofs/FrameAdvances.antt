@@ -12,6 +12,7 @@ use Rattle.flight_core.specs.declared.flight.Flight.{Flight}
 use Rattle.flight_core.specs.Flights.{IsReady, IsAtRest}
 use Rattle.flight_core.specs.Rows.{row_of, space_under}
 use Rattle.flight_core.proofs.NextFlights.{keeps_none}
+use Rattle.flight_core.specs.Flying.{since}
 use Rattle.flight_core.specs.Logged.{SteppedOnFrames}
 use Rattle.flight_core.proofs.WholeFlights.{nowhere-all}
 use Rattle.pager_core.specs.Running.{flight_at, jobs_at}
@@ -69,7 +70,7 @@ module _ (m : MachineParts) (step : Step) (advances : AdvancesOnFrames m step) w
 
 -- A step on the frames, whose entry the log took.
 module _ {L : Type 0} (stands : L → Given → List Entry → Type 0) (m : MachineParts) (c : ℕ) (old new : Flight) (after : FrameState) (log : L)
-    (stepped : SteppedOnFrames stands m.run.given (entries_in m.run.history) 0 log old new after) where
+    (stepped : SteppedOnFrames stands (since m.run.given (entries_in m.run.history) 0) log old new after) where
   abbrev pub step_on : Step
   step_on = step_by m c old new after stepped.piece stepped.history stepped.one stepped.grown
 

@@ -9,7 +9,7 @@ use Rattle.space_core.specs.Standing.{Kept}
 use Rattle.flight_core.specs.declared.flight.Flight.{Flight}
 use Rattle.flight_core.specs.Lacking.{NeverLacks}
 use Rattle.flight_core.specs.Rows.{row_of, space_under}
-use Rattle.flight_core.specs.Flying.{IsFlying, IsHere}
+use Rattle.flight_core.specs.Flying.{IsFlying, IsHere, in_space, since}
 use Rattle.flight_core.specs.Logged.{Stepped, SteppedOnFrames}
 use Rattle.pager_core.specs.declared.listed.Listed.{Listed}
 use Rattle.pager_core.specs.Listing.{IsListed}
@@ -45,15 +45,15 @@ run_then m c o log =
 module _ (m : MachineParts) (c : ℕ) (f f' : Flight) (whole : IsWhole m) (log : Listed) (pool : FrameState) where
   pub made_in : (s : ℕ) (was now : Kept) → Finds m c s f was
       → ((g : Given) (h : List Entry) (before : ℕ) → IsListed m.run.history m.capacity h → IsHere g h before was f
-      → m.pool ≡ frames_at g h → Stepped listed_for g h before log true f f' was now pool)
-      → Stepped listed_for m.run.given (entries_in m.run.history) 0 log true f f' was now pool
+      → m.pool ≡ frames_at g h → Stepped listed_for (since g h before) log true (in_space f was) (in_space f' now) pool)
+      → Stepped listed_for (since m.run.given (entries_in m.run.history) 0) log true (in_space f was) (in_space f' now) pool
   made_in s was now found made =
       made m.run.given (entries_in m.run.history) 0 (IsListed-machine m whole) found.here whole.frames
 
   pub made_on_frames : flight_at m.run.flights c ≡ Some f
       → ((g : Given) (h : List Entry) (before : ℕ) → IsListed m.run.history m.capacity h → IsLegal g h → IsFlying g h before f
-      → m.pool ≡ frames_at g h → SteppedOnFrames listed_for g h before log f f' pool)
-      → SteppedOnFrames listed_for m.run.given (entries_in m.run.history) 0 log f f' pool
+      → m.pool ≡ frames_at g h → SteppedOnFrames listed_for (since g h before) log f f' pool)
+      → SteppedOnFrames listed_for (since m.run.given (entries_in m.run.history) 0) log f f' pool
   made_on_frames flies made =
       made m.run.given (entries_in m.run.history) 0 (IsListed-machine m whole) whole.lawful.legal (FliesOn-machine m c f whole flies)
       whole.frames
@@ -91,7 +91,7 @@ module _ (m : MachineParts) (self : Running) (c : ℕ) (f f' : Flight) (o : Opti
 
   -- under a space's lock
   pub Advanced-in : (s : ℕ) (was now : Kept) (pool : FrameState) → Finds m c s f was
-      → Stepped listed_for m.run.given (entries_in m.run.history) 0 log true f f' was now pool
+      → Stepped listed_for (since m.run.given (entries_in m.run.history) 0) log true (in_space f was) (in_space f' now) pool
       → (keepers : List (Option ℕ)) (keeper : Option ℕ) → keeper ≡ option_map (λ (t : ℕ). c) (row_of f').keeps
       → Advanced m self c f f' o log (set m.spaces s now) pool keepers (set keepers s keeper)
   Advanced-in s was now pool found made keepers keeper is =
@@ -104,7 +104,7 @@ module _ (m : MachineParts) (self : Running) (c : ℕ) (f f' : Flight) (o : Opti
 
   -- under the frames' lock alone
   pub Advanced-on_frames : (pool : FrameState) → flight_at m.run.flights c ≡ Some f → space_under (row_of f).needs ≡ None
-      → SteppedOnFrames listed_for m.run.given (entries_in m.run.history) 0 log f f' pool → (keepers : List (Option ℕ))
+      → SteppedOnFrames listed_for (since m.run.given (entries_in m.run.history) 0) log f f' pool → (keepers : List (Option ℕ))
       → Advanced m self c f f' o log m.spaces pool keepers keepers
   Advanced-on_frames pool flies under made keepers =
       let step = step_on listed_for m c f f' pool log made in

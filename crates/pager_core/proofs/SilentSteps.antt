@@ -14,7 +14,7 @@ use Rattle.flight_core.specs.Flights.{LeftBy}
 use Rattle.flight_core.specs.Rows.{Going, has_ended, reply_in, row_of, space_under}
 use Rattle.flight_core.specs.Steps.{SameSpace, answer_made}
 use Rattle.flight_core.proofs.EntrySteps.{same_space-on, unchanged}
-use Rattle.flight_core.specs.Flying.{IsHere, HasLeft}
+use Rattle.flight_core.specs.Flying.{IsHere, HasLeft, in_space, since}
 use Rattle.flight_core.specs.Logged.{Added, Stepped}
 use Rattle.flight_core.proofs.FlightSteps.{going}
 use Rattle.flight_core.proofs.WholeFlights.{Added-on}
@@ -52,7 +52,8 @@ module _ {L : Type 0} (stands : L → Given → List Entry → Type 0) (g : Give
       }
 
   -- One step that made none.
-  module _ (log : L) (old new : Flight) (was now : Kept) (pool : FrameState) (step : Stepped stands g h before log false old new was now pool) where
+  module _ (log : L) (old new : Flight) (was now : Kept) (pool : FrameState)
+      (step : Stepped stands (since g h before) log false (in_space old was) (in_space new now) pool) where
     nothing : step.piece ≡ []
     nothing = none_in step.piece step.one
 
@@ -85,7 +86,8 @@ module _ {L : Type 0} (stands : L → Given → List Entry → Type 0) (g : Give
     not_ended = ap has_ended (goes_on mid here passed.here)
 
     -- one more
-    pub HasPassed-more : Stepped stands g h before log' false mid new here now pool' → HasPassed stands g h before log' old new was now pool'
+    pub HasPassed-more : Stepped stands (since g h before) log' false (in_space mid here) (in_space new now) pool'
+        → HasPassed stands g h before log' old new was now pool'
     HasPassed-more step =
         let one = alone_passed log' mid new here now pool' step in
         record {
@@ -97,8 +99,8 @@ module _ {L : Type 0} (stands : L → Given → List Entry → Type 0) (g : Give
         }
 
     -- and then the entry
-    pub Stepped-passed : (made : Bool) → Stepped stands g h before log' made mid new here now pool'
-        → Stepped stands g h before log' made old new was now pool'
+    pub Stepped-passed : (made : Bool) → Stepped stands (since g h before) log' made (in_space mid here) (in_space new now) pool'
+        → Stepped stands (since g h before) log' made (in_space old was) (in_space new now) pool'
     Stepped-passed made step =
         record {
           piece = step.piece;

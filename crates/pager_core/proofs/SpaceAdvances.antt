@@ -14,6 +14,7 @@ use Rattle.flight_core.specs.Flights.{IsReady, IsAtRest, LeftBy}
 use Rattle.flight_core.specs.Rows.{row_of, space_under}
 use Rattle.flight_core.specs.Steps.{SameSpace}
 use Rattle.flight_core.proofs.NextFlights.{keeps_under}
+use Rattle.flight_core.specs.Flying.{in_space, since}
 use Rattle.flight_core.specs.Logged.{Stepped}
 use Rattle.flight_core.proofs.Lists.{slice_get-set_same, slice_get-set_other}
 use Rattle.flight_core.proofs.WholeFlights.{elsewhere-all}
@@ -138,7 +139,7 @@ module _ (m : MachineParts) (step : Step) (s : ℕ) (was now : Kept) (advances :
 -- A step in a space, of which the log took an entry.
 module _ {L : Type 0} (stands : L → Given → List Entry → Type 0) (m : MachineParts) (c : ℕ) (old new : Flight) (s : ℕ) (was now : Kept)
     (after : FrameState) (log : L)
-    (stepped : Stepped stands m.run.given (entries_in m.run.history) 0 log true old new was now after) where
+    (stepped : Stepped stands (since m.run.given (entries_in m.run.history) 0) log true (in_space old was) (in_space new now) after) where
   abbrev pub step_in : Step
   step_in = step_by m c old new after stepped.piece stepped.history stepped.one stepped.grown
 

@@ -15,7 +15,7 @@ ghost use Rattle.pager_core.specs.Machines.{IsOther, entries_of_trace, entries_o
 ghost use Rattle.flight_core.specs.Rows.{Going, has_ended, row_of, space_under};
 ghost use Rattle.pager_core.specs.RunParts.{AreRoomsOver};
 ghost use Rattle.pager_core.specs.Running.{Running, progress_of_actor, flight_at, flight_for, flight_of, first_flights, jobs_at, HasEnded, MustWait, StepsUnder, OneMore, IsLawful, IsWholeRun};
-ghost use Rattle.flight_core.specs.Flying.{IsHere};
+ghost use Rattle.flight_core.specs.Flying.{IsHere, in_space, since};
 ghost use Rattle.flight_core.specs.Logged.{CanStepBoth, Stepped};
 
 use crate::jobs::Jobs;
@@ -419,7 +419,7 @@ fn make_entry<L: Log, S: Store + Send + Drop>(
     requires few { pool.old.entries < 2 ^ 45 }
     ensures made { (g : Given) (h : List Entry) (before : ℕ) → L.stands log.old g h → IsHere g h before space.old flight.old
         → pool.old ≡ frames_at g h
-        → Stepped L.stands g h before log.new true flight.old flight.new space.old space.new pool.new }
+        → Stepped L.stands (since g h before) log.new true (in_space flight.old space.old) (in_space flight.new space.new) pool.new }
     ensures fewer { L.room log.new + 1 ≡ L.room log.old }
     ensures lasting { S.lasts ≡ true → NeverLacks flight.old.phase flight.new.phase }
 {
@@ -443,7 +443,7 @@ fn step<L: Log, S: Store + Send + Drop>(
     requires few { pool.old.entries < 2 ^ 45 }
     ensures stepped { (g : Given) (h : List Entry) (before : ℕ) → L.stands log.old g h → IsHere g h before space.old flight.old
         → pool.old ≡ frames_at g h
-        → Stepped L.stands g h before log.new result flight.old flight.new space.old space.new pool.new }
+        → Stepped L.stands (since g h before) log.new result (in_space flight.old space.old) (in_space flight.new space.new) pool.new }
     ensures takes { (e : Entry) → L.takes log.new e }
     ensures room { (row_of flight.new).entries ≤ L.room log.new }
     ensures fewer { L.room log.new + (if result then 1 else 0) ≡ L.room log.old }

@@ -1,5 +1,6 @@
 use Rattle.std.proofs.Common.{◌≡◌, ◌+◌, ◌^◌, ◌<◌, true, if◌then◌else◌, refl, ap, sym, subst, ◌∙◌, arith}
 use Rattle.pager_model.specs.FrameStates.{FrameState}
+use Rattle.flight_core.specs.Flying.{in_space, since}
 use Rattle.flight_core.specs.Logged.{Stepped}
 use Rattle.pager_core.proofs.SilentSteps.{HasPassed-none, HasPassed-more, Stepped-passed}
 use Rattle.pager_core.proofs.machine.make_entry.Goals as goal
@@ -44,8 +45,9 @@ returns-then-step-clause-made g c = λ s h before is here frames.
     let passed = c.loop.invariant.passed s h before is here frames in
     Stepped-passed g.L.Log.stands s h before c.loop.log c.step.new.log c.args.flight.now c.loop.flight c.step.new.flight
     c.args.space.now c.loop.space c.step.new.space c.loop.pool c.step.new.pool passed true
-    (subst (λ made. Stepped g.L.Log.stands s h before c.step.new.log made c.loop.flight c.step.new.flight c.loop.space c.step.new.space
-    c.step.new.pool) c.if-step.true (c.step.ensures.stepped s h before passed.stands_for passed.here passed.frames))
+    (subst (λ made. Stepped g.L.Log.stands (since s h before) c.step.new.log made (in_space c.loop.flight c.loop.space)
+    (in_space c.step.new.flight c.step.new.space) c.step.new.pool) c.if-step.true
+    (c.step.ensures.stepped s h before passed.stands_for passed.here passed.frames))
 
 pub returns-then-step-clause-fewer : goal.returns-then-step-clause-fewer
 returns-then-step-clause-fewer g c =
@@ -60,8 +62,9 @@ loop-preserved g c = record {
       let passed = c.loop.invariant.passed s h before is here frames in
       HasPassed-more g.L.Log.stands s h before c.loop.log c.step.new.log c.args.flight.now c.loop.flight c.step.new.flight
       c.args.space.now c.loop.space c.step.new.space c.loop.pool c.step.new.pool passed
-      (subst (λ made. Stepped g.L.Log.stands s h before c.step.new.log made c.loop.flight c.step.new.flight c.loop.space c.step.new.space
-      c.step.new.pool) c.if-step.false (c.step.ensures.stepped s h before passed.stands_for passed.here passed.frames));
+      (subst (λ made. Stepped g.L.Log.stands (since s h before) c.step.new.log made (in_space c.loop.flight c.loop.space)
+      (in_space c.step.new.flight c.step.new.space) c.step.new.pool) c.if-step.false
+      (c.step.ensures.stepped s h before passed.stands_for passed.here passed.frames));
   takes = c.step.ensures.takes;
   room = c.step.ensures.room;
   same_room =

@@ -1,4 +1,5 @@
 use Rattle.std.proofs.Common.{sym, subst, ◌∙◌}
+use Rattle.flight_core.specs.Flying.{in_space, since}
 use Rattle.flight_core.specs.Logged.{Stepped}
 use Rattle.pager_core.proofs.SilentSteps.{needs_space, needs_both}
 use Rattle.flight_core.specs.Rows.{row_of}
@@ -19,8 +20,8 @@ step_both-requires-clause-needs g c κs within = needs_both (row_of c.args.fligh
 
 pub returns-in-Space-clause-stepped : goal.returns-in-Space-clause-stepped
 returns-in-Space-clause-stepped g c = λ s h before is here frames.
-    subst (Stepped g.L.Log.stands s h before c.step_alone.new.log c.step_alone.result c.args.flight.now c.step_alone.new.flight
-    c.args.space.now c.step_alone.new.space) (sym frames) (c.step_alone.ensures.stepped s h before is here)
+    subst (Stepped g.L.Log.stands (since s h before) c.step_alone.new.log c.step_alone.result (in_space c.args.flight.now c.args.space.now)
+    (in_space c.step_alone.new.flight c.step_alone.new.space)) (sym frames) (c.step_alone.ensures.stepped s h before is here)
 
 pub returns-in-Both-clause-lasting : goal.returns-in-Both-clause-lasting
 returns-in-Both-clause-lasting g c = λ _. c.step_both.ensures.never_lacks
