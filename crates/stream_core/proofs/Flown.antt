@@ -18,6 +18,7 @@ use Rattle.space_core.specs.Standing.{Kept}
 use Rattle.flight_core.specs.declared.flight.Flight.{Flight}
 use Rattle.flight_core.specs.Lacking.{NeverLacks}
 use Rattle.flight_core.specs.Rows.{has_ended, new_flight, new_turn, row_of}
+use Rattle.flight_core.specs.Flying.{since}
 use Rattle.flight_core.specs.Whole.{AreAt, CanGoOn, WentOn}
 use Rattle.pager_core.specs.Running.{flight_for}
 use Rattle.pager_core.proofs.StartMachines.{length-calls}
@@ -30,7 +31,7 @@ use Rattle.stream_core.proofs.Streams.{IsAt-call, IsAt-turn, next_call, next_tur
 abbrev pub Flown : Tallied → List Kept → FrameState → Flight → Tallied → Flight → List Kept → FrameState → Type 0
 Flown tally spaces pool f tally' f' spaces' pool' =
     (g : Given) (h : List Entry) (before : ℕ) → IsTallied tally g h → AreAt g h before spaces pool f
-    → WentOn IsTallied g h before tally' f f' spaces' pool'
+    → WentOn IsTallied (since g h before) tally' f f' spaces' pool'
 
 module _ (script : Script) (stores : List Stored) (calls : List Line) (h : List Entry) (s : Streaming) (at : IsAt script stores calls h s) where
   -- a flight of a job that can be next
@@ -44,9 +45,9 @@ module _ (script : Script) (stores : List Stored) (calls : List Line) (h : List 
 
     went_on : (tally' : Tallied) (f' : Flight) (spaces' : List Kept) (pool' : FrameState)
         → Flown s.tally s.spaces s.pool f tally' f' spaces' pool'
-        → WentOn IsTallied (setting_over script stores) h 0 tally' (flight_for c n job) f' spaces' pool'
+        → WentOn IsTallied (since (setting_over script stores) h 0) tally' (flight_for c n job) f' spaces' pool'
     went_on tally' f' spaces' pool' flown =
-        subst (λ (x : Flight). WentOn IsTallied (setting_over script stores) h 0 tally' x f' spaces' pool') f_is
+        subst (λ (x : Flight). WentOn IsTallied (since (setting_over script stores) h 0) tally' x f' spaces' pool') f_is
         (flown (setting_over script stores) h 0 at.tallied begins)
 
     spaces_same : (tally' : Tallied) (f' : Flight) (spaces' : List Kept) (pool' : FrameState)

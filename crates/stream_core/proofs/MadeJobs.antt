@@ -27,7 +27,7 @@ use Rattle.flight_core.specs.Rows.{Outcome, Going, TurnEnded, Answered, has_ende
 use Rattle.flight_core.specs.Steps.{answer_made, reply_said}
 use Rattle.flight_core.proofs.NextFlights.{ended_by, of_calls, turn_goes_on}
 use Rattle.flight_core.specs.Counting.{most_in_history}
-use Rattle.flight_core.specs.Flying.{IsSpaceIn}
+use Rattle.flight_core.specs.Flying.{IsSpaceIn, since}
 use Rattle.flight_core.specs.Logged.{replies_in}
 use Rattle.flight_core.specs.Whole.{AreAt, WentOn}
 use Rattle.flight_core.proofs.Later.{later_none}
@@ -115,7 +115,7 @@ module _ (g : Given) (h : List Entry) (tally : Tallied) (spaces : List Kept) (po
 
   -- once it was done
   module _ (tally' : Tallied) (f' : Flight) (spaces' : List Kept) (pool' : FrameState)
-      (went : WentOn IsTallied g h 0 tally' (flight_for c n job) f' spaces' pool') (ended : has_ended (row_of f').outcome ≡ true) where
+      (went : WentOn IsTallied (since g h 0) tally' (flight_for c n job) f' spaces' pool') (ended : has_ended (row_of f').outcome ≡ true) where
     job_is : job_in f'.purpose ≡ job
     job_is = job_kept went.added.same_work ∙ starts.job_is
 
@@ -158,7 +158,8 @@ module _ (g : Given) (h : List Entry) (tally : Tallied) (spaces : List Kept) (po
 
 -- A call was answered.
 module _ (g : Given) (h : List Entry) (tally' : Tallied) (spaces' : List Kept) (pool' : FrameState) (c n : ℕ) (call : Call) (f' : Flight)
-    (went : WentOn IsTallied g h 0 tally' (flight_for c n (MakesCall call)) f' spaces' pool') (ended : has_ended (row_of f').outcome ≡ true) where
+    (went : WentOn IsTallied (since g h 0) tally' (flight_for c n (MakesCall call)) f' spaces' pool')
+    (ended : has_ended (row_of f').outcome ≡ true) where
   answered : (r : Reply) × ((row_of f').outcome ≡ Answered r)
   answered = by (row_of f').outcome refl
     where
@@ -180,7 +181,7 @@ module _ (g : Given) (h : List Entry) (tally' : Tallied) (spaces' : List Kept) (
 
 -- A turn ended.
 module _ (g : Given) (h : List Entry) (tally' : Tallied) (spaces' : List Kept) (pool' : FrameState) (c n low : ℕ) (f' : Flight)
-    (went : WentOn IsTallied g h 0 tally' (flight_for c n (Turn low)) f' spaces' pool') where
+    (went : WentOn IsTallied (since g h 0) tally' (flight_for c n (Turn low)) f' spaces' pool') where
   none_told : reply_in (row_of f').outcome ≡ None
   none_told = by (row_of f').outcome refl
     where

@@ -26,6 +26,7 @@ use Rattle.pager_model.proofs.Histories.{progress_from-append}
 use Rattle.space_core.specs.Standing.{Kept}
 use Rattle.flight_core.specs.declared.flight.Flight.{Flight}
 use Rattle.flight_core.specs.Rows.{has_ended, row_of}
+use Rattle.flight_core.specs.Flying.{since}
 use Rattle.flight_core.specs.Whole.{WentOn}
 use Rattle.pager_core.specs.RunParts.{AreNewSpaces}
 use Rattle.pager_core.specs.Running.{flight_for}
@@ -150,7 +151,7 @@ module _ (script : Script) (stores : List Stored) (calls : List Line) (h : List 
         }
 
     module _ (tally' : Tallied) (f' : Flight) (spaces' : List Kept) (pool' : FrameState)
-        (went : WentOn IsTallied (setting_over script stores) h 0 tally' (flight_for script.processors s.turns (Turn d.low)) f' spaces' pool')
+        (went : WentOn IsTallied (since (setting_over script stores) h 0) tally' (flight_for script.processors s.turns (Turn d.low)) f' spaces' pool')
         (ended : has_ended (row_of f').outcome ≡ true) where
       entries_own : AllByRecursion (λ (e : Entry). e.processor ≡ script.processors) went.piece
       entries_own = own (setting_over script stores) h s.tally s.spaces s.pool script.processors s.turns (Turn d.low) standing next_turn
@@ -256,7 +257,7 @@ module _ (script : Script) (stores : List Stored) (calls : List Line) (h : List 
         }
 
     module _ (tally' : Tallied) (f' : Flight) (spaces' : List Kept) (pool' : FrameState)
-        (went : WentOn IsTallied (setting_over script stores) h 0 tally' (flight_for line.processor n (MakesCall line.call)) f' spaces' pool')
+        (went : WentOn IsTallied (since (setting_over script stores) h 0) tally' (flight_for line.processor n (MakesCall line.call)) f' spaces' pool')
         (ended : has_ended (row_of f').outcome ≡ true) where
       call_own : AllByRecursion (λ (e : Entry). e.processor ≡ line.processor) went.piece
       call_own = own (setting_over script stores) h s.tally s.spaces s.pool line.processor n (MakesCall line.call) standing next_call
